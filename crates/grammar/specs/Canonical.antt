@@ -1,0 +1,4 @@
+-- The definition of canonical tokens: what a tree is written as, which trees a reading gives, and the writer's call as a whole.
+pub mod Write
+pub mod Valid
+pub mod Writing

@@ -1,0 +1,12 @@
+-- The definition of reading, from results and tokens up to the call as a whole.
+pub mod Limit
+pub mod Number
+pub mod Result
+pub mod Look
+pub mod Expr
+pub mod Primary
+pub mod Block
+pub mod Function
+pub mod Stmt
+pub mod Level
+pub mod Next

@@ -1,0 +1,3 @@
+pub mod Operator
+pub mod Below
+pub mod Laws

@@ -1,0 +1,2 @@
+-- What the proof of `look` cites.
+mod Words
