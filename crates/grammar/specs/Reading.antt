@@ -2,6 +2,7 @@
 pub mod Limit
 pub mod Number
 pub mod Result
+pub mod Pattern
 pub mod Look
 pub mod Expr
 pub mod Primary

@@ -10,7 +10,7 @@ use Rattle.token.specs.declared.Token.{Token}
 use Rattle.operator.specs.Operator.{op-level, op-number, assign-code}
 use Rattle.tree.specs.Tree.{Tree, Forest, none, more, one, snoc}
 use Rattle.tree.specs.Node
-use Rattle.tree.specs.Pattern.{to-pattern}
+use Rattle.grammar.specs.Reading.Pattern.{to-pattern}
 use Rattle.grammar.specs.Reading.Number
 use Rattle.grammar.specs.Reading.Result.{Error, Res, ok, fail, then, ifb}
 use Rattle.grammar.specs.Reading.Look.{look, expect-pattern, try-assign-keyword, action}

@@ -9,7 +9,7 @@ use Rattle.token.specs.declared.Token.{Token}
 use Rattle.tree.specs.NodeKind
 use Rattle.tree.specs.Tree.{Tree, Forest, node, none, more, snoc, empty}
 use Rattle.tree.specs.Node
-use Rattle.tree.specs.Pattern.{to-pattern}
+use Rattle.grammar.specs.Reading.Pattern.{to-pattern}
 use Rattle.grammar.specs.Reading.Number
 use Rattle.grammar.specs.Reading.Result.{Error, Res, ok, fail, then, ifb}
 use Rattle.grammar.specs.Reading.Look.{look, expect, expect-pattern}

@@ -9,7 +9,7 @@ use Rattle.token.specs.declared.Token.{Token}
 use Rattle.tree.specs.NodeKind
 use Rattle.tree.specs.Tree.{Tree, Forest, node, none, snoc, head-kind}
 use Rattle.tree.specs.Node
-use Rattle.tree.specs.Pattern.{to-pattern, modified}
+use Rattle.grammar.specs.Reading.Pattern.{to-pattern, modified}
 use Rattle.grammar.specs.Reading.Number
 use Rattle.grammar.specs.Reading.Result.{Error, Res, ok, bad, fail, either, then, ifb, push, pop}
 use Rattle.grammar.specs.Reading.Look.{look, expect, expect-pattern, try-label, try-assign-keyword}
