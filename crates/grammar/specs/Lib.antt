@@ -1,3 +1,4 @@
 pub mod Reading
 pub mod Canonical
 pub mod Sheets
+pub mod Laws
