@@ -2,3 +2,8 @@
 pub mod Depth
 pub mod Progress
 pub mod Count
+pub mod Facts
+pub mod Post
+pub mod Convert
+pub mod Views
+pub mod Sound

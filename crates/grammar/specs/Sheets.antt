@@ -2,13 +2,12 @@
 -- with the answer, the whole reader and every word of the store, and the sheet's canonical tokens where it reads cleanly.
 -- Rows behind them rule out a wrong grouping, a wrong resynchronization and a group kept in a pattern. Assumes nothing.
 use mathlib.Core.Path.{_≡_, refl}
-use mathlib.Core.Bool.{Bool, true, false}
 use mathlib.Core.List.{List, [], _∷_}
-use Prim.Native.Nat.{ℕ, zero, suc, _*_, _/_, _+_}
+use Prim.Native.Nat.{ℕ, zero, suc, _*_, _+_}
 use lib.ListN.{length}
 use Rattle.token.specs.Kind
 use Rattle.operator.specs.Operator.{which-unary-op, which-binary-op, which-assignment-op, op-level, op-number, op-token, unary-code, unary-token, assign-code, assign-token}
-use Rattle.tree.specs.Tree.{Tree, Forest, none, more, one, two, count, snoc, records, all-records}
+use Rattle.tree.specs.Tree.{Tree, one, count, snoc, records, all-records}
 use Rattle.tree.specs.Node
 use Rattle.tree.specs.Maybe.{Maybe, nothing, just, bindM}
 use Rattle.grammar.specs.Reading.Pattern.{conv, all-conv, last-of, front-of}

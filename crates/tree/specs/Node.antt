@@ -1,8 +1,8 @@
 -- The nodes of a statement's tree by the names of the Rust's cases and structs: children in the order of the Rust's fields,
 -- a slice as one `List` node, a missing optional child as an `Absent` node, plain fields in the value (docs/TREE.md). Definitions; they assume nothing.
-use Prim.Native.Nat.{ℕ, zero, suc, _+_, _*_}
+use Prim.Native.Nat.{ℕ, _+_, _*_}
 use Rattle.tree.specs.NodeKind
-use Rattle.tree.specs.Tree.{Tree, Forest, node, none, more, one, two, three}
+use Rattle.tree.specs.Tree.{Tree, Forest, node, none, one, two, three}
 
 abbrev pub absent : Tree
 absent = node NodeKind.Absent 0 none

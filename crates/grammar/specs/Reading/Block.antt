@@ -1,11 +1,9 @@
 -- Statement lists used as expressions: `ExprBlock::from`, blocks, conditionals. Definitions; they assume nothing.
-use mathlib.Core.Bool.{Bool}
-use mathlib.Core.List.{List, [], _∷_}
+use mathlib.Core.List.{List}
 use Prim.Native.Nat.{ℕ, zero, suc}
 use lib.Dec.{eqb}
 use lib.ListN.{length}
 use Rattle.token.specs.Kind
-use Rattle.token.specs.declared.Token.{Token}
 use Rattle.tree.specs.NodeKind
 use Rattle.tree.specs.Tree.{Tree, Forest, node, none, more, one, snoc, kind-of}
 use Rattle.tree.specs.Node

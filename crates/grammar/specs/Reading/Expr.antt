@@ -1,14 +1,13 @@
 -- Expressions from the weakest binding down to operands: assignments, tuples, binary operators. Definitions; they assume nothing.
 -- `low` has the readings that count one depth more; every way back to an expression from within one passes through it.
-use mathlib.Core.Bool.{Bool, cond}
-use mathlib.Core.List.{List, [], _∷_}
+use mathlib.Core.Bool.{cond}
+use mathlib.Core.List.{List}
 use Prim.Native.Nat.{ℕ, zero, suc, pred}
 use lib.Dec.{eqb}
 use lib.ListN.{length}
 use Rattle.token.specs.Kind
-use Rattle.token.specs.declared.Token.{Token}
 use Rattle.operator.specs.Operator.{op-level, op-number, assign-code}
-use Rattle.tree.specs.Tree.{Tree, Forest, none, more, one, snoc}
+use Rattle.tree.specs.Tree.{Tree, Forest, one, snoc}
 use Rattle.tree.specs.Node
 use Rattle.grammar.specs.Reading.Pattern.{to-pattern}
 use Rattle.grammar.specs.Reading.Number

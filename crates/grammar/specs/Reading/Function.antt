@@ -1,19 +1,18 @@
 -- Functions: their target, their parameters, their body. Definitions; they assume nothing.
-use mathlib.Core.Bool.{Bool, true, false, cond, _||_}
-use mathlib.Core.List.{List, [], _∷_}
+use mathlib.Core.Bool.{false, cond, _||_}
+use mathlib.Core.List.{List}
 use Prim.Native.Nat.{ℕ, zero, suc}
 use lib.Dec.{eqb}
 use lib.ListN.{length}
 use Rattle.token.specs.Kind
-use Rattle.token.specs.declared.Token.{Token}
 use Rattle.tree.specs.NodeKind
-use Rattle.tree.specs.Tree.{Tree, Forest, node, none, more, snoc, empty}
+use Rattle.tree.specs.Tree.{Tree, Forest, node, none, snoc, empty}
 use Rattle.tree.specs.Node
 use Rattle.grammar.specs.Reading.Pattern.{to-pattern}
 use Rattle.grammar.specs.Reading.Number
 use Rattle.grammar.specs.Reading.Result.{Error, Res, ok, fail, then, ifb}
 use Rattle.grammar.specs.Reading.Look.{look, expect, expect-pattern}
-use Rattle.grammar.specs.Reading.Expr.{Level, Stmts, expr}
+use Rattle.grammar.specs.Reading.Expr.{Level, expr}
 use Rattle.grammar.specs.Reading.Primary.{atom, path, with-path}
 use Rattle.grammar.specs.Reading.Block.{body, block-of}
 

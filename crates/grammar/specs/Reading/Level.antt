@@ -1,11 +1,10 @@
 -- Operands, the readings of each depth, and the reading of a statement at the top level. Definitions; they assume nothing.
-use mathlib.Core.Bool.{Bool, false}
+use mathlib.Core.Bool.{false}
 use mathlib.Core.List.{List, [], _∷_}
 use Prim.Native.Nat.{ℕ, zero, suc, pred}
 use lib.Dec.{eqb}
 use lib.ListN.{length}
 use Rattle.token.specs.Kind
-use Rattle.token.specs.declared.Token.{Token}
 use Rattle.operator.specs.Operator.{unary-code}
 use Rattle.tree.specs.Tree.{Tree}
 use Rattle.tree.specs.Node

@@ -1,5 +1,5 @@
 -- Looking at a token, which is a reading too: `advance` goes on with the words behind it, `peek` with the old ones. Definitions; they assume nothing.
-use mathlib.Core.Bool.{Bool, cond}
+use mathlib.Core.Bool.{cond}
 use mathlib.Core.List.{List, [], _∷_}
 use Prim.Native.Nat.{ℕ, zero, suc}
 use lib.Dec.{eqb}

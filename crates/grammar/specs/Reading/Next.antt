@@ -2,7 +2,7 @@
 -- Definitions; they assume nothing.
 use mathlib.Core.Bool.{Bool, true, false, cond, _&&_, _||_}
 use mathlib.Core.List.{List, [], _∷_, _++_}
-use Prim.Native.Nat.{ℕ, zero, suc, _+_, _-_, _*_, _/_, _%_}
+use Prim.Native.Nat.{ℕ, zero, suc, _-_, _*_, _/_, _%_}
 use lib.Dec.{eqb, leb, ltb}
 use lib.ListN.{length, take, drop, replicate}
 use Rattle.tree.specs.Tree.{Tree, records}

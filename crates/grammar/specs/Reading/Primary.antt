@@ -1,7 +1,7 @@
 -- What binds tighter than operators: atoms and groups, their paths, tables, `...`. Definitions; they assume nothing.
 -- A nonterminal whose first token its caller has seen starts behind that token.
-use mathlib.Core.Bool.{Bool, true, false, cond, _&&_}
-use mathlib.Core.List.{List, [], _∷_}
+use mathlib.Core.Bool.{Bool, true, cond, _&&_}
+use mathlib.Core.List.{List}
 use Prim.Native.Nat.{ℕ, zero, suc, _+_, _*_, _/_}
 use lib.Dec.{eqb}
 use lib.ListN.{length}

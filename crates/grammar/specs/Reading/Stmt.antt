@@ -1,11 +1,10 @@
 -- Statements, statement lists with their control, and the way on after an error. Definitions; they assume nothing.
-use mathlib.Core.Bool.{Bool, true, false, cond, _&&_, _||_}
-use mathlib.Core.List.{List, [], _∷_}
+use mathlib.Core.Bool.{Bool, true, cond, _&&_, _||_}
+use mathlib.Core.List.{List}
 use Prim.Native.Nat.{ℕ, zero, suc}
 use lib.Dec.{eqb}
 use lib.ListN.{length}
 use Rattle.token.specs.Kind
-use Rattle.token.specs.declared.Token.{Token}
 use Rattle.tree.specs.NodeKind
 use Rattle.tree.specs.Tree.{Tree, Forest, node, none, snoc, head-kind}
 use Rattle.tree.specs.Node
