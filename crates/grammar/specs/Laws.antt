@@ -7,3 +7,5 @@ pub mod Post
 pub mod Convert
 pub mod Views
 pub mod Sound
+pub mod Small
+pub mod Length

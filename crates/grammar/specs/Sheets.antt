@@ -1,13 +1,13 @@
 -- The sheets of document 01 that are to be proved, as one table and one theorem: every call from a fresh reader to the first end or stop,
 -- with the answer, the whole reader and every word of the store, and the sheet's canonical tokens where it reads cleanly.
--- Rows behind them rule out a wrong grouping, a wrong resynchronization and a group kept in a pattern. Assumes nothing.
+-- Rows behind them rule out a wrong grouping, a wrong resynchronization, and writers that leave a token out. Assumes nothing.
 use mathlib.Core.Path.{_≡_, refl}
 use mathlib.Core.List.{List, [], _∷_}
 use Prim.Native.Nat.{ℕ, zero, suc, _*_, _+_}
 use lib.ListN.{length}
 use Rattle.token.specs.Kind
 use Rattle.operator.specs.Operator.{which-unary-op, which-binary-op, which-assignment-op, op-level, op-number, op-token, unary-code, unary-token, assign-code, assign-token}
-use Rattle.tree.specs.Tree.{Tree, one, count, snoc, records, all-records}
+use Rattle.tree.specs.Tree.{Tree, none, one, count, snoc, records, all-records}
 use Rattle.tree.specs.Node
 use Rattle.tree.specs.Maybe.{Maybe, nothing, just, bindM}
 use Rattle.grammar.specs.Reading.Pattern.{conv, all-conv, last-of, front-of}
@@ -209,6 +209,18 @@ table =
       sheet = name a (s Kind.OpSub (name b (s Kind.OpSub (name c eof))));
       says = tree (Node.expression (Node.binary-op 4 (Node.binary-op 4 (Node.identifier a) (Node.identifier b)) (Node.identifier c))) 5 [] ∷ end 5 ∷ [];
       tokens = just (name a (s Kind.OpSub (name b (s Kind.OpSub (name c (s Kind.Semicolon eof))))));
+    } ∷
+    -- begin a end: a semicolon follows the block's result
+    record {
+      sheet = s Kind.Begin (name a (s Kind.End eof));
+      says = tree (Node.expression (Node.block 0 (Node.expr-block (Node.stmt-list none Node.absent) (Node.identifier a)))) 3 [] ∷ end 3 ∷ [];
+      tokens = just (s Kind.Begin (name a (s Kind.Semicolon (s Kind.End (s Kind.Semicolon eof)))));
+    } ∷
+    -- (a...)... = b: parentheses stand round a pack inside a pack
+    record {
+      sheet = s Kind.OpenParen (name a (s Kind.Ellipsis (s Kind.CloseParen (s Kind.Ellipsis (s Kind.OpAssign (name b eof))))));
+      says = tree (Node.expression (Node.assignment 0 0 (Node.pack (Node.pack (Node.identifier-pattern a))) (Node.identifier b))) 7 [] ∷ end 7 ∷ [];
+      tokens = just (s Kind.OpenParen (name a (s Kind.Ellipsis (s Kind.CloseParen (s Kind.Ellipsis (s Kind.OpAssign (name b (s Kind.Semicolon eof))))))));
     } ∷
     -- ) else a b: a resynchronization passes over else
     record {

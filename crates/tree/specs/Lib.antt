@@ -4,3 +4,4 @@ pub mod Node
 pub mod Maybe
 pub mod Decode
 pub mod Store
+pub mod Records
