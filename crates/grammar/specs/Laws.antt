@@ -9,3 +9,6 @@ pub mod Views
 pub mod Sound
 pub mod Small
 pub mod Length
+pub mod Kinds
+pub mod Numbers
+pub mod Returned
