@@ -12,3 +12,4 @@ pub mod Length
 pub mod Kinds
 pub mod Numbers
 pub mod Returned
+pub mod Clean
