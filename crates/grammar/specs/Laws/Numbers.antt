@@ -1,11 +1,11 @@
 -- Only numbers of errors wait or are on their way, never more of them than the queue takes, and only numbers of stops stop: a lemma for each nonterminal, and
 -- `level-numbers`, `stmt-numbers`, `synchronize-numbers`, `start-numbers`, `next-numbers`, `queue-length`. The end is the start's: `next-end`. Assumes nothing.
 use mathlib.Core.Path.{_≡_, refl}
-use mathlib.Core.Logic.{_≢_}
-use mathlib.Core.Bool.{Bool, true, false, cond, true≢false, false≢true}
+use mathlib.Core.Bool.{Bool, true, false, cond, false≢true}
 use mathlib.Core.List.{List, [], _∷_, _++_}
 use Prim.Native.Nat.{ℕ, zero, suc, _≤_, _<_}
 use native.Mathlib.Omega.{arith}
+use borrow.Author.Tests.{eqb-false}
 use lib.Dec.{eqb}
 use lib.ListN.{length, length-append}
 use Rattle.token.specs.declared.Token.{Token}
@@ -58,10 +58,7 @@ all-snoc e j a-nil = a-cons j a-nil
 all-snoc e j (a-cons i a) = a-cons i (all-snoc e j a)
 
 waits-snoc : (e : Error) (q : List Error) → IsError e → Waits q → eqb (length q) queue-limit ≡ false → Waits (q ++ e ∷ [])
-waits-snoc e q j w h = record { errors = all-snoc e j (w .errors); few = omega (arith, length-append q (e ∷ []), other) }
-  where
-    other : length q ≢ queue-limit
-    other z = true≢false (rw z at h)
+waits-snoc e q j w h = record { errors = all-snoc e j (w .errors); few = omega (arith, length-append q (e ∷ []), eqb-false (length q) queue-limit h) }
 
 pub waits-front : {e : Error} {q : List Error} → Waits (e ∷ q) → IsError e × Waits q
 waits-front {e} {q} w = go (w .errors)
