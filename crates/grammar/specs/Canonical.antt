@@ -2,4 +2,5 @@
 pub mod Write
 pub mod Valid
 pub mod Count
+pub mod Need
 pub mod Writing

@@ -13,3 +13,4 @@ pub mod Kinds
 pub mod Numbers
 pub mod Returned
 pub mod Clean
+pub mod Back

@@ -5,13 +5,14 @@ use mathlib.Core.List.{List, [], _∷_, _++_}
 use Prim.Native.Nat.{ℕ, zero, suc, _-_, _/_, _%_}
 use lib.Dec.{eqb, ltb}
 use lib.ListN.{length, replicate}
-use Rattle.tree.specs.Tree.{Tree, Forest, none, more, records}
+use Rattle.tree.specs.Tree.{Tree, Forest, none, more, one, records}
 use Rattle.tree.specs.Maybe.{Maybe, nothing, just, bindM}
 use Rattle.tree.specs.Decode.{decode}
 use Rattle.grammar.specs.Reading.Limit.{depth-limit, too-deep, no-statement, short-output}
 use Rattle.grammar.specs.Reading.Result.{Res, ok, bad, fail, stop, ifb}
 use Rattle.grammar.specs.Reading.Level.{next}
-use Rattle.grammar.specs.Canonical.Write.{statement}
+use Rattle.grammar.specs.Canonical.Write.{own, statement, run}
+use Rattle.grammar.specs.Canonical.Need.{need}
 use Rattle.grammar.specs.declared.Written.{Written}
 use Rattle.grammar.specs.declared.Written.the-variants.{Tokens, Stopped, Refused}
 
@@ -41,15 +42,16 @@ same-words [] (w ∷ ws) = false
 same-words (v ∷ vs) [] = false
 same-words (v ∷ vs) (w ∷ ws) = eqb v w && same-words vs ws
 
-abbrev pub gives : Tree → Res Tree → Bool
-gives t (ok u r) = same-words (records t) (records u)
-gives t (bad u q r) = false
-gives t (fail e q r) = false
-gives t (stop k) = false
+-- a clean reading gave this statement and nothing else
+abbrev pub gives : Tree → Maybe Forest → Bool
+gives t nothing = false
+gives t (just none) = false
+gives t (just (more u none)) = same-words (records t) (records u)
+gives t (just (more u (more v f))) = false
 
--- a clean reading, limits aside, gives this tree: that of its own canonical tokens does, at a depth that they can't exceed
+-- a clean reading, limits aside, gives this tree: that of its own canonical run does, at the depth that it needs
 unfoldable pub readable : Tree → Bool
-readable t = gives t (next (length (statement-words t)) [] (statement-words t))
+readable t = gives t (clean-reading (need t own) (run (one t)))
 
 abbrev pub is-too-deep : Res Tree → Bool
 is-too-deep (ok u r) = false

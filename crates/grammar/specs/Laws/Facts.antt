@@ -1,9 +1,10 @@
 -- Tests as facts. Assumes nothing.
 use mathlib.Core.Path.{_≡_, refl, ap, _∙_, sym, subst}
 use mathlib.Core.Logic.{_≢_}
-use Prim.Native.Nat.{ℕ, _<_}
+use Prim.Native.Nat.{ℕ, _≤_, _<_}
+use native.Mathlib.Omega.{arith}
 use mathlib.Core.Bool.{Bool, true, false, _&&_, _||_, true≢false}
-use lib.Dec.{eqb, ltb, eqb→eq, eqb-refl, ltb→lt, T}
+use lib.Dec.{eqb, leb, ltb, eqb→eq, eqb-refl, leb→le, le→leb, ltb→lt, T}
 
 -- a test that fails and passes
 pub clash : {A : Type 0} {b : Bool} → b ≡ true → b ≡ false → A
@@ -19,12 +20,12 @@ from-T false t = absurd t
 pub same : (m n : ℕ) → eqb m n ≡ true → m ≡ n
 same m n e = eqb→eq m n (is-T (eqb m n) e)
 
+pub not-true : (b : Bool) → b ≢ true → b ≡ false
+not-true true h = absurd (h refl)
+not-true false h = refl
+
 pub differ : (m n : ℕ) → m ≢ n → eqb m n ≡ false
-differ m n h = go (eqb m n) refl
-  where
-    go : (b : Bool) → eqb m n ≡ b → eqb m n ≡ false
-    go true e = absurd (h (same m n e))
-    go false e = e
+differ m n h = not-true (eqb m n) λ e. h (same m n e)
 
 pub eq-true : (m n : ℕ) → m ≡ n → eqb m n ≡ true
 eq-true m n e = rw e (from-T (eqb n n) (eqb-refl n))
@@ -48,6 +49,15 @@ by-test false f g = g refl
 
 pub ltb-true : (m n : ℕ) → ltb m n ≡ true → m < n
 ltb-true m n e = ltb→lt m n (is-T (ltb m n) e)
+
+pub leb-true : (m n : ℕ) → m ≤ n → leb m n ≡ true
+leb-true m n h = from-T (leb m n) (le→leb m n h)
+
+pub leb-le : (m n : ℕ) → leb m n ≡ true → m ≤ n
+leb-le m n e = leb→le m n (is-T (leb m n) e)
+
+pub leb-false : (m n : ℕ) → n < m → leb m n ≡ false
+leb-false m n h = not-true (leb m n) λ e. let l = leb-le m n e in absurd (omega arith)
 
 -- one of two tests passed
 pub or-true : {P : Type 0} (a b : Bool) → a || b ≡ true → (a ≡ true → P) → (b ≡ true → P) → P
