@@ -4,9 +4,9 @@
 -- 3. A tree is valid exactly if there are tokens whose clean reading, limits aside, gives it; and exactly if the writer does not refuse it with 65.
 -- 4. The depth that a statement's canonical tokens need is a number computed from the tree: with fewer depths the reading stops with 62, else it ends.
 -- 5. The number of tokens of a statement, computed from the tree, is half the length of what is written.
--- 6. Of two sheets that read cleanly, the trees are the same exactly if the canonical runs are, and each run reads back to those trees.
--- 7. Trees with the same records are the same, and decoding a tree's records gives the tree; words that decode to no tree are no clean reading's.
--- 8. The sheets of document 01 say what it says, those with the same and with other canonical tokens among them: `sheets-tried` in Sheets.antt.
+-- 6. Of two sheets that read cleanly, the trees are the eqb-true exactly if the canonical runs are, and each run reads back to those trees.
+-- 7. Trees with the eqb-true records are the eqb-true, and decoding a tree's records gives the tree; words that decode to no tree are no clean reading's.
+-- 8. The sheets of document 01 say what it says, those with the eqb-true and with other canonical tokens among them: `sheets-tried` in Sheets.antt.
 use mathlib.Core.Path.{_≡_, refl, sym, ap, _∙_, subst}
 use mathlib.Core.Logic.{_↔_}
 use mathlib.Core.Bool.{Bool, true, false}
@@ -31,7 +31,8 @@ use Rattle.grammar.specs.Canonical.Need.{need}
 use Rattle.grammar.specs.Canonical.Count.{tokens}
 use Rattle.grammar.specs.Canonical.Valid.{stmt, Valid, Valids, v-none, v-more}
 use Rattle.grammar.specs.Canonical.Writing.{clean-reading, statement-words, same-words, gives, readable, is-too-deep, exceeds-depth, bare, written, write-stmt}
-use Rattle.grammar.specs.Laws.Facts.{clash, same, and-l, and-r, eq-true, leb-true, not-true}
+use borrow.Author.Tests.{eqb-true, eq-eqb, le-leb}
+use Rattle.grammar.specs.Laws.Facts.{clash, and-l, and-r, not-true}
 use Rattle.grammar.specs.Laws.Back.Steps.{reach}
 use Rattle.grammar.specs.Sheets.{read, expected, table, sheets-tried}
 use Rattle.grammar.specs.declared.Written.the-variants.{Tokens, Stopped, Refused}
@@ -49,19 +50,19 @@ sound d ts f e = clean-sound d ts f e
 pub sound-roles : (d : ℕ) → Sound (level d)
 sound-roles d = level-sound d
 
--- words are the same as a test says
+-- words are the eqb-true as a test says
 same-words-are : (vs ws : List ℕ) → same-words vs ws ≡ true → vs ≡ ws
 same-words-are [] [] e = refl
 same-words-are [] (w ∷ ws) e = clash e refl
 same-words-are (v ∷ vs) [] e = clash e refl
 same-words-are (v ∷ vs) (w ∷ ws) e =
-    let a : v ≡ w = same v w (and-l (eqb v w) (same-words vs ws) e) in
+    let a : v ≡ w = eqb-true v w (and-l (eqb v w) (same-words vs ws) e) in
     let b : vs ≡ ws = same-words-are vs ws (and-r (eqb v w) (same-words vs ws) e) in
     cc
 
 same-words-refl : (ws : List ℕ) → same-words ws ws ≡ true
 same-words-refl [] = refl
-same-words-refl (w ∷ ws) = rw (eq-true w w refl) (same-words-refl ws)
+same-words-refl (w ∷ ws) = rw (eq-eqb w w refl) (same-words-refl ws)
 
 one-need : (t : Tree) → need (Node.list (one t)) own ≤ need t own
 unfolding need
@@ -70,7 +71,7 @@ one-need t = le-refl (need t own)
 -- 2
 pub reads-back : {t : Tree} → Valid stmt t → (d : ℕ) → need t own ≤ d → (q : List Error) (r : List ℕ) → Stmt.stmt (level d) q (statement t r) ≡ ok t (Kind.Semicolon ∷ 0 ∷ r)
 unfolding reach
-reads-back h d l q r = rw (stmt-back h d q r, leb-true _ d l)
+reads-back h d l q r = rw (stmt-back h d q r, le-leb _ d l)
 
 pub run-reads-back : {f : Forest} → Valids stmt f → (d : ℕ) → need (Node.list f) own ≤ d → clean-reading d (run f) ≡ just f
 run-reads-back h d l = reading-back h d l
@@ -158,7 +159,7 @@ unfolding exceeds-depth
 limit-exact h = depth-is h depth-limit
 
 pub depth-enough : {t : Tree} → Valid stmt t → (d e : ℕ) → need t own ≤ d → need t own ≤ e → (q : List Error) (r : List ℕ) → next d q (statement t r) ≡ next e q (statement t r)
-depth-enough h d e l m q r = rw (next-back h d q r, next-back h e q r, leb-true _ d l, leb-true _ e m)
+depth-enough h d e l m q r = rw (next-back h d q r, next-back h e q r, le-leb _ d l, le-leb _ e m)
 
 -- 5
 pub token-count : (t : Tree) → length (statement-words t) ≡ 2 * suc (tokens t own)

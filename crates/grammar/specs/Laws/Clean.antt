@@ -17,7 +17,8 @@ use Rattle.grammar.specs.Reading.Look.{looked, look}
 use Rattle.grammar.specs.Reading.Level.{level, start, next}
 use Rattle.grammar.specs.Canonical.Valid.{stmt, Valid, Valids, v-none, v-more}
 use Rattle.grammar.specs.Canonical.Writing.{clean-then, clean-from, clean-reading}
-use Rattle.grammar.specs.Laws.Facts.{same, other, and-r}
+use borrow.Author.Tests.{eqb-true}
+use Rattle.grammar.specs.Laws.Facts.{other, and-r}
 use Rattle.grammar.specs.Laws.Post.{Post, p-ok, p-bad, p-fail, p-stop, post-then, post-either}
 use Rattle.grammar.specs.Laws.Numbers.{waits-none, next-end}
 use Rattle.grammar.specs.Laws.Sound.Base.{kind-at, Saw, isnt, NotClose}
@@ -146,7 +147,7 @@ clean-from-sound d (suc n) ts f e = go (clean-from-sound d n) (next d [] ts) (ne
     go : ((r : List ℕ) (g : Forest) → clean-from d n r ≡ just g → CleanOk r g) → (x : Res Tree) → NextOk ts x → clean-then x (λ r. clean-from d n r) ≡ just f → CleanOk ts f
     go ih (ok t r) (a-stmt h c) e = joined (clean-from d n r) f h c (ih r) e
     go ih (bad t q r) with-errors e = absurd (let z : _≡_ {A = ℕ} 0 1 = cc in omega arith)
-    go ih (fail m q r) (no-stmt h) e = at-end (eqb m 0) f (λ z. h (same m 0 z)) e
+    go ih (fail m q r) (no-stmt h) e = at-end (eqb m 0) f (λ z. h (eqb-true m 0 z)) e
     go ih (stop m) stopped e = absurd (let z : _≡_ {A = ℕ} 0 1 = cc in omega arith)
 
 pub clean-sound : (d : ℕ) (ts : List ℕ) (f : Forest) → clean-reading d ts ≡ just f → Valids stmt f

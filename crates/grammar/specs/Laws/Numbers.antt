@@ -1,11 +1,11 @@
 -- Only numbers of errors wait or are on their way, never more of them than the queue takes, and only numbers of stops stop: a lemma for each nonterminal, and
 -- `level-numbers`, `stmt-numbers`, `synchronize-numbers`, `start-numbers`, `next-numbers`, `queue-length`. The end is the start's: `next-end`. Assumes nothing.
-use mathlib.Core.Path.{_≡_, refl}
+use mathlib.Core.Path.{_≡_, refl, sym}
 use mathlib.Core.Bool.{Bool, true, false, cond, false≢true}
 use mathlib.Core.List.{List, [], _∷_, _++_}
 use Prim.Native.Nat.{ℕ, zero, suc, _≤_, _<_}
 use native.Mathlib.Omega.{arith}
-use borrow.Author.Tests.{eqb-false}
+use borrow.Author.Tests.{eqb-true, eqb-false}
 use lib.Dec.{eqb}
 use lib.ListN.{length, length-append}
 use Rattle.token.specs.declared.Token.{Token}
@@ -22,7 +22,10 @@ use Rattle.grammar.specs.Reading.Block.{body, block-expr, expr-label, br
 use Rattle.grammar.specs.Reading.Function.{Param, required, variadic, default, Params, param-mode, variadic-param, plain-param, param, joined, params, function-def, function-assignment-target, function-decl-expr}
 use Rattle.grammar.specs.Reading.Stmt.{loop, while-loop, lvalue-list, for-loop, stmt-label, stmt, control-value, control-flow, not-last, control-last, synchronize, synchronized, caught, stmts}
 use Rattle.grammar.specs.Reading.Level.{primary-expr, unary-expr, level, start, front, failed, next}
-use Rattle.grammar.specs.Reading.Next.{is-error, is-stop}
+use Rattle.grammar.specs.Reading.Number
+use Rattle.grammar.specs.Reading.Next.{is-error, is-stop, number, error-answer}
+use Rattle.grammar.specs.declared.ErrorKind.the-variants.{LexerError as LexerErrorKind, EndofTokenStream, SyntaxError}
+use Rattle.grammar.specs.declared.Answer.the-variants.{Error as AError, End}
 
 -- the number of an error
 abbrev pub IsError : Error → Type 0
@@ -457,3 +460,15 @@ queue-length w n-ok = w .few
 queue-length w (n-bad v) = v .few
 queue-length w (n-fail j v) = v .few
 queue-length w (n-stop s) = omega arith
+
+-- the number of an error's answer is its own
+pub error-number : (e : Error) → number (error-answer e) ≡ e
+unfolding error-answer ifb
+error-number e = go (eqb e 0) refl (eqb e Number.lexer-error) refl (eqb e Number.end-of-tokens) refl
+  where
+    go : (a : Bool) → eqb e 0 ≡ a → (b : Bool) → eqb e Number.lexer-error ≡ b → (c : Bool) → eqb e Number.end-of-tokens ≡ c
+        → number (ifb a (λ _. End) (λ _. AError (cond b LexerErrorKind (cond c EndofTokenStream (SyntaxError e))))) ≡ e
+    go true p b q c r = sym (eqb-true e 0 p)
+    go false p true q c r = sym (eqb-true e Number.lexer-error q)
+    go false p false q true r = sym (eqb-true e Number.end-of-tokens r)
+    go false p false q false r = refl

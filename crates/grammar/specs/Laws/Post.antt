@@ -1,5 +1,5 @@
 -- What holds of a clean success, and the laws by which it goes through the combinators. After an error there is no clean success. Assumes nothing.
-use mathlib.Core.Path.{_≡_, refl, subst}
+use mathlib.Core.Path.{_≡_, refl}
 use Prim.Native.Nat.{ℕ}
 use mathlib.Core.Bool.{Bool, true, false}
 use mathlib.Core.List.{List}
@@ -55,9 +55,3 @@ post-both (p-ok x) (p-ok y) = p-ok (x, y)
 post-both p-bad y = p-bad
 post-both p-fail y = p-fail
 post-both p-stop y = p-stop
-
-pub post-at : {A : Type 0} {P : A → List ℕ → Type 0} {d : Res A} {a : A} {r : List ℕ} → d ≡ ok a r → Post P d → P a r
-post-at {P = P} {a = a} {r = r} e h = go (subst (λ x. Post P x) e h)
-  where
-    go : Post P (ok a r) → P a r
-    go (p-ok x) = x

@@ -12,7 +12,8 @@ use Rattle.grammar.specs.Reading.Primary.{with-action, arguments as argu
 use Rattle.grammar.specs.Reading.Function.{target-name}
 use Rattle.grammar.specs.Canonical.Write.{Place, own, modified, target-atom, target-items, is-target, function-named, has-function, fun-gives}
 use Rattle.grammar.specs.Canonical.Valid.{prim, tight, unary, binop, assign, plain, ex, given, function, item, Valid, Valids, Arguments, Pattern, Target, v-nil, v-empty-tuple, v-identifier, v-true, v-false, v-integer, v-float, v-string, v-group, v-modified, v-atom, v-primary, v-prim, v-unpack, v-ellipsis, v-table, v-function, v-target, v-if, v-block, v-labelled, v-tight, v-unary-op, v-unary, v-up, v-binary-op, v-assign, v-inner, v-single, v-tuple, v-local, v-plain, v-keyword, v-given, v-given-assign, v-given-target, v-function-def, v-function-default, v-function-variadic, v-attribute, v-index, v-invoke, v-invoke-table, v-none, v-more, p-identifier, p-attribute, p-index, p-tuple, p-pack, p-ellipsis, p-modifier, one-argument, arguments, t-name, t-attribute, t-index}
-use Rattle.grammar.specs.Laws.Facts.{clash, same, by-test, and-l, and-r, ltb-true}
+use borrow.Author.Tests.{eqb-true, ltb-true}
+use Rattle.grammar.specs.Laws.Facts.{clash, by-test, and-l, and-r}
 
 -- a root that is no assignment, no function and no tuple
 pub record Other (t : Tree) : Type 0 where
@@ -61,9 +62,9 @@ view-binop (v-binary-op k e h g) = is-other (record { no-assignment = refl; no-f
 
 -- a function with the name n in its signature
 name-is : {t : Tree} (n : ℕ) → Valid (function 0) t → function-named n t ≡ true → 0 ≡ n
-name-is n (v-function-def f b) e = same 0 n e
-name-is n (v-function-default f v x b) e = same 0 n e
-name-is n (v-function-variadic f v b) e = same 0 n e
+name-is n (v-function-def f b) e = eqb-true 0 n e
+name-is n (v-function-default f v x b) e = eqb-true 0 n e
+name-is n (v-function-variadic f v b) e = eqb-true 0 n e
 
 named-function : {t : Tree} (n : ℕ) → Valid (function 0) t → function-named n t ≡ true → Valid (function n) t
 named-function {t} n h e = subst (λ m. Valid (function m) t) (name-is n h e) h

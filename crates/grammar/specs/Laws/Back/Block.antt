@@ -17,7 +17,8 @@ use Rattle.grammar.specs.Reading.Level.{level}
 use Rattle.grammar.specs.Canonical.Write.{own, tokens-if, token, after-elif, write, writes}
 use Rattle.grammar.specs.Canonical.Need.{most, need, needs}
 use Rattle.grammar.specs.Canonical.Valid.{Valid, Valids, branch, else-clause, jump, block, v-branch, v-no-else, v-else, v-continue, v-break, v-break-value, v-break-label, v-return, v-return-value, v-no-control, v-control, v-block-plain, v-block-control, v-block-result, v-expression, v-none, v-more}
-use Rattle.grammar.specs.Laws.Facts.{same, not-true}
+use borrow.Author.Tests.{eqb-true}
+use Rattle.grammar.specs.Laws.Facts.{not-true}
 use Rattle.grammar.specs.Laws.Back.Steps.{Needs, fits, done, exactly, weigh, lands, max-assoc, then-is, if-yes, if-no, sees, expects, along}
 use Rattle.grammar.specs.Laws.Back.Longer.{longer, longer-length}
 use Rattle.grammar.specs.Laws.Back.Follow.{ends}
@@ -28,7 +29,7 @@ use Rattle.grammar.specs.Laws.Back.Expr.{Reads, Ended, at-end, at-elif, 
 -- nothing is missing where words begin
 present : {b : Bool} {n : ℕ} (t : Tree) → Starts b n (write t own []) → eqb (kind-of t) NodeKind.Absent ≡ false
 unfolding write
-present (node k v f) h = not-true (eqb k NodeKind.Absent) λ e. let l = rw (same k 0 e) at (starts-length h) in absurd (omega arith)
+present (node k v f) h = not-true (eqb k NodeKind.Absent) λ e. let l = rw (eqb-true k 0 e) at (starts-length h) in absurd (omega arith)
 
 jump-present : {c : Tree} → Valid jump c → eqb (kind-of c) NodeKind.Absent ≡ false
 jump-present (v-continue l) = refl

@@ -20,7 +20,7 @@ use Rattle.grammar.specs.Reading.Level.{level}
 use Rattle.grammar.specs.Canonical.Write.{own, modified, after-commas, as-suite, write, writes, fun-gives}
 use Rattle.grammar.specs.Canonical.Need.{most, need, needs}
 use Rattle.grammar.specs.Canonical.Valid.{Valid, Valids, Pattern, unary, binop, plain, ex, given, control, stmt, v-target, v-unary, v-up, v-binary-op, v-assign, v-inner, v-single, v-tuple, v-local, v-plain, v-keyword, v-given, v-given-assign, v-given-target, v-none, v-more}
-use Rattle.grammar.specs.Laws.Facts.{eq-true, leb-true}
+use borrow.Author.Tests.{eq-eqb, le-leb}
 use Rattle.grammar.specs.Laws.Back.Steps.{Needs, both, done, weigh, then-ok, then-on, then-is, if-yes, if-no, sees, converts, symbol, fits}
 use Rattle.grammar.specs.Laws.Back.Longer.{longer, longer-length}
 use Rattle.grammar.specs.Laws.Back.Follow.{Follows, follows, weaker, comma, ends, op-kind, assign-kind, rank-op, rank-assign, no-op, no-comma, no-assign}
@@ -60,7 +60,7 @@ operators-end operand l (suc m) t q (follows {k = k} h g) e = sees _ _ _ (symbol
 operators-step : {r s : List ℕ} (operand : List Error → List ℕ → Res Tree) (l m k : ℕ) (a : Tree) {b : Tree} (q : List Error) {n d : ℕ} → op-level k ≡ suc l → Needs n d (operand q s) (ok b r)
     → Needs n d (operators operand (suc l) (suc m) a q (k ∷ 0 ∷ s)) (operators operand (suc l) m (Node.binary-op (op-number k) a b) q r)
 unfolding operators
-operators-step operand l m k a q e h = sees _ _ _ (symbol k (op-kind k e .0)) (if-yes _ _ (eq-true (op-level k) (suc l) e) (then-on _ _ h))
+operators-step operand l m k a q e h = sees _ _ _ (symbol k (op-kind k e .0)) (if-yes _ _ (eq-eqb (op-level k) (suc l) e) (then-on _ _ h))
 
 with-place : (a : ℕ) (t : Tree) → eqb (kind-of t) NodeKind.Assignment ≡ false → with-action (suc a) t ≡ t
 with-place a (node k v f) e = rw e
@@ -200,7 +200,7 @@ module _ (d : ℕ) (R : Reads d) where
   given-back {a = a} l (v-given-target {p = p} {d = t} g h) q s =
       let e = has-target g h in
       let w : List ℕ = Kind.CloseParen ∷ 0 ∷ s in
-      let m : fun-gives modified (a + 4 * 0) ≡ true = leb-true (suc (a + 0)) 4 (omega arith) in
+      let m : fun-gives modified (a + 4 * 0) ≡ true = le-leb (suc (a + 0)) 4 (omega arith) in
       let v : Valid (plain true true) (Node.assignment 2 0 p t) = v-inner (as-inner (v-target g h)) in (
         Node.assignment 2 0 p t,
         rw (target-words modified (a + 0) p t m e w, target-depth modified (a + 0) p t m e)

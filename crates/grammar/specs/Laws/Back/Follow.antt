@@ -11,11 +11,12 @@ use Rattle.token.specs.Kind
 use Rattle.operator.specs.Operator.{which-unary-op, which-binary-op, which-assignment-op, op-level, op-number, op-token, unary-code, unary-token, assign-code, assign-token}
 use Rattle.operator.specs.Laws.{op-token-number, unary-token-code, assign-token-code}
 use Rattle.operator.specs.Below.{equal-below, most-below}
-use Rattle.grammar.specs.Laws.Facts.{differ, eq-true, leb-le, and-l, and-r}
+use borrow.Author.Tests.{ne-eqb, eq-eqb, leb-true}
+use Rattle.grammar.specs.Laws.Facts.{and-l, and-r}
 
 -- operators are kinds of symbols
 far : {k : ℕ} → 76 ≤ k → (c : ℕ) → ltb c 76 ≡ true → eqb k c ≡ false
-far {k} h c l = let g = leb-le (suc c) 76 l in differ k c (omega arith)
+far {k} h c l = let g = leb-true (suc c) 76 l in ne-eqb k c (omega arith)
 
 op-far : {k : ℕ} → 76 ≤ k → op-level k ≡ 0
 unfolding op-level which-binary-op
@@ -67,7 +68,7 @@ near : (n k : ℕ) → (76 ≤ k → n ≡ 0) → n ≢ 0 → k < 76
 near n k h p = let f : ¬ (76 ≤ k) = λ l. p (h l) in omega arith
 
 no-code : (n : ℕ) → eqb n 0 ≡ false → n ≢ 0
-no-code n e z = true≢false (sym (eq-true n 0 z) ∙ e)
+no-code n e z = true≢false (sym (eq-eqb n 0 z) ∙ e)
 
 pub op-kind : (k : ℕ) {l : ℕ} → op-level k ≡ suc l → (k < 76) × (op-token (op-number k) ≡ k)
 op-kind k e =
@@ -114,7 +115,7 @@ pub rank-op : (k : ℕ) {l : ℕ} → op-level k ≡ suc l → rank k ≡ suc (s
 unfolding rank
 rank-op k e =
     let z = apart-codes k (op-kind k e .0) in
-    rw (eq-true (assign-code k) 0 (omega arith), differ (op-level k) 0 (omega arith), e)
+    rw (eq-eqb (assign-code k) 0 (omega arith), ne-eqb (op-level k) 0 (omega arith), e)
 
 pub rank-assign : (k : ℕ) → eqb (assign-code k) 0 ≡ false → rank k ≡ 13
 unfolding rank
@@ -132,7 +133,7 @@ ranks = equal-below (λ k. cond (closes k) (rank k) 14) (λ k. 14) 76 tt
 
 pub ends : {k : ℕ} {s : List ℕ} → ltb k 76 && closes k ≡ true → Follows 14 (k ∷ 0 ∷ s)
 ends {k} e =
-    let h = leb-le (suc k) 76 (and-l (ltb k 76) (closes k) e) in
+    let h = leb-true (suc k) 76 (and-l (ltb k 76) (closes k) e) in
     let c : cond (closes k) (rank k) 14 ≡ 14 = ranks k h in
     let g : rank k ≡ 14 = rw (and-r (ltb k 76) (closes k) e) at c in
     follows h (omega arith)
@@ -147,7 +148,7 @@ ellipsis = follows {k = Kind.Ellipsis} (omega arith) (omega arith)
 
 -- what does not come next
 no-kind : (k c : ℕ) {n : ℕ} → n ≤ rank k → rank c < n → eqb k c ≡ false
-no-kind k c h g = differ k c λ e. let z : rank k ≡ rank c = ap rank e in absurd (omega arith)
+no-kind k c h g = ne-eqb k c λ e. let z : rank k ≡ rank c = ap rank e in absurd (omega arith)
 
 pub no-path : (k : ℕ) → 1 ≤ rank k → (eqb k Kind.OpAccess ≡ false) × (eqb k Kind.OpenSquare ≡ false) × (eqb k Kind.OpenParen ≡ false) × (eqb k Kind.OpenBrace ≡ false)
 unfolding rank assign-code which-assignment-op op-level which-binary-op
@@ -162,7 +163,7 @@ unfolding rank assign-code which-assignment-op op-level which-binary-op
 no-comma k h = no-kind k Kind.Comma h (omega arith)
 
 pub no-op : (k l : ℕ) → suc (suc (suc l)) ≤ rank k → eqb (op-level k) (suc l) ≡ false
-no-op k l h = differ (op-level k) (suc l) λ e. let z = rank-op k e in absurd (omega arith)
+no-op k l h = ne-eqb (op-level k) (suc l) λ e. let z = rank-op k e in absurd (omega arith)
 
 pub no-assign : (k : ℕ) → 14 ≤ rank k → eqb (assign-code k) 0 ≡ true
 no-assign k h = go (eqb (assign-code k) 0) refl

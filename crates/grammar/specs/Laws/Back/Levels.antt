@@ -20,7 +20,7 @@ use Rattle.grammar.specs.Canonical.Write.{own, write, statement, run}
 use Rattle.grammar.specs.Canonical.Writing.{clean-from, clean-reading, statement-words, is-too-deep}
 use Rattle.grammar.specs.Canonical.Need.{most, need, needs}
 use Rattle.grammar.specs.Canonical.Valid.{Valid, Valids, unary, ex, control, stmt, v-none, v-more}
-use Rattle.grammar.specs.Laws.Facts.{leb-true, leb-le, leb-false}
+use borrow.Author.Tests.{le-leb, leb-true, lt-leb}
 use Rattle.grammar.specs.Laws.Back.Steps.{Needs, reach, settle, fits, see, done, exactly, enough, missed, inside, weigh, then-ok, either-is, if-yes, if-no}
 use Rattle.grammar.specs.Laws.Back.Longer.{longer, longer-length, longer-even}
 use Rattle.grammar.specs.Laws.Back.Follow.{Follows, ends}
@@ -116,8 +116,8 @@ unfolding reach
 too-deep-settles n d t r = go (leb n d) refl
   where
     go : (b : Bool) → leb n d ≡ b → is-too-deep (reach b (ok t r)) ≡ ltb d n
-    go true e = let l = leb-le n d e in sym (leb-false (suc d) n (omega arith))
-    go false e = sym (leb-true (suc d) n (lt-of-not-le λ l. true≢false (sym (leb-true n d l) ∙ e)))
+    go true e = let l = leb-true n d e in sym (lt-leb (suc d) n (omega arith))
+    go false e = sym (le-leb (suc d) n (lt-of-not-le λ l. true≢false (sym (le-leb n d l) ∙ e)))
 
 pub depth-is : {t : Tree} → Valid stmt t → (d : ℕ) → is-too-deep (next d [] (statement-words t)) ≡ ltb d (need t own)
 depth-is {t} h d = ap is-too-deep (next-back h d [] []) ∙ too-deep-settles (need t own) d t (Kind.Semicolon ∷ 0 ∷ [])

@@ -21,7 +21,8 @@ use Rattle.grammar.specs.Reading.Function.{target-name}
 use Rattle.grammar.specs.Canonical.Write.{Place, own, modified, targeted, label, keyword, keyword-of, target-items, is-target, function-named, has-function, fun-gives, write}
 use Rattle.grammar.specs.Canonical.Need.{need}
 use Rattle.grammar.specs.Canonical.Valid.{Valid, Valids, Pattern, Target, atom, prim, tight, unary, binop, plain, ex, function, item, stmt, IsLabel, no-label, a-label, v-nil, v-empty-tuple, v-identifier, v-true, v-false, v-integer, v-float, v-string, v-group, v-modified, v-atom, v-primary, v-prim, v-unpack, v-ellipsis, v-table, v-function, v-target, v-if, v-block, v-labelled, v-tight, v-unary-op, v-unary, v-up, v-binary-op, v-assign, v-inner, v-single, v-tuple, v-local, v-plain, v-keyword, v-function-def, v-function-default, v-function-variadic, v-attribute, v-index, v-expression, v-loop, v-while, v-for, v-assert, v-none, v-more, p-identifier, p-attribute, p-index, p-tuple, p-pack, p-ellipsis, p-modifier, t-name, t-attribute, t-index}
-use Rattle.grammar.specs.Laws.Facts.{apart, leb-true, leb-le, eq-true}
+use borrow.Author.Tests.{le-leb, leb-true, eq-eqb}
+use Rattle.grammar.specs.Laws.Facts.{apart}
 use Rattle.grammar.specs.Laws.Back.Steps.{Needs, Fits, fits, symbol, word, sees, if-yes, done, enough}
 use Rattle.grammar.specs.Laws.Back.Follow.{unary-kind, assign-kind}
 
@@ -61,7 +62,7 @@ wider : {b c : Bool} {m n : ℕ} {r : List ℕ} → m ≤ n → (b ≡ true → 
 wider {b} {c} {m} {n} l f (starts {k = k} t (begun h)) = starts t (begun (go (leb (grade k) m) refl (eqb k Kind.Label) h))
   where
     go : (x : Bool) → leb (grade k) m ≡ x → (y : Bool) → x || (y && b) ≡ true → leb (grade k) n || (y && c) ≡ true
-    go true e y g = let i = leb-le (grade k) m e in rw (leb-true (grade k) n (omega arith))
+    go true e y g = let i = leb-true (grade k) m e in rw (le-leb (grade k) n (omega arith))
     go false e true g = or-right (leb (grade k) n) c (f g)
     go false e false g = absurd (false≢true g)
 
@@ -131,9 +132,9 @@ target-is (t-attribute e h g i) = rw (e, items-target g)
 target-is (t-index e h g i) = rw (e, items-target g)
 
 function-is : {n : ℕ} {d : Tree} → Valid (function n) d → function-named n d ≡ true
-function-is {n} (v-function-def h g) = eq-true n n refl
-function-is {n} (v-function-default h i e g) = eq-true n n refl
-function-is {n} (v-function-variadic h i g) = eq-true n n refl
+function-is {n} (v-function-def h g) = eq-eqb n n refl
+function-is {n} (v-function-default h i e g) = eq-eqb n n refl
+function-is {n} (v-function-variadic h i g) = eq-eqb n n refl
 
 pub has-target : {p d : Tree} → Target p → Valid (function (target-name p)) d → has-function (two p d) ≡ true
 has-target t h = rw (target-is t, function-is h)

@@ -14,7 +14,8 @@ use Rattle.tree.specs.Maybe.{Maybe, just}
 use Rattle.grammar.specs.Reading.Limit.{too-deep}
 use Rattle.grammar.specs.Reading.Result.{Error, Res, ok, stop, either, then, ifb}
 use Rattle.grammar.specs.Reading.Look.{looked, look, expect, expect-pattern}
-use Rattle.grammar.specs.Laws.Facts.{not-true, differ, eq-true, leb-true, leb-le, leb-false, and-l, and-r}
+use borrow.Author.Tests.{ne-eqb, eq-eqb, le-leb, leb-true, lt-leb}
+use Rattle.grammar.specs.Laws.Facts.{not-true, and-l, and-r}
 
 -- a reading that a depth may not reach
 unfoldable pub reach : {A : Type 0} → Bool → Res A → Res A
@@ -38,9 +39,9 @@ leb-max : (m n d : ℕ) → leb (max m n) d ≡ leb m d && leb n d
 leb-max m n d = go (leb m d) (leb n d) refl refl
   where
     go : (a b : Bool) → leb m d ≡ a → leb n d ≡ b → leb (max m n) d ≡ a && b
-    go true true e f = let h = leb-le m d e in let g = leb-le n d f in leb-true (max m n) d (omega arith)
-    go true false e f = not-true (leb (max m n) d) λ t. let h = leb-le (max m n) d t in true≢false (sym (leb-true n d (omega arith)) ∙ f)
-    go false b e f = not-true (leb (max m n) d) λ t. let h = leb-le (max m n) d t in true≢false (sym (leb-true m d (omega arith)) ∙ e)
+    go true true e f = let h = leb-true m d e in let g = leb-true n d f in le-leb (max m n) d (omega arith)
+    go true false e f = not-true (leb (max m n) d) λ t. let h = leb-true (max m n) d t in true≢false (sym (le-leb n d (omega arith)) ∙ f)
+    go false b e f = not-true (leb (max m n) d) λ t. let h = leb-true (max m n) d t in true≢false (sym (le-leb m d (omega arith)) ∙ e)
 
 -- one after the other needs the more of both
 pub both : {A : Type 0} {m n d : ℕ} {x y z : Res A} → Needs m d x y → Needs n d y z → Needs (max m n) d x z
@@ -58,11 +59,11 @@ exactly e = rw e done
 -- what is enough, and what is not
 pub enough : {A : Type 0} {n d : ℕ} {x y : Res A} → Needs n d x y → n ≤ d → x ≡ y
 unfolding reach
-enough {n = n} {d = d} e h = e .is ∙ rw (leb-true n d h)
+enough {n = n} {d = d} e h = e .is ∙ rw (le-leb n d h)
 
 pub missed : {A : Type 0} {n d : ℕ} {y : Res A} → d < n → Needs n d (stop too-deep) y
 unfolding reach
-missed {n = n} {d = d} h = record { is = rw (leb-false n d h) }
+missed {n = n} {d = d} h = record { is = rw (lt-leb n d h) }
 
 -- one depth further in
 pub inside : {A : Type 0} {n d : ℕ} {x y : Res A} → Needs n d x y → Needs (suc n) (suc d) x y
@@ -122,7 +123,7 @@ pub data Fits (k v : ℕ) : Type 0 where
 
 -- any kind goes without a value
 pub symbol : (k : ℕ) → k < 76 → Fits k 0
-symbol k h = fits (rw (leb-true (suc k) 76 h) (go (eqb k 69 || eqb k 70 || eqb k 73) (eqb k 71 || eqb k 72)))
+symbol k h = fits (rw (le-leb (suc k) 76 h) (go (eqb k 69 || eqb k 70 || eqb k 73) (eqb k 71 || eqb k 72)))
   where
     go : (a b : Bool) → cond a true (b || true) ≡ true
     go true b = refl
@@ -132,10 +133,10 @@ symbol k h = fits (rw (leb-true (suc k) 76 h) (go (eqb k 69 || eqb k 70 || eqb k
 pub see : (q s : List ℕ) {k v : ℕ} → Fits k v → look q (k ∷ v ∷ s) ≡ ok (word k v) s
 unfolding look looked
 see q s {k} {v} (fits h) =
-    let l = leb-le (suc k) 76 (and-l (ltb k 76) (value-fits k v) h) in
+    let l = leb-true (suc k) 76 (and-l (ltb k 76) (value-fits k v) h) in
     let e : k % 256 ≡ k = omega arith in
     let f : k / 256 ≡ 0 = omega arith in
-    rw (e, f, and-r (ltb k 76) (value-fits k v) h, leb-true k 76 (omega arith), differ k 76 (omega arith))
+    rw (e, f, and-r (ltb k 76) (value-fits k v) h, le-leb k 76 (omega arith), ne-eqb k 76 (omega arith))
 
 pub sees : {A : Type 0} (q s : List ℕ) (go : Token → List Error → List ℕ → Res A) {k v n d : ℕ} {y : Res A} → Fits k v → Needs n d (go (word k v) q s) y → Needs n d (then q (look q (k ∷ v ∷ s)) go) y
 sees q s go h g = then-ok q go (see q s h) g
@@ -143,7 +144,7 @@ sees q s go h g = then-ok q go (see q s h) g
 -- a token that is expected
 pub expects : {A : Type 0} (q s : List ℕ) (e : Error) (go : Token → List Error → List ℕ → Res A) {k v n d : ℕ} {y : Res A} → Fits k v → Needs n d (go (word k v) q s) y → Needs n d (then q (expect k e q (k ∷ v ∷ s)) go) y
 unfolding expect
-expects q s e go {k = k} h g = then-ok q go (enough (sees q s _ h (if-yes _ _ (eq-true k k refl) done)) (le-refl 0)) g
+expects q s e go {k = k} h g = then-ok q go (enough (sees q s _ h (if-yes _ _ (eq-eqb k k refl) done)) (le-refl 0)) g
 
 -- an expression that is a pattern
 pub converted : (q ts : List ℕ) (e : Error) {m : Maybe Tree} {p : Tree} → m ≡ just p → expect-pattern e m q ts ≡ ok p ts

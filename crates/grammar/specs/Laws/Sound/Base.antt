@@ -20,7 +20,8 @@ use Rattle.grammar.specs.Reading.Pattern.{conv, to-pattern}
 use Rattle.grammar.specs.Reading.Expr.{Stmts, Level, operators}
 use Rattle.grammar.specs.Canonical.Write.{own, fun-gives, has-function}
 use Rattle.grammar.specs.Canonical.Valid.{IsName, Role, unary, binop, assign, plain, ex, stmt, control, Valid, Valids, Pattern, v-unary, v-up, v-tight, v-binary-op, v-assign, v-inner, v-single, v-tuple, v-local, v-plain, v-keyword, v-none, v-more, v-target, tight}
-use Rattle.grammar.specs.Laws.Facts.{clash, same, other, by-test, and-l, and-r}
+use borrow.Author.Tests.{eqb-true}
+use Rattle.grammar.specs.Laws.Facts.{clash, other, by-test, and-l, and-r}
 use Rattle.grammar.specs.Laws.Post.{Post, p-ok, p-fail, p-stop, post-then, post-if}
 use Rattle.grammar.specs.Laws.Convert.{PatternOk, no-pattern, a-pattern, Converts, Convert, c-none, c-more, convert-snoc, none-sound, tuple-sound}
 use Rattle.grammar.specs.Laws.Views.{fun-of}
@@ -85,7 +86,7 @@ expect-took k e q ts =
 
 -- a token that is a name
 pub name-value : (k v : ℕ) → eqb k Kind.Identifier ≡ true → value-fits k v ≡ true → IsName v
-name-value k v e h = rw (same k Kind.Identifier e) at h
+name-value k v e h = rw (eqb-true k Kind.Identifier e) at h
 
 -- an operand, in a role that depends on whether a label may come first
 pub record OperandOk (role : Bool → Role) (ts : List ℕ) (t : Tree) : Type 0 where
@@ -130,7 +131,7 @@ operators-sound l operand H us (suc n) left q ts x =
     post-then q (look-saw q ts) λ tok q₁ rest s. post-if
     (λ _ e. post-then q (H q rest) λ right q₂ r y.
     operators-sound l operand H us n _ q₂ r (record {
-      valid = λ b h. v-binary-op (tok .kind) (same _ _ e) (x .valid b h) (y .valid true anyhow);
+      valid = λ b h. v-binary-op (tok .kind) (eqb-true _ _ e) (x .valid b h) (y .valid true anyhow);
       converts = none-sound refl;
       start = x .start;
     }))
@@ -226,7 +227,7 @@ assign-ok {c} {p} {e} a k n h x =
     (λ y.
     let f = fun-of h x (and-r (fun-gives own (a + 4 * pred (assign-code k))) (has-function (two p e)) y) in
     by-fun λ b. subst (λ v. Valid (tight b) (node NodeKind.Assignment v (two p e)))
-    (sym (same (a + 4 * pred (assign-code k)) 2 (and-l (fun-gives own (a + 4 * pred (assign-code k))) (has-function (two p e)) y)))
+    (sym (eqb-true (a + 4 * pred (assign-code k)) 2 (and-l (fun-gives own (a + 4 * pred (assign-code k))) (has-function (two p e)) y)))
     (v-target (f .to) (f .of)))
     (λ z. by-assign (v-assign k n h x z))
 
@@ -246,7 +247,7 @@ plain-any (no-keyword k) z x = record {
   all = record { valid = λ b c h g. v-plain (x .valid b c h g); converts = x .converts; start = x .start; follow = x .follow };
   bare = λ _. x .valid;
 }
-plain-any (a-keyword {a = a} h k n) z x = let e = same (suc a) 0 z in absurd (omega arith)
+plain-any (a-keyword {a = a} h k n) z x = let e = eqb-true (suc a) 0 z in absurd (omega arith)
 
 pub assigned : {ts r u v : List ℕ} {m : ℕ} {p e : Tree} (k : ℕ) → Keyed ts m r → NotClose r → eqb (assign-code k) 0 ≡ false → Pattern p → AnyOk u e v
     → AnyOk ts (Node.assignment (action m) (pred (assign-code k)) p e) v

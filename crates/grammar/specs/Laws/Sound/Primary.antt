@@ -17,7 +17,7 @@ use Rattle.grammar.specs.Reading.Pattern.{conv}
 use Rattle.grammar.specs.Reading.Expr.{Level}
 use Rattle.grammar.specs.Reading.Primary.{with-action, group-expr, literal, atom as atom-read, indexing-expr, field-name, table-field, table-item as table-item-read, table-items, member-access, invocation, path, with-path, primary, unpack-expr}
 use Rattle.grammar.specs.Canonical.Valid.{IsName, IsNamed, read-only, read-write, Role, atom, prim, tight, ex, item, field, table-item, Valid, Valids, v-nil, v-empty-tuple, v-identifier, v-true, v-false, v-integer, v-float, v-string, v-group, v-modified, v-atom, v-primary, v-prim, v-unpack, v-ellipsis, v-attribute, v-index, v-invoke, v-invoke-table, v-field, v-field-index, v-table-item, v-none, v-more, no-argument}
-use Rattle.grammar.specs.Laws.Facts.{same}
+use borrow.Author.Tests.{eqb-true}
 use Rattle.grammar.specs.Laws.Post.{Post, p-ok, p-fail, post-then, post-if, post-map}
 use Rattle.grammar.specs.Laws.Convert.{Converts, none-sound, unpack-sound, group-sound, modified-sound, identifier-sound, ellipsis-sound, primary-sound}
 use Rattle.grammar.specs.Laws.Views.{given-ex, arguments-sound}
@@ -31,7 +31,7 @@ pub record PrimOk (role : Role) (ts : List ℕ) (t : Tree) : Type 0 where
   pub start : NotClose ts
 
 string-value : (k v : ℕ) → eqb k Kind.StringLiteral ≡ true → value-fits k v ≡ true → IsName v
-string-value k v e h = rw (same k Kind.StringLiteral e) at h
+string-value k v e h = rw (eqb-true k Kind.StringLiteral e) at h
 
 literal-sound : {ts rest : List ℕ} (tok : Token) (q : List Error) → Saw ts tok rest → Post (λ t r. PrimOk atom ts t) (literal tok q rest)
 unfolding literal conv
@@ -51,7 +51,7 @@ unfolding conv
 with-action-converts a (node k v f) x = go (eqb k NodeKind.Assignment) refl
   where
     go : (b : Bool) → eqb k NodeKind.Assignment ≡ b → Converts (cond b (node k (a + 4 * (v / 4)) f) (node k v f))
-    go true e = none-sound (rw (same k NodeKind.Assignment e))
+    go true e = none-sound (rw (eqb-true k NodeKind.Assignment e))
     go false e = x
 
 module _ (low : Level) (S : Sound low) where

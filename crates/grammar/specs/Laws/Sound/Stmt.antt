@@ -19,7 +19,8 @@ use Rattle.grammar.specs.Reading.Expr.{Level, Stmts}
 use Rattle.grammar.specs.Reading.Stmt.{loop, while-loop, lvalue-list, for-loop, stmt-label, stmt as stmt-read, ends, control-value, control-flow, control-last, is-control, stmts}
 use Rattle.grammar.specs.Reading.Level.{primary-expr, unary-expr, level}
 use Rattle.grammar.specs.Canonical.Valid.{IsName, IsLabel, no-label, a-label, tight, unary, ex, jump, control, body, stmt, Valid, Valids, Pattern, v-table, v-tight, v-unary-op, v-continue, v-break, v-break-value, v-break-label, v-return, v-return-value, v-no-control, v-control, v-body, v-expression, v-loop, v-while, v-for, v-assert, v-none, p-modifier}
-use Rattle.grammar.specs.Laws.Facts.{clash, same, differ, apart, and-false}
+use borrow.Author.Tests.{eqb-true, ne-eqb}
+use Rattle.grammar.specs.Laws.Facts.{clash, apart, and-false}
 use Rattle.grammar.specs.Laws.Post.{Post, p-ok, p-fail, p-stop, post-then, post-either, post-if, post-push, post-map}
 use Rattle.grammar.specs.Laws.Convert.{none-sound}
 use Rattle.grammar.specs.Laws.Sound.Base.{Saw, look-saw, isnt, not-at, is-at, NotClose, NotLabel, expect-took, OperandOk, ListOk, Sound, anyhow, before, valids-snoc, Keyed, no-keyword, a-keyword, keyword-sound, pattern-sound}
@@ -29,7 +30,7 @@ use Rattle.grammar.specs.Laws.Sound.Block.{body-sound, begin-sound, expr
 use Rattle.grammar.specs.Laws.Sound.Function.{function-sound}
 
 label-value : (k v : ℕ) → eqb k Kind.Label ≡ true → value-fits k v ≡ true → IsName v
-label-value k v e h = rw (same k Kind.Label e) at h
+label-value k v e h = rw (eqb-true k Kind.Label e) at h
 
 -- a label that was taken, or none
 data LabelOk (ts : List ℕ) : ℕ → List ℕ → Type 0 where
@@ -194,7 +195,7 @@ module _ (low : Level) (S : Sound low) where
 
   -- an operator is no `)`
   operator-close : (k : ℕ) → eqb (unary-code k) 0 ≡ false → eqb k Kind.CloseParen ≡ false
-  operator-close k e = differ k Kind.CloseParen λ z. clash (ap (λ n. eqb (unary-code n) 0) z ∙ close-code) e
+  operator-close k e = ne-eqb k Kind.CloseParen λ z. clash (ap (λ n. eqb (unary-code n) 0) z ∙ close-code) e
 
   unary-sound : (q : List Error) (ts : List ℕ) → Post (λ t r. OperandOk unary ts t) (unary-expr low q ts)
   unfolding unary-expr conv
