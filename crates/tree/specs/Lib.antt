@@ -5,3 +5,4 @@ pub mod Maybe
 pub mod Decode
 pub mod Store
 pub mod Records
+pub mod Rows

@@ -1,0 +1,6 @@
+-- What the proofs of several functions use.
+mod Lists
+mod Conv
+mod Steps
+mod Access
+mod Places

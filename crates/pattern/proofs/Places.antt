@@ -1,0 +1,232 @@
+-- The store after records were put and moved, one after the other. Assumes nothing.
+use mathlib.Core.Path.{_≡_, refl, sym, ap, _∙_}
+use mathlib.Core.List.{List, _∷_, _++_, append-assoc, append-nil}
+use Prim.Native.Nat.{ℕ, _+_, _*_, _-_, _%_, _≤_}
+use native.Mathlib.Omega.{arith}
+use native.Mathlib.Nat.{le-trans}
+use borrow.Author.Tests.{eqb-true, eqb-false, ltb-true, ltb-false}
+use lib.Dec.{eqb, ltb}
+use lib.ListN.{length, take, drop, getD, length-append, length-drop}
+use lib.Seq.{take-take, take-at, drop-at, take-add, length-take-le}
+use Rattle.tree.specs.NodeKind
+use Rattle.tree.specs.Tree.{Tree, Forest, node, one, two, count, records}
+use Rattle.tree.specs.Rows.{end, on, rows, push, Starts, rows-push}
+use Rattle.tree.specs.Maybe.{Maybe, nothing, just}
+use Rattle.grammar.specs.Reading.Pattern.{pattern, receiver, conv, to-pattern}
+use Rattle.pattern.specs.Word
+use Rattle.pattern.specs.Contract.{Is, Put, Right, Left, Fit, Stands, Access, Placed}
+use Rattle.pattern.proofs.Conv.{by-test, wordsM}
+use Rattle.pattern.proofs.Steps.{Ahead, View, all-read, no-pattern, tuple-not-list, tuple-empty}
+use Rattle.pattern.proofs.Access.{top-text, top-pat, off-top, Receives, prim, Shape, shape-of, not-path-step, no-path-step, no-item-step, attribute-pat, attribute-text, index-of, index-pat, index-text}
+
+-- a part of a list, told from its front and from its end
+drop-take : (S : List ℕ) (w to : ℕ) → w ≤ to → to ≤ length S → drop w (take to S) ≡ take (to - w) (drop w S)
+drop-take S w to h l =
+    let e : to ≡ w + (to - w) = omega arith in
+    let parts : take to S ≡ take w S ++ take (to - w) (drop w S) = ap (λ (n : ℕ). take n S) e ∙ take-add w (to - w) S in
+    ap (drop w) parts ∙ drop-at (take w S) (take (to - w) (drop w S)) w (length-take-le w S (omega arith))
+
+-- what stands before a place that was written
+keep : (n at : ℕ) (S S′ : List ℕ) → n ≤ at → take at S′ ≡ take at S → take n S′ ≡ take n S
+keep n at S S′ h e = sym (take-take n at S′ h) ∙ ap (take n) e ∙ take-take n at S h
+
+module _ {at word value : ℕ} {S S′ : List ℕ} (p : Put at word value S S′) where
+  before-put : (n : ℕ) → n ≤ at → take n S′ ≡ take n S
+  before-put n h = keep n at S S′ h (p .head)
+
+  put-then : (n : ℕ) → at + 2 ≡ n → drop at S′ ≡ word ∷ value ∷ drop n S
+  put-then n e = p .tail ∙ ap (λ (k : ℕ). word ∷ value ∷ drop k S) e
+
+module _ {from to by : ℕ} {S S′ : List ℕ} (p : Right from to by S S′) where
+  before-right : (n : ℕ) → n ≤ from + by → take n S′ ≡ take n S
+  before-right n h = keep n (from + by) S S′ h (p .head)
+
+  right-then : (m n : ℕ) → from + by ≡ m → to + by ≡ n → drop m S′ ≡ drop from (take to S) ++ drop n S
+  right-then m n d e = ap (λ (k : ℕ). drop k S′) (sym d) ∙ p .tail ∙ ap (λ (k : ℕ). drop from (take to S) ++ drop k S) e
+
+just-not : {p : Tree} (m : Maybe Tree) → m ≡ just p → m ≡ nothing → ⊥
+just-not m a b = let z : _≡_ {A = ℕ} 0 1 = cc in omega arith
+
+-- an access that is a pattern has a path, and an attribute or an index last
+shape-from : {C S : List ℕ} {i : ℕ} {t : Tree} {p : Tree} → i ≤ length S → Receives C S i t → conv t pattern ≡ just p → Shape C S i t
+shape-from {S = S} {i = i} {t = t} h q e =
+    by-test (eqb (getD S (i - 4) 0 % 256) NodeKind.List)
+    (λ z. by-test (ltb (getD S (i - 4) 0) 256)
+    (λ y. absurd (just-not (conv t pattern) e (no-path-step q (ltb-true _ _ y))))
+    (λ y. shape-of h q (eqb-true _ _ z) (ltb-false _ _ y)))
+    (λ z. absurd (just-not (conv t pattern) e (not-path-step q (eqb-false _ _ z))))
+
+module _ {B : List ℕ} {p : Tree} {S : List ℕ} {i w : ℕ} (a : Access B p S i w) where
+  pub reach : i ≤ length S
+  reach = le-trans (a .before) (a .within)
+
+  pub sure-shape : Shape B S i (a .tree)
+  unfolding rows
+  sure-shape = shape-from reach (prim B S i (a .tree) reach (a .small) (a .text) (a .kind)) (a .same)
+
+  pub sure-index : (getD S (i - 6) 0 ≡ Word.Attribute → ⊥) → getD S (i - 6) 0 ≡ Word.Index
+  sure-index n =
+      by-test (eqb (getD S (i - 6) 0) Word.Index) (λ z. eqb-true _ _ z)
+      (λ z. absurd (just-not (conv (a .tree) pattern) (a .same) (no-item-step sure-shape n (eqb-false _ _ z))))
+
+-- the words of the two patterns
+attribute-records : (v : ℕ) (t : Tree) (w : ℕ) (f : Forest) (x : ℕ) (Z : List ℕ) → rows (push (on end t) f) ++ (NodeKind.List + 256 * count f) ∷ w ∷ Word.Primary ∷ v ∷ Word.AttributePattern ∷ x ∷ Z ≡ records (node NodeKind.AttributePattern x (one (receiver v t w f))) ++ Z
+unfolding rows records count
+attribute-records v t w f x Z = rw rows-push (simp (append-assoc, append-nil))
+
+index-records : (v : ℕ) (t : Tree) (w : ℕ) (f : Forest) (u : Tree) (Z : List ℕ) → rows (push (on end t) f) ++ (NodeKind.List + 256 * count f) ∷ w ∷ Word.Primary ∷ v ∷ (records u ++ Word.IndexPattern ∷ 0 ∷ Z) ≡ records (node NodeKind.IndexPattern 0 (two (receiver v t w f) u)) ++ Z
+unfolding rows records count
+index-records v t w f u Z = rw rows-push (simp (append-assoc, append-nil))
+
+same-pat : {p q : Tree} (m : Maybe Tree) → m ≡ just p → m ≡ just q → q ≡ p
+same-pat m a b = cc
+
+module _ {B : List ℕ} {p : Tree} {S : List ℕ} {i w : ℕ} (a : Access B p S i w) where
+  shorter-list : getD S (i - 4) 0 - 256 ≡ NodeKind.List + 256 * count (sure-shape a .front)
+  shorter-list =
+      let l = sure-shape a .list-word in
+      omega arith
+
+  pub attribute-placed : {S₁ S₂ S₃ S₄ : List ℕ} {r : ℕ} → getD S (i - 6) 0 ≡ Word.Attribute → Starts B S r
+      → Put (w - 2) Word.AttributePattern (getD S (i - 5) 0) S S₁ → Put (w - 4) Word.Primary (getD S (i - 1) 0) S₁ S₂ → Put (w - 6) (getD S (i - 4) 0 - 256) (getD S (i - 3) 0) S₂ S₃ → Right r (i - 6) (w - i) S₃ S₄
+      → Placed B p S i w r S₄
+  attribute-placed {S₁ = S₁} {S₂ = S₂} {S₃ = S₃} {S₄ = S₄} {r = r} e s p₁ p₂ p₃ m =
+      let sh = sure-shape a in
+      let at = s .at in
+      let same : take (i - 6) S₃ ≡ take (i - 6) S = before-put p₃ (i - 6) (omega arith) ∙ before-put p₂ (i - 6) (omega arith) ∙ before-put p₁ (i - 6) (omega arith) in
+      let text : drop r (take (i - 6) S₃) ≡ rows (push (on end (sh .atom)) (sh .front)) = ap (drop r) (same ∙ attribute-text sh e) ∙ drop-at B (rows (push (on end (sh .atom)) (sh .front))) r (sym at) in
+      let words : drop (r + (w - i)) S₄ ≡ rows (push (on end (sh .atom)) (sh .front)) ++ (NodeKind.List + 256 * count (sh .front)) ∷ sh .w ∷ Word.Primary ∷ sh .v ∷ Word.AttributePattern ∷ getD S (i - 5) 0 ∷ drop w S
+      = right-then m (r + (w - i)) (w - 6) refl (omega arith)
+      ∙ ap (λ (l : List ℕ). l ++ drop (w - 6) S₃) text
+      ∙ ap (λ (l : List ℕ). rows (push (on end (sh .atom)) (sh .front)) ++ l)
+      (put-then p₃ (w - 4) (omega arith)
+      ∙ ap (λ (l : List ℕ). (getD S (i - 4) 0 - 256) ∷ getD S (i - 3) 0 ∷ l)
+      (put-then p₂ (w - 2) (omega arith) ∙ ap (λ (l : List ℕ). Word.Primary ∷ getD S (i - 1) 0 ∷ l) (put-then p₁ w (omega arith)))
+      ∙ rw (shorter-list, sh .list-value, sh .prim-value)) in
+      record {
+        at = at;
+        on = omega arith;
+        head = before-right m r (omega arith) ∙ before-put p₃ r (omega arith) ∙ before-put p₂ r (omega arith) ∙ before-put p₁ r (omega arith) ∙ s .text;
+        tail = words ∙ attribute-records (sh .v) (sh .atom) (sh .w) (sh .front) (getD S (i - 5) 0) (drop w S)
+            ∙ ap (λ (t : Tree). records t ++ drop w S) (same-pat (conv (a .tree) pattern) (a .same) (attribute-pat sh e));
+      }
+
+  pub index-placed : {S₁ S₂ S₃ S₄ S₅ : List ℕ} {r q : ℕ} → (e : getD S (i - 6) 0 ≡ Word.Index) → Starts B S r → Starts (B ++ rows (push (on end (sure-shape a .atom)) (sure-shape a .front))) S q
+      → Put (w - 2) Word.IndexPattern 0 S S₁ → Right q (i - 6) (w - i + 4) S₁ S₂ → Put (q + (w - i) + 2) Word.Primary (getD S (i - 1) 0) S₂ S₃ → Put (q + (w - i)) (getD S (i - 4) 0 - 256) (getD S (i - 3) 0) S₃ S₄ → Right r q (w - i) S₄ S₅
+      → q ≤ i - 6
+      → Placed B p S i w r S₅
+  unfolding rows
+  index-placed {S₁ = S₁} {S₂ = S₂} {S₃ = S₃} {S₄ = S₄} {S₅ = S₅} {r = r} {q = q} e s t p₁ m₁ p₂ p₃ m₂ le₆ =
+      let sh = sure-shape a in
+      let X = rows (push (on end (sh .atom)) (sh .front)) in
+      let u = index-of sh e .expr in
+      let at = s .at in
+      let at′ = t .at in
+      let more-than : r ≤ q = omega (arith, length-append B X) in
+      let first : take (i - 6) S₁ ≡ take (i - 6) S = before-put p₁ (i - 6) (omega arith) in
+      let low : take q S₄ ≡ B ++ X = before-put p₃ q (omega arith) ∙ before-put p₂ q (omega arith) ∙ before-right m₁ q (omega arith) ∙ before-put p₁ q (omega arith) ∙ t .text in
+      let expr : drop q (take (i - 6) S₁) ≡ records u = ap (drop q) (first ∙ index-text sh e ∙ sym (append-assoc B X (records u))) ∙ drop-at (B ++ X) (records u) q (sym at′) in
+      let text : drop r (take q S₄) ≡ X = ap (drop r) low ∙ drop-at B X r (sym at) in
+      let words : drop (r + (w - i)) S₅ ≡ X ++ (NodeKind.List + 256 * count (sh .front)) ∷ sh .w ∷ Word.Primary ∷ sh .v ∷ (records u ++ Word.IndexPattern ∷ 0 ∷ drop w S)
+      = right-then m₂ (r + (w - i)) (q + (w - i)) refl refl
+      ∙ ap (λ (l : List ℕ). l ++ drop (q + (w - i)) S₄) text
+      ∙ ap (λ (l : List ℕ). X ++ l)
+      (put-then p₃ (q + (w - i) + 2) refl
+      ∙ ap (λ (l : List ℕ). (getD S (i - 4) 0 - 256) ∷ getD S (i - 3) 0 ∷ l)
+      (put-then p₂ (q + (w - i + 4)) (omega arith)
+      ∙ ap (λ (l : List ℕ). Word.Primary ∷ getD S (i - 1) 0 ∷ l)
+      (right-then m₁ (q + (w - i + 4)) (w - 2) refl (omega arith)
+      ∙ ap (λ (l : List ℕ). l ++ drop (w - 2) S₁) expr
+      ∙ ap (λ (l : List ℕ). records u ++ l) (put-then p₁ w (omega arith))))
+      ∙ rw (shorter-list, sh .list-value, sh .prim-value)) in
+      record {
+        at = at;
+        on = omega arith;
+        head = before-right m₂ r (omega arith) ∙ before-put p₃ r (omega arith) ∙ before-put p₂ r (omega arith) ∙ before-right m₁ r (omega arith) ∙ before-put p₁ r (omega arith) ∙ s .text;
+        tail = words ∙ index-records (sh .v) (sh .atom) (sh .w) (sh .front) u (drop w S)
+            ∙ ap (λ (t : Tree). records t ++ drop w S) (same-pat (conv (a .tree) pattern) (a .same) (index-pat sh e));
+      }
+
+-- the work so far: trees that are to be patterns up to i, and from w on the records of those that are
+pub record Going (m : Maybe Tree) (B Z S : List ℕ) (i w : ℕ) : Type 0 where
+  pub ahead : List ℕ
+  pub left : Ahead m B (take i S) ahead
+  pub done : drop w S ≡ ahead ++ Z
+
+pub go-same : {m : Maybe Tree} {B S Y : List ℕ} (Z : List ℕ) {i w : ℕ} → Ahead m B (take i S) Y → drop w S ≡ Y ++ Z → Going m B Z S i w
+go-same {Y = Y} Z a d = record { ahead = Y; left = a; done = d }
+
+pub go-put : {m : Maybe Tree} {B S S′ Y : List ℕ} (Z : List ℕ) {word value at : ℕ} (n w : ℕ) → Ahead m B (take n S) (word ∷ value ∷ Y) → drop w S ≡ Y ++ Z → Put at word value S S′ → n ≤ at → at + 2 ≡ w → Going m B Z S′ n at
+go-put {Y = Y} Z {word = word} {value = value} n w a d p h e =
+    record { ahead = word ∷ value ∷ Y; left = rw (before-put p n h) a; done = put-then p w e ∙ ap (λ (l : List ℕ). word ∷ value ∷ l) d }
+
+pub go-puts : {m : Maybe Tree} {B S S₁ S₂ Y : List ℕ} (Z : List ℕ) {a b c d at₁ at₂ : ℕ} (n n′ w : ℕ) → Ahead m B (take n S) (a ∷ b ∷ c ∷ d ∷ Y) → drop w S ≡ Y ++ Z → Put at₁ c d S S₁ → Put at₂ a b S₁ S₂
+    → n′ ≡ n → n ≤ at₂ → at₂ + 2 ≡ at₁ → at₁ + 2 ≡ w → Going m B Z S₂ n′ at₂
+go-puts {Y = Y} Z {a = a} {b = b} {c = c} {d = d} {at₁ = at₁} n n′ w x y p q s h e f =
+    let l : n ≤ at₁ = omega arith in
+    record {
+      ahead = a ∷ b ∷ c ∷ d ∷ Y;
+      left = rw (s, before-put q n h, before-put p n l) x;
+      done = put-then q at₁ e ∙ ap (λ (l : List ℕ). a ∷ b ∷ l) (put-then p w f ∙ ap (λ (l : List ℕ). c ∷ d ∷ l) y);
+    }
+
+pub go-access : {m : Maybe Tree} {B S S′ Y : List ℕ} (Z : List ℕ) {i w r : ℕ} {p : Tree} → (x : View m B S i Y) → conv (x .tree) pattern ≡ just p → drop w S ≡ Y ++ Z → Placed (B ++ rows (x .under)) p S i w r S′ → Going m B Z S′ r (r + (w - i))
+go-access {S′ = S′} {Y = Y} Z {r = r} {p = p} x e d q =
+    record {
+      ahead = records p ++ Y;
+      left = off-top x p e (q .head);
+      done = q .tail ∙ ap (λ (l : List ℕ). records p ++ l) d ∙ sym (append-assoc (records p) Y Z);
+    }
+
+abbrev pub an-access : {m : Maybe Tree} {B S Y : List ℕ} {i w : ℕ} {p : Tree} → (x : View m B S i Y) → conv (x .tree) pattern ≡ just p → getD S (i - 2) 0 ≡ Word.Primary → i ≤ w → w ≤ length S → Access (B ++ rows (x .under)) p S i w
+an-access x e k a b = record { tree = x .tree; small = x .small; text = top-text x; same = e; kind = k; before = a; within = b }
+
+-- what is no identifier, group, unpack or access and yet a pattern is a tuple
+pub record Members (S : List ℕ) (i : ℕ) : Type 0 where
+  pub tuple : getD S (i - 2) 0 ≡ Word.Tuple
+  pub list : getD S (i - 4) 0 % 256 ≡ NodeKind.List
+  pub some : 256 ≤ getD S (i - 4) 0
+
+pub sure-tuple : {m : Maybe Tree} {B S Y : List ℕ} {i : ℕ} {p : Tree} → i ≤ length S → View m B S i Y → m ≡ just p
+    → (getD S (i - 2) 0 ≡ Word.Identifier → ⊥) → (getD S (i - 2) 0 ≡ Word.Group → ⊥) → (getD S (i - 2) 0 ≡ Word.Unpack → ⊥) → (getD S (i - 2) 0 ≡ Word.Primary → ⊥) → Members S i
+sure-tuple {m = m} {S = S} {i = i} h x e a b c d =
+    by-test (eqb (getD S (i - 2) 0) Word.Tuple)
+    (λ z. by-test (eqb (getD S (i - 4) 0 % 256) NodeKind.List)
+    (λ y. by-test (ltb (getD S (i - 4) 0) 256)
+    (λ q. absurd (just-not m e (tuple-empty h x (eqb-true _ _ z) (ltb-true _ _ q))))
+    (λ q. record { tuple = eqb-true _ _ z; list = eqb-true _ _ y; some = ltb-false _ _ q }))
+    (λ y. absurd (just-not m e (tuple-not-list h x (eqb-true _ _ z) (eqb-false _ _ y)))))
+    (λ z. absurd (just-not m e (no-pattern x a b c (eqb-false _ _ z) d)))
+
+pub sure-pat : {m : Maybe Tree} {B S Y : List ℕ} {i : ℕ} {p : Tree} → (x : View m B S i Y) → m ≡ just p → Is (conv (x .tree) pattern)
+sure-pat {m = m} x e = top-pat x (just-not m e)
+
+-- what stands up to i is no shorter than what stands before the trees
+pub not-below : {m : Maybe Tree} {B Y : List ℕ} (S : List ℕ) (i : ℕ) → i ≤ length S → Ahead m B (take i S) Y → length B ≤ i
+not-below {B = B} S i h a = omega (arith, sym (length-take-le i S h) ∙ ap length (a .text) ∙ length-append B (rows (a .row)))
+
+-- where all is done
+same-words : (m : Maybe Tree) (p : Tree) (Y : List ℕ) → m ≡ just p → wordsM m ≡ just Y → Y ≡ records p
+same-words m p Y e w =
+    cc
+
+base-text : {m : Maybe Tree} {B Y : List ℕ} (S : List ℕ) (i : ℕ) → i ≤ length S → Ahead m B (take i S) Y → take (length B) S ≡ B
+base-text {B = B} S i h a =
+    let l = not-below S i h a in
+    sym (take-take (length B) i S l) ∙ ap (take (length B)) (a .text) ∙ take-at B (rows (a .row)) (length B) refl
+
+pub all-placed : {t p : Tree} {S₀ S S′ : List ℕ} {from to i w r : ℕ} → Fit t p S₀ from to → length S ≡ length S₀ → i ≤ w → w ≤ to → Going (to-pattern t) (take from S₀) (drop to S₀) S i w → i ≤ from
+    → Left w to (w - from) S S′ → r ≡ to - (w - from) → Stands p S₀ from to r S′
+all-placed {t = t} {p = p} {S₀ = S₀} {S = S} {S′ = S′} {from = from} {to = to} {i = i} {w = w} {r = r} g kept a b q c l e =
+    let h : i ≤ length S = omega arith in
+    let n : length (take from S₀) ≡ from = length-take-le from S₀ (omega arith) in
+    let low = not-below S i h (q .left) in
+    let words : q .ahead ≡ records p = same-words (to-pattern t) p (q .ahead) (g .same) (all-read S i h (q .left) (omega arith)) in
+    let size : length S - w ≡ length (q .ahead) + (length S₀ - to) = sym (length-drop w S) ∙ ap length (q .done) ∙ length-append (q .ahead) (drop to S₀) ∙ ap (λ (n : ℕ). length (q .ahead) + n) (length-drop to S₀) in
+    let long : length (q .ahead) ≡ to - w = omega arith in
+    let tail : drop w (take to S) ≡ records p = drop-take S w to b (omega arith) ∙ ap (take (to - w)) (q .done) ∙ take-at (q .ahead) (drop to S₀) (to - w) long ∙ words in
+    let head : take (w - (w - from)) S ≡ take from S₀ = ap (λ (n : ℕ). take n S) (let z : w - (w - from) ≡ length (take from S₀) = omega arith in z) ∙ base-text S i h (q .left) in
+    record {
+      text = ap (λ (n : ℕ). take n S′) e ∙ l .text ∙ rw (head, tail);
+      short = omega arith;
+    }

@@ -1,0 +1,329 @@
+-- `pattern::settles` meets its contract: in each turn the top of a row of trees that are all to be patterns is passed. Assumes nothing.
+use mathlib.Core.Logic.{⊎-elim, inl, inr}
+use mathlib.Core.List.{List, [], _++_}
+use Prim.Native.Nat.{ℕ, _-_, _≤_}
+use native.Mathlib.Omega.{arith}
+use borrow.Author.Tests.{eqb-true, eqb-false}
+use lib.Dec.{eqb}
+use lib.ListN.{length, take, getD, length-take}
+use Rattle.tree.specs.Tree.{Tree}
+use Rattle.tree.specs.Rows.{rows}
+use Rattle.tree.specs.Maybe.{Maybe}
+use Rattle.grammar.specs.Reading.Pattern.{to-pattern}
+use Rattle.pattern.specs.Contract.{Whole}
+use Rattle.pattern.proofs.Conv.{by-test}
+use Rattle.pattern.proofs.Steps.{Ahead, View, view, shorter, whole-ahead, all-read, settled, ident-step, group-bare, group-modified, unpack-room, unpack-absent, unpack-other, tuple-room, tuple-step, tuple-not-list, tuple-empty, no-pattern}
+use Rattle.pattern.proofs.Access.{Receives, top-prim, prim-room, not-path-step, no-path-step, Shape, shape-of, no-item-step, attribute-pat, attribute-trees, index-pat, index-trees, no-top, off-top}
+use Rattle.pattern.proofs.settles.Statement.{statement}
+use Rattle.pattern.proofs.settles.Tie as tie
+
+-- up to i stands what is to be settled yet
+record Seeing (m : Maybe Tree) (S : List ℕ) (from i : ℕ) : Type 0 where
+  ahead : List ℕ
+  left : Ahead m (take from S) (take i S) ahead
+
+abbrev Inv-loop : tie.InvT-loop
+Inv-loop store from to i₀ i = (i ≤ length store) × ((t : Tree) → Whole t store from to → Seeing (to-pattern t) store from i)
+
+abbrev μ-loop : tie.MeasureT-loop
+μ-loop store from to i₀ i = i
+
+no-shorter : {t : Tree} (S : List ℕ) (from to i : ℕ) → Whole t S from to → i ≤ from → i ≤ length (take from S)
+no-shorter S from to i g h = rw length-take (omega arith)
+
+-- a turn: the store, where the turn stands, and the top of the row there, in any tree that the store may hold
+module _ (c : tie.In-loop Inv-loop μ-loop) where
+  abbrev S : List ℕ
+  S = c .before .before .before .args .store .now
+
+  abbrev from : ℕ
+  from = c .before .before .before .args .from
+
+  abbrev Holds : Tree → Type 0
+  Holds t = Whole t S from (c .before .before .before .args .to)
+
+  abbrev i : ℕ
+  i = c .before .loop .i
+
+  reach : i ≤ length S
+  reach = c .before .loop .inv .0
+
+  abbrev seen : {t : Tree} (g : Holds t) → View (to-pattern t) (take from S) S i (c .before .loop .inv .1 _ g .ahead)
+  seen g = view reach (c .before .loop .inv .1 _ g .left) (shorter S from i (c .loop-test .taken))
+
+  abbrev held : Holds (c .before .before .before .pre .tree)
+  held = c .before .before .before .pre .whole
+
+  room : 2 ≤ i
+  room = omega (arith, seen held .here .room)
+
+-- the records that are read before the top's own are there
+pack-room : (c : tie.At-match-keys2 Inv-loop μ-loop) → 4 ≤ i (c .before .before)
+pack-room c = let e = c .before .before in omega (arith, unpack-room (reach e) (seen e (held e)) (c .match .keys2))
+
+member-room : (c : tie.At-match-keys3 Inv-loop μ-loop) → 4 ≤ i (c .before .before)
+member-room c = let e = c .before .before in omega (arith, tuple-room (reach e) (seen e (held e)) (c .match .keys3))
+
+-- an access: its receiver, and its parts where there is a path
+module _ (c : tie.At-match-keys4 Inv-loop μ-loop) where
+  abbrev turn : tie.In-loop Inv-loop μ-loop
+  turn = c .before .before
+
+  abbrev receives : {t : Tree} (g : Holds turn t) → Receives (take (from turn) (S turn) ++ rows (seen turn g .under)) (S turn) (i turn) (seen turn g .tree)
+  receives g = top-prim (reach turn) (seen turn g) (c .match .keys4)
+
+  access-room : 6 ≤ i turn
+  access-room = omega (arith, prim-room (receives (held turn)))
+
+module _ (c : tie.Else5 Inv-loop μ-loop) where
+  abbrev access : tie.At-match-keys4 Inv-loop μ-loop
+  access = c .before .before .before
+
+  abbrev parts : {t : Tree} (g : Holds (turn access) t) → Shape (take (from (turn access)) (S (turn access)) ++ rows (seen (turn access) g .under)) (S (turn access)) (i (turn access)) (seen (turn access) g .tree)
+  parts g = shape-of (reach (turn access)) (receives access g) (c .before .if4 .left) (c .if5 .left)
+
+  path-room : 8 ≤ i (turn access)
+  path-room = omega (arith, parts (held (turn access)) .room)
+
+loop-holds : tie.Need-loop-holds Inv-loop μ-loop
+loop-holds c = (c .before .pre .whole .within, λ t g. record { ahead = []; left = whole-ahead g })
+
+sub-word : tie.Need-sub-word Inv-loop μ-loop
+sub-word c = room c
+
+mul-word : tie.Need-mul-word Inv-loop μ-loop
+mul-word c = omega arith
+
+shared-slice-read-word : tie.Need-shared-slice-read-word Inv-loop μ-loop
+shared-slice-read-word c = omega arith
+
+sub-i : tie.Need-sub-i Inv-loop μ-loop
+sub-i c = room (c .before .before)
+
+loop-less : tie.Need-loop-less Inv-loop μ-loop
+loop-less c = omega arith
+
+loop-again : tie.Need-loop-again Inv-loop μ-loop
+loop-again c =
+    let e = c .before .before in
+    let h = reach e in (
+      omega arith,
+      λ t g.
+          ⊎-elim
+          (λ k. record { ahead = _; left = ident-step (seen e g) k })
+          (λ k. by-test (eqb (getD (S e) (i e - 1) 0) 0)
+          (λ z. record { ahead = _; left = group-bare (seen e g) k (eqb-true _ _ z) })
+          (λ z. record { ahead = _; left = group-modified (seen e g) k (eqb-false _ _ z) }))
+          (c .match .keys1),
+    )
+
+sub-if1 : tie.Need-sub-if1 Inv-loop μ-loop
+sub-if1 c = pack-room c
+
+mul-if1 : tie.Need-mul-if1 Inv-loop μ-loop
+mul-if1 c = omega arith
+
+shared-slice-read-if1 : tie.Need-shared-slice-read-if1 Inv-loop μ-loop
+shared-slice-read-if1 c = omega arith
+
+sub-i-2 : tie.Need-sub-i-2 Inv-loop μ-loop
+sub-i-2 c = pack-room (c .before .before)
+
+loop-less-2 : tie.Need-loop-less-2 Inv-loop μ-loop
+loop-less-2 c = omega arith
+
+loop-again-2 : tie.Need-loop-again-2 Inv-loop μ-loop
+loop-again-2 c =
+    let e = c .before .before .before .before in
+    let h = reach e in
+    (omega arith, λ t g. record { ahead = _; left = unpack-absent h (seen e g) (c .before .before .match .keys2) (c .if1 .taken) })
+
+sub-i-3 : tie.Need-sub-i-3 Inv-loop μ-loop
+sub-i-3 c = room (c .before .before .before .before)
+
+loop-less-3 : tie.Need-loop-less-3 Inv-loop μ-loop
+loop-less-3 c = omega arith
+
+loop-again-3 : tie.Need-loop-again-3 Inv-loop μ-loop
+loop-again-3 c =
+    let e = c .before .before .before .before in
+    let h = reach e in
+    (omega arith, λ t g. record { ahead = _; left = unpack-other h (seen e g) (c .before .before .match .keys2) (c .if1 .left) })
+
+sub-list : tie.Need-sub-list Inv-loop μ-loop
+sub-list c = member-room c
+
+mul-list : tie.Need-mul-list Inv-loop μ-loop
+mul-list c = omega arith
+
+shared-slice-read-list : tie.Need-shared-slice-read-list Inv-loop μ-loop
+shared-slice-read-list c = omega arith
+
+returns : tie.Need-returns Inv-loop μ-loop
+returns c =
+    let e = c .before .before .before .before in
+    λ t g. record { how = tuple-not-list (reach e) (seen e g) (c .before .before .match .keys3) (c .if2 .taken) }
+
+returns-2 : tie.Need-returns-2 Inv-loop μ-loop
+returns-2 c =
+    let e = c .before .before .before .before .before in
+    λ t g. record { how = tuple-empty (reach e) (seen e g) (c .before .before .before .match .keys3) (c .if3 .taken) }
+
+sub-i-4 : tie.Need-sub-i-4 Inv-loop μ-loop
+sub-i-4 c = member-room (c .before .before .before)
+
+loop-less-4 : tie.Need-loop-less-4 Inv-loop μ-loop
+loop-less-4 c = omega arith
+
+loop-again-4 : tie.Need-loop-again-4 Inv-loop μ-loop
+loop-again-4 c =
+    let e = c .before .before .before .before .before in
+    let h = reach e in
+    (omega arith, λ t g. record { ahead = _; left = tuple-step h (seen e g) (c .before .before .before .match .keys3) (c .before .if2 .left) (c .if3 .left) })
+
+sub-list-2 : tie.Need-sub-list-2 Inv-loop μ-loop
+sub-list-2 c = omega (arith, access-room c)
+
+mul-list-2 : tie.Need-mul-list-2 Inv-loop μ-loop
+mul-list-2 c = omega arith
+
+shared-slice-read-list-2 : tie.Need-shared-slice-read-list-2 Inv-loop μ-loop
+shared-slice-read-list-2 c = omega arith
+
+returns-3 : tie.Need-returns-3 Inv-loop μ-loop
+returns-3 c =
+    let a = c .before .before in
+    let h = reach (turn a) in
+    λ t g. record { how = no-top (seen (turn a) g) (not-path-step (receives a g) (c .if4 .taken)) }
+
+returns-4 : tie.Need-returns-4 Inv-loop μ-loop
+returns-4 c =
+    let a = c .before .before .before in
+    let h = reach (turn a) in
+    λ t g. record { how = no-top (seen (turn a) g) (no-path-step (receives a g) (c .if5 .taken)) }
+
+sub-last : tie.Need-sub-last Inv-loop μ-loop
+sub-last c = omega (arith, path-room c)
+
+mul-last : tie.Need-mul-last Inv-loop μ-loop
+mul-last c = omega arith
+
+shared-slice-read-last : tie.Need-shared-slice-read-last Inv-loop μ-loop
+shared-slice-read-last c = omega arith
+
+sub-skip : tie.Need-sub-skip Inv-loop μ-loop
+sub-skip c = omega (arith, path-room (c .before .before))
+
+skip-requires : tie.Need-skip-requires Inv-loop μ-loop
+skip-requires c κs =
+    let p = c .before .before in
+    let h = reach (turn (access p)) in
+    (omega arith, record { base = _; trees = attribute-trees (parts p (held (turn (access p)))) (c .if6 .taken) })
+
+loop-less-5 : tie.Need-loop-less-5 Inv-loop μ-loop
+loop-less-5 c =
+    let p = c .before .before .before in
+    let e = turn (access p) in
+    omega (arith, c .skip .ensures _ (attribute-trees (parts p (held e)) (c .before .if6 .taken)) .at, parts p (held e) .room)
+
+loop-again-5 : tie.Need-loop-again-5 Inv-loop μ-loop
+loop-again-5 c =
+    let p = c .before .before .before in
+    let e = turn (access p) in
+    let h = reach e in
+    let k = c .before .if6 .taken in
+    (omega (arith, loop-less-5 c), λ t g. record { ahead = _; left = off-top (seen e g) _ (attribute-pat (parts p g) k) (c .skip .ensures _ (attribute-trees (parts p g) k) .text) })
+
+returns-5 : tie.Need-returns-5 Inv-loop μ-loop
+returns-5 c =
+    let p = c .before .before .before in
+    let e = turn (access p) in
+    λ t g. record { how = no-top (seen e g) (no-item-step (parts p g) (c .before .if6 .left) (c .if7 .taken)) }
+
+sub-skip-2 : tie.Need-sub-skip-2 Inv-loop μ-loop
+sub-skip-2 c = omega (arith, path-room (c .before .before .before))
+
+add-skip : tie.Need-add-skip Inv-loop μ-loop
+add-skip c =
+    let e = turn (access (c .before .before .before)) in
+    omega (arith, e .before .before .shared-slice-known .given (i e - 4))
+
+skip-requires-2 : tie.Need-skip-requires-2 Inv-loop μ-loop
+skip-requires-2 c κs =
+    let p = c .before .before .before in
+    let h = reach (turn (access p)) in
+    (omega arith, record { base = _; trees = index-trees (parts p (held (turn (access p)))) (c .if7 .left) })
+
+loop-less-6 : tie.Need-loop-less-6 Inv-loop μ-loop
+loop-less-6 c =
+    let p = c .before .before .before .before in
+    let e = turn (access p) in
+    omega (arith, c .skip2 .ensures _ (index-trees (parts p (held e)) (c .before .if7 .left)) .at, parts p (held e) .room)
+
+loop-again-6 : tie.Need-loop-again-6 Inv-loop μ-loop
+loop-again-6 c =
+    let p = c .before .before .before .before in
+    let e = turn (access p) in
+    let h = reach e in
+    let k = c .before .if7 .left in
+    (omega (arith, loop-less-6 c), λ t g. record { ahead = _; left = off-top (seen e g) _ (index-pat (parts p g) k) (c .skip2 .ensures _ (index-trees (parts p g) k) .text) })
+
+returns-6 : tie.Need-returns-6 Inv-loop μ-loop
+returns-6 c =
+    let e = c .before .before in
+    let n = c .match .rest in
+    λ t g. record { how = no-pattern (seen e g) (λ k. n .0 .0 .0 .1 (inl k)) (λ k. n .0 .0 .0 .1 (inr k)) (n .0 .0 .1) (n .0 .1) (n .1) }
+
+returns-7 : tie.Need-returns-7 Inv-loop μ-loop
+returns-7 c = λ t g. record { how = settled (all-read _ _ (c .before .loop .inv .0) (c .before .loop .inv .1 _ g .left) (no-shorter _ _ _ _ g (c .loop-test .left))) }
+
+pub settles-spec : {M : Type 1} → statement M
+settles-spec =
+    tie.close
+    (tie.spec
+    Inv-loop
+    μ-loop
+    loop-holds
+    sub-word
+    mul-word
+    shared-slice-read-word
+    sub-i
+    loop-less
+    loop-again
+    sub-if1
+    mul-if1
+    shared-slice-read-if1
+    sub-i-2
+    loop-less-2
+    loop-again-2
+    sub-i-3
+    loop-less-3
+    loop-again-3
+    sub-list
+    mul-list
+    shared-slice-read-list
+    returns
+    returns-2
+    sub-i-4
+    loop-less-4
+    loop-again-4
+    sub-list-2
+    mul-list-2
+    shared-slice-read-list-2
+    returns-3
+    returns-4
+    sub-last
+    mul-last
+    shared-slice-read-last
+    sub-skip
+    skip-requires
+    loop-less-5
+    loop-again-5
+    returns-5
+    sub-skip-2
+    add-skip
+    skip-requires-2
+    loop-less-6
+    loop-again-6
+    returns-6
+    returns-7)

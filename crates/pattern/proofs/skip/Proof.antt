@@ -1,0 +1,74 @@
+-- `pattern::skip` meets its contract: each record that is passed is a tree less and its children more. Assumes nothing.
+use mathlib.Core.List.{List}
+use Prim.Native.Nat.{ℕ, _-_, _≤_}
+use native.Mathlib.Omega.{arith}
+use native.Mathlib.Nat.{le-trans, sub-le}
+use borrow.Author.Needs.{needs}
+use lib.ListN.{length, take}
+use Rattle.tree.specs.Rows.{Trees, Peeled, peel, enough, ended}
+use Rattle.pattern.proofs.skip.Statement.{statement}
+use Rattle.pattern.proofs.skip.Tie as tie
+
+-- whatever stands before the trees, it and those that are still needed stand up to i
+abbrev Inv-loop : tie.InvT-loop
+Inv-loop store to n i₀ need₀ i need = (i ≤ length store) × ((B : List ℕ) → Trees B (take to store) n → Trees B (take i store) need)
+
+abbrev μ-loop : tie.MeasureT-loop
+μ-loop store to n i₀ need₀ i need = i
+
+-- a turn: the last of the trees is taken apart
+module _ (c : tie.In-loop Inv-loop μ-loop) where
+  abbrev start : tie.Start Inv-loop μ-loop
+  start = c .before .before
+
+  abbrev peeled : {B : List ℕ} → Trees B (take (start .args .to) (start .args .store .now)) (start .args .n) → Peeled B (start .args .store .now) (c .before .loop .i) (c .before .loop .need)
+  peeled {B = B} t = peel B (start .args .store .now) (c .before .loop .i) (c .before .loop .need) (c .before .loop .inv .0) (c .before .loop .inv .1 B t) (c .loop-test .taken)
+
+  room : 2 ≤ c .before .loop .i
+  room = omega (arith, peeled (start .pre .1 .trees) .room)
+
+loop-holds : tie.Need-loop-holds Inv-loop μ-loop
+loop-holds c = (omega arith, λ B t. t)
+
+sub-i : tie.Need-sub-i Inv-loop μ-loop
+sub-i c = room c
+
+mul-children : tie.Need-mul-children Inv-loop μ-loop
+mul-children c = omega arith
+
+shared-slice-read-children : tie.Need-shared-slice-read-children Inv-loop μ-loop
+shared-slice-read-children c = omega (arith, room (c .before))
+
+sub-need : tie.Need-sub-need Inv-loop μ-loop
+sub-need c = search needs
+
+add-need : tie.Need-add-need Inv-loop μ-loop
+add-need c =
+    let e = c .before in
+    let h = e .before .loop .inv .0 in
+    omega (arith, enough _ (start e .args .store .now) (e .before .loop .i - 2) _ (le-trans (sub-le _ 2) h) (peeled e (start e .pre .1 .trees) .rest))
+
+loop-less : tie.Need-loop-less Inv-loop μ-loop
+loop-less c = omega (arith, room (c .before))
+
+loop-again : tie.Need-loop-again Inv-loop μ-loop
+loop-again c = (omega arith, λ B t. peeled (c .before) t .rest)
+
+returns : tie.Need-returns Inv-loop μ-loop
+returns c = λ B t. ended B (c .before .before .args .store .now) _ _ (c .before .loop .inv .0) (c .before .loop .inv .1 B t) (omega arith)
+
+pub skip-spec : {M : Type 1} → statement M
+skip-spec =
+    tie.close
+    (tie.spec
+    Inv-loop
+    μ-loop
+    loop-holds
+    sub-i
+    mul-children
+    shared-slice-read-children
+    sub-need
+    add-need
+    loop-less
+    loop-again
+    returns)

@@ -1,0 +1,42 @@
+-- `pattern::to_pattern` meets its contract: what `settles` says is what `place` asks for. Assumes nothing.
+use mathlib.Core.Path.{_≡_, refl}
+use mathlib.Core.Bool.{Bool, true, false}
+use borrow.Author.Needs.{needs}
+use Rattle.tree.specs.Tree.{Tree}
+use Rattle.tree.specs.Maybe.{Maybe, nothing}
+use Rattle.pattern.specs.Contract.{Is, Settled}
+use Rattle.pattern.proofs.to_pattern.Statement.{statement}
+use Rattle.pattern.proofs.to_pattern.Tie as tie
+
+yes-of : {m : Maybe Tree} {r : Bool} → r ≡ true → Settled m r → Is m
+yes-of e h = rw e at (h .how)
+
+no-of : {m : Maybe Tree} {r : Bool} → r ≡ false → Settled m r → m ≡ nothing
+no-of e h = rw e at (h .how)
+
+settles-requires : tie.Need-settles-requires
+settles-requires c κs = search needs
+
+place-requires : tie.Need-place-requires
+place-requires c κs = let g = c .before .before .before .before .before .pre .whole in
+    let s = yes-of (c .before .if1 .taken) (c .before .before .settles .ensures _ g) in
+    record { tree = _; pat = s .what; fit = record { whole = g; same = s .same } }
+
+same-length : tie.Need-same-length
+same-length c = search needs
+
+returns : tie.Need-returns
+returns c = λ t g.
+    let s = yes-of (c .before .before .before .before .if1 .taken) (c .before .before .before .before .before .settles .ensures t g) in
+    record { how = (s .what, s .same, c .before .before .place .ensures t (s .what) (record { whole = g; same = s .same })) }
+
+same-length-2 : tie.Need-same-length-2
+same-length-2 c = search needs
+
+returns-2 : tie.Need-returns-2
+returns-2 c = λ t g. record { how = (no-of (c .if1 .left) (c .before .settles .ensures t g), refl) }
+
+pub to-pattern-spec : {M : Type 1} → statement M
+to-pattern-spec =
+    tie.close
+    (tie.spec settles-requires place-requires same-length returns same-length-2 returns-2)

@@ -1,0 +1,102 @@
+-- What the functions on patterns ask of the store, and say of it, as it was (S) and as it is (S′). Assumes nothing.
+use mathlib.Core.Path.{_≡_}
+use mathlib.Core.Bool.{Bool, true, false}
+use mathlib.Core.List.{List, _∷_, _++_}
+use Prim.Native.Nat.{ℕ, _+_, _-_, _≤_}
+use lib.ListN.{length, take, drop, getD}
+use Rattle.tree.specs.Tree.{Tree, records}
+use Rattle.tree.specs.Records.{Small}
+use Rattle.tree.specs.Rows.{Trees}
+use Rattle.tree.specs.Maybe.{Maybe, nothing, just}
+use Rattle.grammar.specs.Reading.Pattern.{to-pattern}
+use Rattle.pattern.specs.Word
+use Rattle.pattern.specs.declared.Converted.{Converted}
+use Rattle.pattern.specs.declared.Converted.the-variants.{NotAPattern, End}
+
+-- a record was put at a place
+pub record Put (at word value : ℕ) (S S′ : List ℕ) : Type 0 where
+  pub head : take at S′ ≡ take at S
+  pub tail : drop at S′ ≡ word ∷ value ∷ drop (at + 2) S
+
+-- the words from «from» to «to» moved right: what stood before their new place is as it was, and so is what stands after it
+pub record Right (from to by : ℕ) (S S′ : List ℕ) : Type 0 where
+  pub head : take (from + by) S′ ≡ take (from + by) S
+  pub tail : drop (from + by) S′ ≡ drop from (take to S) ++ drop (to + by) S
+
+-- the words from «from» to «to» moved left
+pub record Left (from to by : ℕ) (S S′ : List ℕ) : Type 0 where
+  pub text : take (to - by) S′ ≡ take (from - by) S ++ drop from (take to S)
+
+-- n trees end here, after something
+pub record Ended (T : List ℕ) (n : ℕ) : Type 0 where
+  pub base : List ℕ
+  pub trees : Trees base T n
+
+-- the tree t stands from «from» to «to»
+pub record Whole (t : Tree) (S : List ℕ) (from to : ℕ) : Type 0 where
+  pub small : Small t
+  pub text : take to S ≡ take from S ++ records t
+  pub start : from ≤ to
+  pub within : to ≤ length S
+
+pub record A-tree (S : List ℕ) (from to : ℕ) : Type 0 where
+  pub tree : Tree
+  pub whole : Whole tree S from to
+
+-- m is a pattern
+pub record Is (m : Maybe Tree) : Type 0 where
+  pub what : Tree
+  pub same : m ≡ just what
+
+-- the test's answer
+abbrev pub SettledAs : Maybe Tree → Bool → Type 0
+SettledAs m true = Is m
+SettledAs m false = m ≡ nothing
+
+pub record Settled (m : Maybe Tree) (r : Bool) : Type 0 where
+  pub how : SettledAs m r
+
+-- after B and up to i stands an access that is the pattern p, and the place for the pattern ends at w
+pub record Access (B : List ℕ) (p : Tree) (S : List ℕ) (i w : ℕ) : Type 0 where
+  pub tree : Tree
+  pub small : Small tree
+  pub text : take i S ≡ B ++ records tree
+  pub same : to-pattern tree ≡ just p
+  pub kind : getD S (i - 2) 0 ≡ Word.Primary
+  pub before : i ≤ w
+  pub within : w ≤ length S
+
+pub record An-access (S : List ℕ) (i w : ℕ) : Type 0 where
+  pub base : List ℕ
+  pub pat : Tree
+  pub it : Access base pat S i w
+
+-- the pattern ends at w, and what stood before the access stands as it was
+pub record Placed (B : List ℕ) (p : Tree) (S : List ℕ) (i w r : ℕ) (S′ : List ℕ) : Type 0 where
+  pub at : r ≡ length B
+  pub on : r ≤ i
+  pub head : take r S′ ≡ B
+  pub tail : drop (r + (w - i)) S′ ≡ records p ++ drop w S
+
+-- the tree t, which is the pattern p, stands from «from» to «to»
+pub record Fit (t p : Tree) (S : List ℕ) (from to : ℕ) : Type 0 where
+  pub whole : Whole t S from to
+  pub same : to-pattern t ≡ just p
+
+pub record A-fit (S : List ℕ) (from to : ℕ) : Type 0 where
+  pub tree : Tree
+  pub pat : Tree
+  pub fit : Fit tree pat S from to
+
+-- the pattern p stands from «from» to r
+pub record Stands (p : Tree) (S : List ℕ) (from to r : ℕ) (S′ : List ℕ) : Type 0 where
+  pub text : take r S′ ≡ take from S ++ records p
+  pub short : r ≤ to
+
+-- no pattern, and the store as it was; or the pattern, and where its records end
+abbrev pub AnswersAs : Maybe Tree → List ℕ → ℕ → ℕ → List ℕ → Converted → Type 0
+AnswersAs m S from to S′ NotAPattern = (m ≡ nothing) × (S′ ≡ S)
+AnswersAs m S from to S′ (End r) = (p : Tree) × (m ≡ just p) × Stands p S from to r S′
+
+pub record Answers (m : Maybe Tree) (S : List ℕ) (from to : ℕ) (S′ : List ℕ) (r : Converted) : Type 0 where
+  pub how : AnswersAs m S from to S′ r
