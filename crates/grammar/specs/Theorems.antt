@@ -4,9 +4,9 @@
 -- 3. A tree is valid exactly if there are tokens whose clean reading, limits aside, gives it; and exactly if the writer does not refuse it with 65.
 -- 4. The depth that a statement's canonical tokens need is a number computed from the tree: with fewer depths the reading stops with 62, else it ends.
 -- 5. The number of tokens of a statement, computed from the tree, is half the length of what is written.
--- 6. Of two sheets that read cleanly, the trees are the eqb-true exactly if the canonical runs are, and each run reads back to those trees.
--- 7. Trees with the eqb-true records are the eqb-true, and decoding a tree's records gives the tree; words that decode to no tree are no clean reading's.
--- 8. The sheets of document 01 say what it says, those with the eqb-true and with other canonical tokens among them: `sheets-tried` in Sheets.antt.
+-- 6. Of two sheets that read cleanly, the trees are the same exactly if the canonical runs are, and each run reads back to those trees.
+-- 7. Trees with the same records are the same, and decoding a tree's records gives the tree; words that decode to no tree are no clean reading's.
+-- 8. The sheets of document 01 say what it says, those with the same and with other canonical tokens among them: `sheets-tried` in Sheets.antt.
 use mathlib.Core.Path.{_≡_, refl, sym, ap, _∙_, subst}
 use mathlib.Core.Logic.{_↔_}
 use mathlib.Core.Bool.{Bool, true, false}
@@ -50,7 +50,7 @@ sound d ts f e = clean-sound d ts f e
 pub sound-roles : (d : ℕ) → Sound (level d)
 sound-roles d = level-sound d
 
--- words are the eqb-true as a test says
+-- words are the same as a test says
 same-words-are : (vs ws : List ℕ) → same-words vs ws ≡ true → vs ≡ ws
 same-words-are [] [] e = refl
 same-words-are [] (w ∷ ws) e = clash e refl
