@@ -35,7 +35,7 @@ holds-spoil q (h-bad x) = h-bad x
 holds-spoil q h-fail = h-fail
 holds-spoil q h-stop = h-stop
 
-holds-then : {A B : Type 0} {Q : A → Type 0} {P : B → Type 0} (q : List Error) {d : Res A} {k : A → List Error → List ℕ → Res B}
+pub holds-then : {A B : Type 0} {Q : A → Type 0} {P : B → Type 0} (q : List Error) {d : Res A} {k : A → List Error → List ℕ → Res B}
     → Holds Q d → ((a : A) (q : List Error) (r : List ℕ) → Q a → Holds P (k a q r)) → Holds P (then q d k)
 unfolding then
 holds-then q (h-ok x) h = h _ _ _ x
@@ -44,7 +44,7 @@ holds-then q h-fail h = h-fail
 holds-then q h-stop h = h-stop
 
 -- of what was read nothing is asked
-holds-past : {A B : Type 0} {P : B → Type 0} (q : List Error) (d : Res A) {k : A → List Error → List ℕ → Res B} → ((a : A) (q : List Error) (r : List ℕ) → Holds P (k a q r)) → Holds P (then q d k)
+pub holds-past : {A B : Type 0} {P : B → Type 0} (q : List Error) (d : Res A) {k : A → List Error → List ℕ → Res B} → ((a : A) (q : List Error) (r : List ℕ) → Holds P (k a q r)) → Holds P (then q d k)
 unfolding then
 holds-past q (ok a r) h = h _ _ _
 holds-past q (bad a q′ r) h = holds-spoil _ (h _ _ _)
@@ -59,7 +59,7 @@ holds-either q (h-bad x) h g = holds-spoil _ (h _ _ _ x)
 holds-either q h-fail h g = holds-spoil _ (g _ _ _)
 holds-either q h-stop h g = h-stop
 
-holds-if : {A : Type 0} {P : A → Type 0} (b : Bool) {x y : Unit {0} → Res A} → ((u : Unit {0}) → Holds P (x u)) → ((u : Unit {0}) → Holds P (y u)) → Holds P (ifb b x y)
+pub holds-if : {A : Type 0} {P : A → Type 0} (b : Bool) {x y : Unit {0} → Res A} → ((u : Unit {0}) → Holds P (x u)) → ((u : Unit {0}) → Holds P (y u)) → Holds P (ifb b x y)
 unfolding ifb
 holds-if true f g = f tt
 holds-if false f g = g tt
@@ -335,7 +335,7 @@ joined-small ps k q ts h (small-variadic {v = v}) = holds-if _ (λ _. h-fail) λ
 joined-small ps k q ts h (small-default {v = v} {e = e} x) = holds-if _ (λ _. h-ok (record { first = h .first; second = smalls-snoc _ _ (h .second) (default-def-small v e x); third = h .third })) (λ _. h-fail)
 
 module _ (low : Level) (S : SmallLevel low) where
-  binop-small : (l : ℕ) (q : List Error) (ts : List ℕ) → Holds Small (binop-expr low l q ts)
+  pub binop-small : (l : ℕ) (q : List Error) (ts : List ℕ) → Holds Small (binop-expr low l q ts)
   unfolding binop-expr
   binop-small zero q ts = S .s-unary q ts
   binop-small (suc l) q ts = holds-then q (binop-small l q ts) λ t q₁ r x. operators-small (binop-expr low l) (binop-small l) (suc l) (length r) t q₁ r x
@@ -349,7 +349,7 @@ module _ (low : Level) (S : SmallLevel low) where
       holds-then q (binop-small 10 q rest) λ t q₃ r x. members-small n (snoc f t) q₃ r (smalls-snoc f t h x))
       (λ _. h-ok (search (arith, h)))
 
-  tuple-small : (q : List Error) (ts : List ℕ) → Holds Small (tuple-expr low q ts)
+  pub tuple-small : (q : List Error) (ts : List ℕ) → Holds Small (tuple-expr low q ts)
   unfolding tuple-expr Small
   tuple-small q ts =
       holds-then q (binop-small 10 q ts) λ t q₁ r x.
@@ -373,7 +373,7 @@ module _ (low : Level) (S : SmallLevel low) where
       holds-then q₂ (expr-small q₂ r) λ e q₃ s x.
       holds-past q₃ (expect _ _ q₃ s) λ tok₂ q₄ u. h-ok (search (arith, with-action-small m e x))
 
-  atom-small : (q : List Error) (ts : List ℕ) → Holds Small (atom low q ts)
+  pub atom-small : (q : List Error) (ts : List ℕ) → Holds Small (atom low q ts)
   unfolding atom
   atom-small q ts = holds-past q (look q ts) λ tok q₁ rest. holds-if _ (λ _. group-small q rest) (λ _. literal-small tok q rest)
 
@@ -433,7 +433,7 @@ module _ (low : Level) (S : SmallLevel low) where
       holds-if _ (λ _. holds-then q (table-items-small (length rest) none q rest nothing-small) λ g q₂ r x. path-small calls n (snoc f (Node.invoke-table g)) q₂ r (smalls-snoc f _ h (invoke-table-small g x))) λ _.
       h-ok h
 
-  primary-small : (q : List Error) (ts : List ℕ) → Holds Small (primary low q ts)
+  pub primary-small : (q : List Error) (ts : List ℕ) → Holds Small (primary low q ts)
   unfolding primary
   primary-small q ts =
       holds-then q (atom-small q ts) λ a q₁ r x.
@@ -532,7 +532,7 @@ module _ (low : Level) (S : SmallLevel low) where
       holds-if _ (λ _. holds-then q (table-items-small (length rest) none q rest nothing-small) λ f q₂ r x. h-ok (search (arith, x))) λ _.
       holds-if _ (λ _. label-small _ q rest) (λ _. unpack-small q ts)
 
-  unary-small : (q : List Error) (ts : List ℕ) → Holds Small (unary-expr low q ts)
+  pub unary-small : (q : List Error) (ts : List ℕ) → Holds Small (unary-expr low q ts)
   unfolding unary-expr Small
   unary-small q ts =
       holds-past q (look q ts) λ tok q₁ rest. holds-if _

@@ -370,6 +370,15 @@ module _ (I : List ℕ → Type 0) (step : Kept I) where
   unfolding failed
   failed-keeps d e = search (keeps, synchronize-keeps, level-keeps) depth 9
 
+  start-behind : (n : ℕ) → Behind I (start n)
+  unfolding start
+  start-behind zero q ts i = k-fail i
+  start-behind (suc n) q ts i = search (keeps, look-keeps, start-behind n) depth 9
+
+  pub next-keeps : (d : ℕ) → Behind I (next d)
+  unfolding next
+  next-keeps d = search (keeps, start-behind, stmt-keeps, level-keeps, failed-keeps) depth 9
+
 -- s is no longer than r
 abbrev pub Left : List ℕ → List ℕ → Type 0
 Left r s = length s ≤ length r

@@ -1,0 +1,38 @@
+-- The needs of `parser::index` in its cycle of calls. Assumes nothing.
+use mathlib.Core.Path.{refl}
+use Prim.Native.Nat.{ℕ}
+use borrow.Author.Needs.{needs}
+use native.Mathlib.Omega.{arith}
+use Rattle.grammar.specs.Reading.Look.{expect}
+use Rattle.grammar.specs.Reading.Expr.{expr}
+use Rattle.parser.proofs.Laws.{way, goes, done, undone, did-not, fails}
+use Rattle.parser.proofs.Writing.{closed-by, before}
+use Rattle.parser.proofs.Shapes.{given}
+use Rattle.parser.proofs.PathsAtom.{index-step}
+use Rattle.parser.proofs.index.Reads as reads
+use Rattle.parser.proofs.+access+atom+begin+binop+block+body+branch+call+caught+commas+control+decl+def+expr+field+for_in+group+if_expr+index+item+label+list+lvalue+operand+param+params+path+primary+repeat+right+stmt+sync+table+target+tuple+turn+unary+unpack+value+while_do.Lts-index as lts
+use Rattle.parser.proofs.+access+atom+begin+binop+block+body+branch+call+caught+commas+control+decl+def+expr+field+for_in+group+if_expr+index+item+label+list+lvalue+operand+param+params+path+primary+repeat+right+stmt+sync+table+target+tuple+turn+unary+unpack+value+while_do.Proof.Base.{index-calls, index-at}
+
+pub expr-requires : (t : ℕ) → lts.Need-expr-requires (index-calls t) (index-at t) reads.Post
+expr-requires t c κs = omega arith
+
+pub enum-known-r : (t : ℕ) → lts.Need-enum-known-r (index-calls t) (index-at t) reads.Post
+enum-known-r t c = search needs
+
+pub same-length : (t : ℕ) → lts.Need-same-length (index-calls t) (index-at t) reads.Post
+same-length t c = search needs
+
+pub returns : (t : ℕ) → lts.Need-returns (index-calls t) (index-at t) reads.Post
+returns t c = did-not (fails _ (way _ (index-step _ _ _)) (undone (c .match .keys2) (c .before .before .before .expr .ensures)) refl (omega arith))
+
+pub expect-requires : (t : ℕ) → lts.Need-expect-requires (index-calls t) (index-at t) reads.Post
+expect-requires t c κs = let w = done (c .before .r .given .1) (c .before .before .before .before .before .expr .ensures) in
+    w .moved .within
+
+pub same-length-2 : (t : ℕ) → lts.Need-same-length-2 (index-calls t) (index-at t) reads.Post
+same-length-2 t c = search needs
+
+pub returns-2 : (t : ℕ) → lts.Need-returns-2 (index-calls t) (index-at t) reads.Post
+returns-2 t c = let w = done (c .before .before .r .given .1) (c .before .before .before .before .before .before .expr .ensures) in
+    let on = goes _ (way _ (index-step _ _ _)) (w .same) in
+    closed-by w (omega (arith, c .before .before .before .before .before .before .before .before .before .before .before .pre)) on (c .expect .ensures) (omega arith) (omega arith)

@@ -1,0 +1,108 @@
+-- The needs of `parser::unpack` in its cycle of calls. Assumes nothing.
+use mathlib.Core.Path.{refl}
+use Prim.Native.Nat.{ℕ}
+use borrow.Author.Needs.{needs}
+use native.Mathlib.Omega.{arith}
+use lib.ListN.{take}
+use Rattle.tree.specs.Node
+use Rattle.parser.specs.Parts.{unpack-end}
+use Rattle.parser.proofs.Laws.{way, here, link, goes, done, undone, did-not, taken, not-taken, fails, blind, prefix, relabel}
+use Rattle.grammar.specs.Laws.Kinds.{level-small, primary-small}
+use Rattle.parser.proofs.PathsPrimary.{holds-of, tree-ends, writing, unpack-looks, dots-looks, unpack-lone, unpack-some, dots-more, dots-none}
+use Rattle.parser.proofs.unpack.Reads as reads
+use Rattle.parser.proofs.+access+atom+begin+binop+block+body+branch+call+caught+commas+control+decl+def+expr+field+for_in+group+if_expr+index+item+label+list+lvalue+operand+param+params+path+primary+repeat+right+stmt+sync+table+target+tuple+turn+unary+unpack+value+while_do.Lts-unpack as lts
+use Rattle.parser.proofs.+access+atom+begin+binop+block+body+branch+call+caught+commas+control+decl+def+expr+field+for_in+group+if_expr+index+item+label+list+lvalue+operand+param+params+path+primary+repeat+right+stmt+sync+table+target+tuple+turn+unary+unpack+value+while_do.Proof.Base.{unpack-calls, unpack-at}
+
+pub look-requires : (t : ℕ) → lts.Need-look-requires (unpack-calls t) (unpack-at t) reads.Post
+look-requires t c κs = search needs
+
+pub enum-known-kind : (t : ℕ) → lts.Need-enum-known-kind (unpack-calls t) (unpack-at t) reads.Post
+enum-known-kind t c = search needs
+
+pub add-t19 : (t : ℕ) → lts.Need-add-t19 (unpack-calls t) (unpack-at t) reads.Post
+add-t19 t c = let tk = taken (c .before .before .kind .given .1) (c .before .before .before .before .look .ensures) in
+    omega arith
+
+pub lone-unpack-requires : (t : ℕ) → lts.Need-lone-unpack-requires (unpack-calls t) (unpack-at t) reads.Post
+lone-unpack-requires t c κs = let tk = taken (c .before .before .before .kind .given .1) (c .before .before .before .before .before .look .ensures) in
+    omega arith
+
+pub same-length : (t : ℕ) → lts.Need-same-length (unpack-calls t) (unpack-at t) reads.Post
+same-length t c = search needs
+
+pub returns : (t : ℕ) → lts.Need-returns (unpack-calls t) (unpack-at t) reads.Post
+returns t c = let tk = taken (c .before .before .before .before .before .before .kind .given .1) (c .before .before .before .before .before .before .before .before .look .ensures) in
+    let e = c .before .before .lone-unpack .ensures in
+    record { how = record { what = Node.unpack Node.absent; same = way _ (unpack-lone _ _ tk (c .before .before .before .before .if1 .taken)); moved = omega (arith, c .before .before .before .before .before .before .before .before .before .before .before .pre, tk .within); room = omega (arith, e .up, e .far); text = e .text } }
+
+pub primary-requires : (t : ℕ) → lts.Need-primary-requires (unpack-calls t) (unpack-at t) reads.Post
+primary-requires t c κs = omega arith
+
+pub enum-known-r : (t : ℕ) → lts.Need-enum-known-r (unpack-calls t) (unpack-at t) reads.Post
+enum-known-r t c = search needs
+
+pub same-length-2 : (t : ℕ) → lts.Need-same-length-2 (unpack-calls t) (unpack-at t) reads.Post
+same-length-2 t c = search needs
+
+pub returns-2 : (t : ℕ) → lts.Need-returns-2 (unpack-calls t) (unpack-at t) reads.Post
+returns-2 t c = let tk = taken (c .before .before .before .before .before .before .before .before .kind .given .1) (c .before .before .before .before .before .before .before .before .before .before .look .ensures) in
+    let path = way _ (unpack-some _ _ tk (c .before .before .before .before .before .before .if1 .left)) in
+    did-not (fails _ path (undone (c .match2 .keys2) (c .before .before .before .primary .ensures)) refl (omega arith))
+
+pub look-requires-2 : (t : ℕ) → lts.Need-look-requires-2 (unpack-calls t) (unpack-at t) reads.Post
+look-requires-2 t c κs = let w = done (c .before .r .given .1) (c .before .before .before .before .before .primary .ensures) in
+    w .moved .within
+
+pub enum-known-next : (t : ℕ) → lts.Need-enum-known-next (unpack-calls t) (unpack-at t) reads.Post
+enum-known-next t c = search needs
+
+pub add-unpack-end : (t : ℕ) → lts.Need-add-unpack-end (unpack-calls t) (unpack-at t) reads.Post
+add-unpack-end t c = let tk2 = taken (c .before .before .before .next .given .1) (c .before .before .before .before .before .look2 .ensures) in
+    omega arith
+
+pub unpack-end-requires : (t : ℕ) → lts.Need-unpack-end-requires (unpack-calls t) (unpack-at t) reads.Post
+unpack-end-requires t c κs = let w = done (c .before .before .before .before .before .before .before .r .given .1) (c .before .before .before .before .before .before .before .before .before .before .before .primary .ensures) in
+    let tk2 = taken (c .before .before .before .next .given .1) (c .before .before .before .before .before .look2 .ensures) in
+    let l = tree-ends w (omega (arith, c .before .before .before .before .before .before .before .before .before .before .before .before .before .before .before .before .before .before .before .before .before .pre)) (omega (arith, c .before .before .before .before .before .before .before .before .before .before .before .before .before .before .before .before .before .before .before .before .before .pre, w .moved, w .room, c .before .before .before .before .before .before .before .before .before .before .before .primary .kept .1 .0)) in
+    (omega arith, omega (arith, c .before .before .before .before .before .before .before .before .before .before .before .before .before .before .before .before .before .before .before .before .before .pre, w .moved, w .room, tk2 .within, c .before .before .before .before .before .before .before .before .before .before .before .primary .kept .1 .0))
+
+pub same-length-3 : (t : ℕ) → lts.Need-same-length-3 (unpack-calls t) (unpack-at t) reads.Post
+same-length-3 t c = search needs
+
+pub returns-3 : (t : ℕ) → lts.Need-returns-3 (unpack-calls t) (unpack-at t) reads.Post
+returns-3 t c = let tk = taken (c .before .before .before .before .before .before .before .before .before .before .before .before .before .before .before .before .before .before .before .kind .given .1) (c .before .before .before .before .before .before .before .before .before .before .before .before .before .before .before .before .before .before .before .before .before .look .ensures) in
+    let path = way _ (unpack-some _ _ tk (c .before .before .before .before .before .before .before .before .before .before .before .before .before .before .before .before .before .if1 .left)) in
+    let w = done (c .before .before .before .before .before .before .before .before .before .before .r .given .1) (c .before .before .before .before .before .before .before .before .before .before .before .before .before .before .primary .ensures) in
+    let on = goes _ path (w .same) in
+    let tk2 = taken (c .before .before .before .before .before .before .next .given .1) (c .before .before .before .before .before .before .before .before .look2 .ensures) in
+    writing (c .before .before .unpack-end .ensures (take (c .before .before .before .before .before .before .before .before .before .before .before .before .before .before .before .before .before .before .before .before .before .before .before .before .args .at) (c .before .before .before .before .before .before .before .before .before .before .before .before .before .before .before .before .before .before .before .before .before .before .before .before .args .store .now)) (w .what) (c .before .before .before .before .before .before .before .before .before .before .before .before .before .before .before .before .before .before .before .before .before .before .before .before .args .tokens .now) (holds-of (primary-small _ (level-small (c .before .before .before .before .before .before .before .before .before .before .before .before .before .before .before .before .before .before .before .before .before .before .before .before .args .depth)) _ _) (w .same)) (w .text) (tk2 .within)) (link on (way _ (dots-more _ _ tk2 (c .before .before .before .before .if2 .taken)))) (prefix w (omega (arith, c .before .before .before .before .before .before .before .before .before .before .before .before .before .before .before .before .before .before .before .before .before .before .before .before .pre))) (omega (arith, c .before .before .before .before .before .before .before .before .before .before .before .before .before .before .before .before .before .before .before .before .before .before .before .before .pre, w .moved, tk2 .within)) (omega (arith, c .before .before .before .before .before .before .before .before .before .before .before .before .before .before .before .before .before .before .before .before .before .before .before .before .pre)) (omega (arith, c .before .before .before .before .before .before .before .before .before .before .before .before .before .before .before .before .before .before .before .before .before .before .before .before .pre, w .moved, w .room, tk2 .within, c .before .before .before .before .before .before .before .before .before .before .before .before .before .before .primary .kept .1 .0, c .before .before .unpack-end .kept .0)) (omega (arith, w .room))
+
+pub enum-known-s : (t : ℕ) → lts.Need-enum-known-s (unpack-calls t) (unpack-at t) reads.Post
+enum-known-s t c = search needs
+
+pub enum-known-s-2 : (t : ℕ) → lts.Need-enum-known-s-2 (unpack-calls t) (unpack-at t) reads.Post
+enum-known-s-2 t c = search needs
+
+pub same-length-4 : (t : ℕ) → lts.Need-same-length-4 (unpack-calls t) (unpack-at t) reads.Post
+same-length-4 t c = search needs
+
+pub returns-4 : (t : ℕ) → lts.Need-returns-4 (unpack-calls t) (unpack-at t) reads.Post
+returns-4 t c = let tk = taken (c .before .before .before .before .before .before .before .before .before .before .before .before .before .before .before .kind .given .1) (c .before .before .before .before .before .before .before .before .before .before .before .before .before .before .before .before .before .look .ensures) in
+    let path = way _ (unpack-some _ _ tk (c .before .before .before .before .before .before .before .before .before .before .before .before .before .if1 .left)) in
+    let w = done (c .before .before .before .before .before .before .r .given .1) (c .before .before .before .before .before .before .before .before .before .before .primary .ensures) in
+    let on = goes _ path (w .same) in
+    let tk2 = taken (c .before .before .next .given .1) (c .before .before .before .before .look2 .ensures) in
+    record { how = relabel w (w .what) refl (link on (way _ (dots-none _ _ tk2 (c .if2 .left)))) (w .moved) (w .room) }
+
+pub same-length-5 : (t : ℕ) → lts.Need-same-length-5 (unpack-calls t) (unpack-at t) reads.Post
+same-length-5 t c = search needs
+
+pub returns-5 : (t : ℕ) → lts.Need-returns-5 (unpack-calls t) (unpack-at t) reads.Post
+returns-5 t c = let tk = taken (c .before .before .before .before .before .before .before .before .before .before .before .before .before .before .kind .given .1) (c .before .before .before .before .before .before .before .before .before .before .before .before .before .before .before .before .look .ensures) in
+    let path = way _ (unpack-some _ _ tk (c .before .before .before .before .before .before .before .before .before .before .before .before .if1 .left)) in
+    let w = done (c .before .before .before .before .before .r .given .1) (c .before .before .before .before .before .before .before .before .before .primary .ensures) in
+    let on = goes _ path (w .same) in
+    did-not (blind on (dots-looks (w .what) _ _) (not-taken (c .before .s .given .1) (c .before .before .before .look2 .ensures)) (prefix w (omega arith)) (omega arith))
+
+pub returns-6 : (t : ℕ) → lts.Need-returns-6 (unpack-calls t) (unpack-at t) reads.Post
+returns-6 t c = did-not (blind here (unpack-looks _ _ _) (not-taken (c .before .s2 .given .1) (c .before .before .before .look .ensures)) refl (omega arith))

@@ -1,0 +1,20 @@
+-- What the proofs of several functions use.
+mod Text
+mod Laws
+mod Tokens
+mod Algebra
+mod Trees
+mod Ends
+mod Writing
+mod Shapes
+mod Names
+mod Waiting
+mod Answers
+mod PathsExpr
+mod PathsAtom
+mod PathsPrimary
+mod PathsStmt
+mod PathsList
+mod PathsFunction
+mod PathsNext
+mod PathsStart

@@ -1,0 +1,219 @@
+-- Operands and what stands above them (grammar's Reading/Expr.antt and Level.antt), one step each, as the code goes: an equation for each way through a reading. Assumes nothing.
+use mathlib.Core.Path.{_≡_, refl, sym, ap, _∙_}
+use mathlib.Core.List.{List, [], _∷_}
+use Prim.Native.Nat.{ℕ, zero, suc, pred, _+_, _*_, _-_, _≤_}
+use native.Mathlib.Numerals.{sub-one}
+use native.Mathlib.Omega.{arith}
+use lib.Dec.{eqb}
+use lib.ListN.{length, drop, length-drop}
+use borrow.Author.Tests.{eq-eqb, ne-eqb}
+use Rattle.token.specs.Kind
+use Rattle.operator.specs.Operator.{op-level, op-number, unary-code, assign-code}
+use Rattle.tree.specs.NodeKind
+use Rattle.tree.specs.Tree.{Tree, Forest, node, none, more, one, two, snoc}
+use Rattle.tree.specs.Node
+use Rattle.grammar.specs.Reading.Limit.{too-deep}
+use Rattle.grammar.specs.Reading.Result.{Res, ok, fail, stop, then, ifb}
+use Rattle.grammar.specs.Reading.Number
+use Rattle.grammar.specs.Reading.Pattern.{to-pattern}
+use Rattle.grammar.specs.Reading.Look.{look, expect-pattern, try-assign-keyword, action}
+use Rattle.grammar.specs.Reading.Expr.{Level, operators, binop-expr, inner-expr, members, tuple-expr, keyword-alone, expr}
+use Rattle.grammar.specs.Reading.Stmt.{stmts}
+use Rattle.grammar.specs.Reading.Level.{primary-expr, unary-expr, level}
+use Rattle.parser.specs.Parts.{commas}
+use Rattle.parser.specs.Post.{Taken}
+use Rattle.parser.proofs.Algebra.{then-fail, then-ok, then-then, then-if, then-same, if-same, look-then}
+use Rattle.parser.proofs.Laws.{Looks}
+
+pub suc-pred : (n : ℕ) → (n ≡ 0 → ⊥) → suc (n - 1) ≡ n
+suc-pred n h = omega arith
+
+-- the readings of each depth
+module _ (d : ℕ) (q ts : List ℕ) where
+  unary-zero : level 0 .unary q ts ≡ stop too-deep
+  unfolding level
+  unary-zero = refl
+
+  unary-suc : level (suc d) .unary q ts ≡ unary-expr (level d) q ts
+  unfolding level
+  unary-suc = refl
+
+  right-zero : level 0 .right q ts ≡ stop too-deep
+  unfolding level
+  right-zero = refl
+
+  right-suc : level (suc d) .right q ts ≡ expr (level d) q ts
+  unfolding level
+  right-suc = refl
+
+  module _ (end : ℕ) where
+    list-zero : level 0 .list end q ts ≡ stop too-deep
+    unfolding level
+    list-zero = refl
+
+    list-suc : level (suc d) .list end q ts ≡ stmts (level d) end (length ts) none q ts
+    unfolding level
+    list-suc = refl
+
+pub unary-stops : (d : ℕ) (q ts : List ℕ) → d ≡ 0 → level d .unary q ts ≡ stop too-deep
+unary-stops d q ts e = rw e (unary-zero d q ts)
+
+pub unary-step : (d : ℕ) (q ts : List ℕ) → (d ≡ 0 → ⊥) → level d .unary q ts ≡ unary-expr (level (d - 1)) q ts
+unary-step d q ts h = ap (λ (n : ℕ). level n .unary q ts) (sym (suc-pred d h)) ∙ unary-suc (d - 1) q ts
+
+pub right-stops : (d : ℕ) (q ts : List ℕ) → d ≡ 0 → level d .right q ts ≡ stop too-deep
+right-stops d q ts e = rw e (right-zero d q ts)
+
+pub right-step : (d : ℕ) (q ts : List ℕ) → (d ≡ 0 → ⊥) → level d .right q ts ≡ expr (level (d - 1)) q ts
+right-step d q ts h = ap (λ (n : ℕ). level n .right q ts) (sym (suc-pred d h)) ∙ right-suc (d - 1) q ts
+
+pub list-stops : (d end : ℕ) (q ts : List ℕ) → d ≡ 0 → level d .list end q ts ≡ stop too-deep
+list-stops d end q ts e = rw e (list-zero d q ts end)
+
+pub list-step : (d end : ℕ) (q ts : List ℕ) → (d ≡ 0 → ⊥) → level d .list end q ts ≡ stmts (level (d - 1)) end (length ts) none q ts
+list-step d end q ts h = ap (λ (n : ℕ). level n .list end q ts) (sym (suc-pred d h)) ∙ list-suc (d - 1) q ts end
+
+-- operands
+pub unary-looks : (low : Level) (q ts : List ℕ) → Looks q ts (unary-expr low q ts)
+unfolding unary-expr
+unary-looks low q ts = record { go = _; is = refl }
+
+module _ (low : Level) (q : List ℕ) {T : List ℕ} {pos k n v : ℕ} (at : Taken T pos k n v) {c : ℕ} (is : c ≡ unary-code k) where
+  pub unary-none : c ≡ 0 → unary-expr low q (drop pos T) ≡ primary-expr low q (drop pos T)
+  unfolding unary-expr then ifb
+  unary-none e = rw (at .same, eq-eqb _ _ (sym is ∙ e))
+
+  pub unary-some : (c ≡ 0 → ⊥) → unary-expr low q (drop pos T) ≡ then q (low .unary q (drop (pos + 2) T)) (λ t q₂ r. ok (Node.unary-op (c - 1) t) r)
+  unfolding unary-expr then ifb
+  unary-some h =
+      let e : pred (unary-code k) ≡ c - 1 = omega arith in
+      rw (at .same, ne-eqb _ _ (λ z. h (is ∙ z)), e)
+
+-- binary operators
+binop-zero : (low : Level) (q ts : List ℕ) → binop-expr low 0 q ts ≡ low .unary q ts
+unfolding binop-expr
+binop-zero low q ts = refl
+
+pub binop-unary : (low : Level) (l : ℕ) (q ts : List ℕ) → l ≡ 0 → binop-expr low l q ts ≡ low .unary q ts
+binop-unary low l q ts e = rw e (binop-zero low q ts)
+
+binop-suc : (low : Level) (l : ℕ) (q ts : List ℕ) → binop-expr low (suc l) q ts ≡ then q (binop-expr low l q ts) (λ t q₁ r. operators (binop-expr low l) (suc l) (length r) t q₁ r)
+unfolding binop-expr
+binop-suc low l q ts = refl
+
+pub binop-step : (low : Level) (l : ℕ) (q ts : List ℕ) → (l ≡ 0 → ⊥) → binop-expr low l q ts ≡ then q (binop-expr low (l - 1) q ts) (λ t q₁ r. operators (binop-expr low (l - 1)) l (length r) t q₁ r)
+binop-step low l q ts h = ap (λ (n : ℕ). binop-expr low n q ts) (sym (suc-pred l h)) ∙ binop-suc low (l - 1) q ts ∙ ap (λ (n : ℕ). then q (binop-expr low (l - 1) q ts) (λ t q₁ r. operators (binop-expr low (l - 1)) n (length r) t q₁ r)) (suc-pred l h)
+
+pub left : (T : List ℕ) (p fuel : ℕ) → length T ≤ p + fuel → length (drop p T) ≤ fuel
+left T p fuel h = rw length-drop (omega arith)
+
+-- with a count that is as long as the list a loop looks: with none, the list is empty
+module _ (sub : List ℕ → List ℕ → Res Tree) (l : ℕ) (acc : Tree) (q : List ℕ) where
+  operators-step : (fuel : ℕ) (ts : List ℕ) → length ts ≤ fuel → operators sub l fuel acc q ts ≡ then q (look q ts) (λ tok q₁ rest. ifb (eqb (op-level (tok .kind)) l) (λ _. then q (sub q rest) λ t q₂ r. operators sub l (fuel - 1) (Node.binary-op (op-number (tok .kind)) acc t) q₂ r) (λ _. ok acc ts))
+  unfolding operators look then
+  operators-step zero [] h = refl
+  operators-step zero (x ∷ ts) h = absurd (omega arith)
+  operators-step (suc n) ts h = rw (sub-one (suc n))
+
+  pub operators-looks : (T : List ℕ) (fuel p : ℕ) → length T ≤ p + fuel → Looks q (drop p T) (operators sub l fuel acc q (drop p T))
+  operators-looks T fuel p enough = record { go = _; is = operators-step fuel (drop p T) (left T p fuel enough) }
+
+  module _ {T : List ℕ} (fuel p : ℕ) (enough : length T ≤ p + fuel) {k n v : ℕ} (at : Taken T p k n v) where
+    pub operators-end : (op-level k ≡ l → ⊥) → operators sub l fuel acc q (drop p T) ≡ ok acc (drop p T)
+    unfolding then ifb
+    operators-end e = operators-step fuel (drop p T) (left T p fuel enough) ∙ rw (at .same, ne-eqb _ _ e)
+
+    pub operators-more : {x : ℕ} → op-level k ≡ l → x ≡ op-number k → operators sub l fuel acc q (drop p T) ≡ then q (sub q (drop (p + 2) T)) (λ t q₂ r. operators sub l (fuel - 1) (Node.binary-op x acc t) q₂ r)
+    unfolding then ifb
+    operators-more e i = operators-step fuel (drop p T) (left T p fuel enough) ∙ rw (at .same, eq-eqb _ _ e, i)
+
+-- tuples: the members behind the first are `commas`
+members-commas : (low : Level) (n : ℕ) (t : Tree) (f : Forest) (q ts : List ℕ) → members low n (more t f) q ts ≡ then q (commas low n f q ts) (λ g q₁ r. ok (Node.tuple (more t g)) r)
+unfolding members commas snoc
+members-commas low zero t f q ts = sym (then-fail q _)
+members-commas low (suc n) t f q ts =
+    sym (look-then q ts _ _ _ λ tok rest.
+    then-if q _ _ _ _ ∙ if-same _ (λ u. look-then q rest _ _ _ λ tok₂ rest₂.
+    then-if q _ _ _ _ ∙ if-same _ (λ u. then-ok q _) (λ u. then-then q _ _ _ ∙ then-same q _ λ x q₃ r. sym (members-commas low n t (snoc f x) q₃ r))) (λ u. then-ok q _))
+
+abbrev pub tuple-go : Level → Tree → List ℕ → List ℕ → Res Tree
+tuple-go low t q r = then q (look q r) λ tok q₂ rest. ifb (eqb (tok .kind) Kind.Comma) (λ _. members low (length r) (one t) q r) (λ _. ok t r)
+
+pub tuple-step : (low : Level) (q ts : List ℕ) → tuple-expr low q ts ≡ then q (inner-expr low q ts) (tuple-go low)
+unfolding tuple-expr
+tuple-step low q ts = refl
+
+pub tuple-looks : (low : Level) (t : Tree) (q ts : List ℕ) → Looks q ts (tuple-go low t q ts)
+tuple-looks low t q ts = record { go = _; is = refl }
+
+module _ (low : Level) (t : Tree) (q : List ℕ) {T : List ℕ} {pos k n v : ℕ} (at : Taken T pos k n v) where
+  pub tuple-one : (k ≡ Kind.Comma → ⊥) → tuple-go low t q (drop pos T) ≡ ok t (drop pos T)
+  unfolding then ifb
+  tuple-one e = rw (at .same, ne-eqb _ _ e)
+
+  pub tuple-more : k ≡ Kind.Comma → tuple-go low t q (drop pos T) ≡ then q (commas low (length (drop pos T)) none q (drop pos T)) (λ g q₁ r. ok (Node.tuple (more t g)) r)
+  unfolding then ifb
+  tuple-more e = rw (at .same, eq-eqb _ _ e) (members-commas low (length (drop pos T)) t none q (drop pos T))
+
+-- the members behind the first
+module _ (low : Level) (f : Forest) (q : List ℕ) where
+  commas-step : (fuel : ℕ) (ts : List ℕ) → length ts ≤ fuel → commas low fuel f q ts ≡ then q (look q ts) (λ tok q₁ rest. ifb (eqb (tok .kind) Kind.Comma) (λ _. then q (look q rest) λ tok₂ q₂ rest₂. ifb (eqb (tok₂ .kind) Kind.CloseParen) (λ _. ok f rest) λ _. then q (inner-expr low q rest) λ t q₃ r. commas low (fuel - 1) (snoc f t) q₃ r) (λ _. ok f ts))
+  unfolding commas look then
+  commas-step zero [] h = refl
+  commas-step zero (x ∷ ts) h = absurd (omega arith)
+  commas-step (suc n) ts h = rw (sub-one (suc n))
+
+  pub commas-looks : (T : List ℕ) (fuel p : ℕ) → length T ≤ p + fuel → Looks q (drop p T) (commas low fuel f q (drop p T))
+  commas-looks T fuel p enough = record { go = _; is = commas-step fuel (drop p T) (left T p fuel enough) }
+
+  module _ {T : List ℕ} (fuel p : ℕ) (enough : length T ≤ p + fuel) {k n v : ℕ} (at : Taken T p k n v) where
+    pub commas-end : (k ≡ Kind.Comma → ⊥) → commas low fuel f q (drop p T) ≡ ok f (drop p T)
+    unfolding then ifb
+    commas-end e = commas-step fuel (drop p T) (left T p fuel enough) ∙ rw (at .same, ne-eqb _ _ e)
+
+    pub commas-comma : k ≡ Kind.Comma → commas low fuel f q (drop p T) ≡ then q (look q (drop (p + 2) T)) (λ tok₂ q₂ rest₂. ifb (eqb (tok₂ .kind) Kind.CloseParen) (λ _. ok f (drop (p + 2) T)) λ _. then q (inner-expr low q (drop (p + 2) T)) λ t q₃ r. commas low (fuel - 1) (snoc f t) q₃ r)
+    unfolding then ifb
+    commas-comma e = commas-step fuel (drop p T) (left T p fuel enough) ∙ rw (at .same, eq-eqb _ _ e)
+
+    module _ (e : k ≡ Kind.Comma) {k₂ n₂ v₂ : ℕ} (at₂ : Taken T (p + 2) k₂ n₂ v₂) where
+      pub commas-last : k₂ ≡ Kind.CloseParen → commas low fuel f q (drop p T) ≡ ok f (drop (p + 2) T)
+      unfolding then ifb
+      commas-last i = commas-comma e ∙ rw (at₂ .same, eq-eqb _ _ i)
+
+      pub commas-more : (k₂ ≡ Kind.CloseParen → ⊥) → commas low fuel f q (drop p T) ≡ then q (inner-expr low q (drop (p + 2) T)) (λ t q₃ r. commas low (fuel - 1) (snoc f t) q₃ r)
+      unfolding then ifb
+      commas-more i = commas-comma e ∙ rw (at₂ .same, ne-eqb _ _ i)
+
+-- assignments
+abbrev pub expr-op : Level → ℕ → Tree → List ℕ → List ℕ → Res Tree
+expr-op low m lhs q s =
+    then q (look q s) λ tok q₃ rest.
+    ifb (eqb (assign-code (tok .kind)) 0)
+    (λ _. ifb (eqb m 0) (λ _. ok lhs s) (λ _. fail (keyword-alone m) q s))
+    (λ _. then q (expect-pattern Number.cannot-assign (to-pattern lhs) q rest) λ p q₄ u.
+    then q (low .right q u) λ rhs q₅ x. ok (Node.assignment (action m) (pred (assign-code (tok .kind))) p rhs) x)
+
+abbrev pub expr-lhs : Level → ℕ → List ℕ → List ℕ → Res Tree
+expr-lhs low m q r = then q (tuple-expr low q r) (expr-op low m)
+
+pub expr-step : (low : Level) (q ts : List ℕ) → expr low q ts ≡ then q (try-assign-keyword q ts) (expr-lhs low)
+unfolding expr
+expr-step low q ts = refl
+
+pub expr-looks : (low : Level) (m : ℕ) (lhs : Tree) (q ts : List ℕ) → Looks q ts (expr-op low m lhs q ts)
+expr-looks low m lhs q ts = record { go = _; is = refl }
+
+module _ (low : Level) (m : ℕ) (lhs : Tree) (q : List ℕ) {T : List ℕ} {pos k n v : ℕ} (at : Taken T pos k n v) {c : ℕ} (is : c ≡ assign-code k) where
+  pub expr-plain : c ≡ 0 → m ≡ 0 → expr-op low m lhs q (drop pos T) ≡ ok lhs (drop pos T)
+  unfolding then ifb
+  expr-plain e i = rw (at .same, eq-eqb _ _ (sym is ∙ e), eq-eqb _ _ i)
+
+  pub expr-alone : c ≡ 0 → (m ≡ 0 → ⊥) → expr-op low m lhs q (drop pos T) ≡ fail (keyword-alone m) q (drop pos T)
+  unfolding then ifb
+  expr-alone e i = rw (at .same, eq-eqb _ _ (sym is ∙ e), ne-eqb _ _ i)
+
+  pub expr-assign : {b : ℕ} → (c ≡ 0 → ⊥) → b ≡ action m → expr-op low m lhs q (drop pos T) ≡ then q (expect-pattern Number.cannot-assign (to-pattern lhs) q (drop (pos + 2) T)) (λ p q₄ u. then q (low .right q u) λ rhs q₅ x. ok (node NodeKind.Assignment (b + 4 * (c - 1)) (two p rhs)) x)
+  unfolding then ifb
+  expr-assign h i =
+      let e : pred (assign-code k) ≡ c - 1 = omega arith in
+      rw (at .same, ne-eqb _ _ (λ z. h (is ∙ z)), e, i)

@@ -1,0 +1,5 @@
+pub mod Post
+pub mod Parts
+pub mod Ends
+pub mod Lists
+pub mod Parameters
