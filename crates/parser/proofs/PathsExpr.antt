@@ -67,12 +67,6 @@ right-stops d q ts e = rw e (right-zero d q ts)
 pub right-step : (d : ℕ) (q ts : List ℕ) → (d ≡ 0 → ⊥) → level d .right q ts ≡ expr (level (d - 1)) q ts
 right-step d q ts h = ap (λ (n : ℕ). level n .right q ts) (sym (suc-pred d h)) ∙ right-suc (d - 1) q ts
 
-pub list-stops : (d end : ℕ) (q ts : List ℕ) → d ≡ 0 → level d .list end q ts ≡ stop too-deep
-list-stops d end q ts e = rw e (list-zero d q ts end)
-
-pub list-step : (d end : ℕ) (q ts : List ℕ) → (d ≡ 0 → ⊥) → level d .list end q ts ≡ stmts (level (d - 1)) end (length ts) none q ts
-list-step d end q ts h = ap (λ (n : ℕ). level n .list end q ts) (sym (suc-pred d h)) ∙ list-suc (d - 1) q ts end
-
 -- operands
 pub unary-looks : (low : Level) (q ts : List ℕ) → Looks q ts (unary-expr low q ts)
 unfolding unary-expr
@@ -199,9 +193,6 @@ expr-lhs low m q r = then q (tuple-expr low q r) (expr-op low m)
 pub expr-step : (low : Level) (q ts : List ℕ) → expr low q ts ≡ then q (try-assign-keyword q ts) (expr-lhs low)
 unfolding expr
 expr-step low q ts = refl
-
-pub expr-looks : (low : Level) (m : ℕ) (lhs : Tree) (q ts : List ℕ) → Looks q ts (expr-op low m lhs q ts)
-expr-looks low m lhs q ts = record { go = _; is = refl }
 
 module _ (low : Level) (m : ℕ) (lhs : Tree) (q : List ℕ) {T : List ℕ} {pos k n v : ℕ} (at : Taken T pos k n v) {c : ℕ} (is : c ≡ assign-code k) where
   pub expr-plain : c ≡ 0 → m ≡ 0 → expr-op low m lhs q (drop pos T) ≡ ok lhs (drop pos T)

@@ -19,7 +19,7 @@ use Rattle.grammar.specs.Reading.Primary.{group-expr, literal, atom, path, tabl
 use Rattle.grammar.specs.Reading.Block.{body, block-expr, expr-label, branches}
 use Rattle.grammar.specs.Reading.Function.{params, function-def, function-assignment-target, function-decl-expr}
 use Rattle.grammar.specs.Reading.Level.{primary-expr, unary-expr, level}
-use Rattle.grammar.specs.Laws.Kinds.{Holds, h-ok, h-bad, h-fail, h-stop, holds-then, holds-past, holds-if, level-small, binop-small, tuple-small, expr-small, unary-small, primary-small, atom-small}
+use Rattle.grammar.specs.Laws.Kinds.{Holds, h-ok, h-bad, h-fail, h-stop, holds-then, holds-past, holds-if, level-small, tuple-small, expr-small}
 use Rattle.parser.specs.Post.{As}
 use Rattle.parser.specs.Ends.{Shape, other, a-tuple, lone, unpacked}
 
@@ -207,19 +207,6 @@ level-root : (d : ℕ) (q : List Error) (ts : List ℕ) → Holds Root (level d 
 unfolding level
 level-root zero q ts = h-stop
 level-root (suc d) q ts = unary-expr-root (level d) q ts
-
--- the readings of each depth
-pub atom-shape : (d : ℕ) (q : List Error) (ts : List ℕ) → Holds Shape (atom (level d) q ts)
-atom-shape d q ts = holds-shape (atom-root (level d) q ts) (atom-small (level d) (level-small d) q ts)
-
-pub primary-shape : (d : ℕ) (q : List Error) (ts : List ℕ) → Holds Shape (primary (level d) q ts)
-primary-shape d q ts = holds-shape (primary-root (level d) q ts) (primary-small (level d) (level-small d) q ts)
-
-pub unary-shape : (d : ℕ) (q : List Error) (ts : List ℕ) → Holds Shape (unary-expr (level d) q ts)
-unary-shape d q ts = holds-shape (unary-expr-root (level d) q ts) (unary-small (level d) (level-small d) q ts)
-
-pub binop-shape : (d l : ℕ) (q : List Error) (ts : List ℕ) → Holds Shape (binop-expr (level d) l q ts)
-binop-shape d l q ts = holds-shape (binop-root (level d) (level-root d) l q ts) (binop-small (level d) (level-small d) l q ts)
 
 pub tuple-shape : (d : ℕ) (q : List Error) (ts : List ℕ) → Holds Shape (tuple-expr (level d) q ts)
 tuple-shape d q ts = holds-shape (tuple-expr-root (level d) (level-root d) q ts) (tuple-small (level d) (level-small d) q ts)

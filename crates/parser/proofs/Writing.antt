@@ -2,14 +2,14 @@
 use mathlib.Core.Path.{_≡_, refl, sym, ap, _∙_}
 use mathlib.Core.Bool.{Bool, true, false}
 use mathlib.Core.Logic.{⊎-elim}
-use mathlib.Core.List.{List, [], _∷_, _++_, append-assoc, append-nil}
+use mathlib.Core.List.{List, [], _∷_, _++_, append-assoc}
 use Prim.Native.Nat.{ℕ, _+_, _*_, _≤_}
 use native.Mathlib.Omega.{arith}
 use types.Run.{OneOf}
 use denote.Enum.Declared.{tagOf}
 use lib.ListN.{length, take, drop, length-take, length-append}
 use lib.Seq.{length-take-le, take-take, take-append-le}
-use Rattle.tree.specs.Tree.{Tree, Forest, node, two, three, count, records, all-records}
+use Rattle.tree.specs.Tree.{Tree, Forest, node, two, count, records, all-records}
 use Rattle.tree.specs.Store.{Emitted}
 use Rattle.tree.specs.Records.{Small}
 use Rattle.pattern.specs.Contract.{Whole}
@@ -40,13 +40,6 @@ reaches S S′ Y at a e h =
     let m : length (take at S) ≡ at = length-take-le at S h in
     let k : length (take a S′) ≤ a = rw length-take (omega arith) in
     omega arith
-
--- what was stored behind X, as a part of D
-abbrev pub wrote-on : {A B : Type 0} {words : A → List ℕ} {d : List ℕ → Res A} {D : Res B} {k : A → List ℕ → List ℕ → Res B} {T : List ℕ} {least₁ most a₁ w₁ : ℕ} {X : List ℕ} {p a w : ℕ} {S′ : List ℕ} {pos least slack at w₀ : ℕ} {S Q Q₁ : List ℕ}
-    (s : Stored words d T least₁ most a₁ w₁ X p a w S′) → X ≡ take at S → at ≤ length S → As (take w₀ Q) D (take w₁ Q₁) (k (s .got .what) (take w₁ Q₁) (drop p T)) → Moved (length T) least w₀ p w₁ (length Q₁) → a + 8 * pos + slack ≤ at + 8 * p + 8 → Wrote words D k T pos least slack at w₀ S Q p a w₁ S′ Q₁
-wrote-on {words = words} {p = p} {a = a} {S′ = S′} {at = at} {S = S} s x h same moved room =
-    let text : take a S′ ≡ take at S ++ words (s .got .what) = s .text ∙ rw x in
-    record { what = s .got .what; same = same; moved = moved; room = record { up = reaches S S′ (words (s .got .what)) at a text h; room = room }; text = text }
 
 -- numbers of a last call that writes, at most so many words behind a₁, in a store of m words
 pub record Tail (pos least slack at w₀ p₁ least₁ most a₁ w₁ z m : ℕ) : Type 0 where
@@ -122,10 +115,6 @@ taller {at = at} {S = S} {a = a} {S′ = S′} g h =
 -- kids one after the other
 pub kids-two : (Z : List ℕ) (t u : Tree) {X Y : List ℕ} → Y ≡ Z ++ records t → X ≡ Y ++ records u → X ≡ Z ++ all-records (two t u)
 kids-two Z t u e h = h ∙ rw (e, all-two, append-assoc)
-
-pub kids-three : (Z : List ℕ) (t u v : Tree) {X Y W : List ℕ} → W ≡ Z ++ records t → Y ≡ W ++ records u → X ≡ Y ++ records v → X ≡ Z ++ all-records (three t u v)
-unfolding records
-kids-three Z t u v e h i = i ∙ rw (h, e, append-nil, append-assoc, append-assoc)
 
 module _ {E : Type 0} {D : Res E} {T : List ℕ} {pos least slack at w₀ : ℕ} {S Q : List ℕ} {q r w : ℕ} {S″ Q″ : List ℕ} where
   -- a record over a forest
