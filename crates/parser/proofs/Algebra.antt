@@ -9,6 +9,7 @@ use Rattle.token.specs.declared.Seen.{Seen}
 use Rattle.token.specs.declared.Seen.the-variants.{Good, LexerError, Nothing, Bad}
 use Rattle.grammar.specs.Reading.Result.{Res, ok, bad, fail, stop, spoil, either, then, ifb}
 use Rattle.grammar.specs.Reading.Look.{looked, look}
+use native.Mathlib.Omega.{arith}
 
 spoil-spoil : {A : Type 0} (q q′ : List ℕ) (d : Res A) → spoil q (spoil q′ d) ≡ spoil q′ d
 unfolding spoil
@@ -75,7 +76,7 @@ if-same true h i = h tt
 if-same false h i = i tt
 
 -- a look adds no error
-data Plain {A : Type 0} : Res A → Type 0 where
+pub data Plain {A : Type 0} : Res A → Type 0 where
   an-ok : {a : A} {r : List ℕ} → Plain (ok a r)
   a-fail : {e : ℕ} {q r : List ℕ} → Plain (fail e q r)
   a-stop : {n : ℕ} → Plain (stop n)
@@ -87,13 +88,18 @@ looked-plain q r LexerError = a-fail
 looked-plain q r Nothing = a-fail
 looked-plain q r Bad = a-stop
 
-look-plain : (q ts : List ℕ) → Plain (look q ts)
+pub plain-not-bad : {A : Type 0} {d : Res A} {a : A} {q r : List ℕ} → Plain d → d ≡ bad a q r → ⊥
+plain-not-bad an-ok e = let z : _≡_ {A = ℕ} 0 1 = cc in omega arith
+plain-not-bad a-fail e = let z : _≡_ {A = ℕ} 0 1 = cc in omega arith
+plain-not-bad a-stop e = let z : _≡_ {A = ℕ} 0 1 = cc in omega arith
+
+pub look-plain : (q ts : List ℕ) → Plain (look q ts)
 unfolding look
 look-plain q [] = a-fail
 look-plain q (w ∷ []) = a-fail
 look-plain q (w ∷ (v ∷ r)) = looked-plain q r (seen-word w v)
 
-plain-then : {A B C : Type 0} (q : List ℕ) {d : Res A} → Plain d → (f : A → List ℕ → List ℕ → Res B) (g : A → List ℕ → List ℕ → Res C) (k : B → List ℕ → List ℕ → Res C) → ((a : A) (r : List ℕ) → then q (f a q r) k ≡ g a q r) → then q (then q d f) k ≡ then q d g
+pub plain-then : {A B C : Type 0} (q : List ℕ) {d : Res A} → Plain d → (f : A → List ℕ → List ℕ → Res B) (g : A → List ℕ → List ℕ → Res C) (k : B → List ℕ → List ℕ → Res C) → ((a : A) (r : List ℕ) → then q (f a q r) k ≡ g a q r) → then q (then q d f) k ≡ then q d g
 unfolding then
 plain-then q an-ok f g k h = h _ _
 plain-then q a-fail f g k h = refl

@@ -11,16 +11,13 @@ use lib.Dec.{eqb}
 use lib.ListN.{take, drop}
 use Rattle.token.specs.Kind
 use Rattle.token.specs.declared.Token.{Token}
-use Rattle.token.specs.declared.Seen.{Seen as Sight}
-use Rattle.token.specs.declared.Seen.the-variants.{Good, LexerError, Nothing, Bad}
-use Rattle.token.specs.Look.{seen-word}
 use Rattle.tree.specs.Tree.{Tree, Forest, node, none, more, empty, snoc, count, records, all-records}
 use Rattle.tree.specs.Node
 use Rattle.tree.specs.NodeKind
 use Rattle.tree.specs.Store.{Emitted}
 use Rattle.grammar.specs.Reading.Number
 use Rattle.grammar.specs.Reading.Result.{Res, ok, bad, fail, stop, then, ifb}
-use Rattle.grammar.specs.Reading.Look.{looked, look}
+use Rattle.grammar.specs.Reading.Look.{look}
 use Rattle.grammar.specs.Reading.Function.{Param, required, variadic, default, Params, joined}
 use Rattle.parser.specs.Post.{UnreadAs, Unread, Got, Finds, WritesAs, Writes}
 use Rattle.parser.specs.Ends.{Added}
@@ -35,6 +32,7 @@ use Rattle.parser.specs.declared.Head.the-variants.{Required as HRequire
 use Rattle.parser.proofs.Found.{the-type}
 use Rattle.parser.proofs.Laws.{all-snoc}
 use Rattle.parser.proofs.Tokens.{through}
+use Rattle.parser.proofs.Algebra.{look-plain, plain-not-bad}
 
 -- A READING e that is the reading d
 same-reading : {A : Type 0} {d e : List ℕ → Res A} {T : List ℕ} {pos₁ least₁ pos least w : ℕ} (r : Step) → ((q : List ℕ) → e q ≡ d q) → Unread d T pos₁ least₁ w r → pos ≤ pos₁ → least ≤ least₁ → UnreadAs e T pos least w r
@@ -178,26 +176,13 @@ sep-stop q ts rest true c e = let z : _≡_ {A = ℕ} 0 1 = cc in omega arith
 sep-stop q ts rest false true e = let z : _≡_ {A = ℕ} 0 1 = cc in omega arith
 sep-stop q ts rest false false e = let z : _≡_ {A = ℕ} 0 1 = cc in omega arith
 
-looked-not-bad : (q rest : List ℕ) (s : Sight) {t : Token} {q′ r : List ℕ} → looked q rest s ≡ bad t q′ r → ⊥
-unfolding looked
-looked-not-bad q rest (Good tok) e = let z : _≡_ {A = ℕ} 0 1 = cc in omega arith
-looked-not-bad q rest LexerError e = let z : _≡_ {A = ℕ} 0 1 = cc in omega arith
-looked-not-bad q rest Nothing e = let z : _≡_ {A = ℕ} 0 1 = cc in omega arith
-looked-not-bad q rest Bad e = let z : _≡_ {A = ℕ} 0 1 = cc in omega arith
-
-look-not-bad : (q ts : List ℕ) {t : Token} {q′ r : List ℕ} → look q ts ≡ bad t q′ r → ⊥
-unfolding look
-look-not-bad q [] e = let z : _≡_ {A = ℕ} 0 1 = cc in omega arith
-look-not-bad q (w ∷ []) e = let z : _≡_ {A = ℕ} 0 1 = cc in omega arith
-look-not-bad q (w ∷ (v ∷ r)) e = looked-not-bad q r (seen-word w v) e
-
 abbrev sep-go : List ℕ → List ℕ → Token → List ℕ → List ℕ → Res ℕ
 sep-go q ts tok q₁ rest = sep-of q ts rest (eqb (tok .kind) Kind.Comma) (eqb (tok .kind) Kind.CloseParen)
 
 between-as : (q ts : List ℕ) {v : ℕ} {r : List ℕ} (d : Res Token) → look q ts ≡ d → then q d (sep-go q ts) ≡ ok v r → Between q ts v r
 unfolding then
 between-as q ts (ok tok rest) l e = sep-ok q ts _ _ l refl refl e
-between-as q ts (bad tok q′ rest) l e = absurd (look-not-bad q ts l)
+between-as q ts (bad tok q′ rest) l e = absurd (plain-not-bad (look-plain q ts) l)
 between-as q ts (fail n q′ rest) l e = absurd (let z : _≡_ {A = ℕ} 0 1 = cc in omega arith)
 between-as q ts (stop n) l e = absurd (let z : _≡_ {A = ℕ} 0 1 = cc in omega arith)
 
@@ -219,7 +204,7 @@ restopped {n = n} {m} e = let a : n ≡ m = cc in rw a
 neither-as : (q ts : List ℕ) {n : ℕ} {r : List ℕ} (d : Res Token) → look q ts ≡ d → then q d (sep-go q ts) ≡ fail n q r → Neither q ts n r
 unfolding then
 neither-as q ts (ok tok rest) l e = sep-fail q ts _ _ l refl refl e
-neither-as q ts (bad tok q′ rest) l e = absurd (look-not-bad q ts l)
+neither-as q ts (bad tok q′ rest) l e = absurd (plain-not-bad (look-plain q ts) l)
 neither-as q ts (fail n q′ rest) l e = no-token (l ∙ refailed e)
 neither-as q ts (stop n) l e = absurd (let z : _≡_ {A = ℕ} 0 1 = cc in omega arith)
 
@@ -230,7 +215,7 @@ neither q ts e = neither-as q ts (look q ts) refl e
 stopped-as : (q ts : List ℕ) {n : ℕ} (d : Res Token) → look q ts ≡ d → then q d (sep-go q ts) ≡ stop n → look q ts ≡ stop n
 unfolding then
 stopped-as q ts (ok tok rest) l e = absurd (sep-stop q ts rest _ _ e)
-stopped-as q ts (bad tok q′ rest) l e = absurd (look-not-bad q ts l)
+stopped-as q ts (bad tok q′ rest) l e = absurd (plain-not-bad (look-plain q ts) l)
 stopped-as q ts (fail n q′ rest) l e = absurd (let z : _≡_ {A = ℕ} 0 1 = cc in omega arith)
 stopped-as q ts (stop n) l e = l ∙ restopped e
 

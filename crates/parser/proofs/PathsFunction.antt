@@ -2,9 +2,6 @@
 use mathlib.Core.Path.{_≡_, refl, sym, ap, _∙_, subst}
 use mathlib.Core.Bool.{Bool, true, false}
 use mathlib.Core.List.{List, [], _∷_, _++_, append-assoc, append-nil}
-use mathlib.Core.Logic.{⊎-elim}
-use types.Run.{OneOf}
-use denote.Enum.Declared.{tagOf}
 use Prim.Native.Nat.{ℕ, zero, suc, _+_, _*_, _-_, _%_, _≤_, _<_}
 use native.Mathlib.Numerals.{sub-one}
 use native.Mathlib.Omega.{arith}
@@ -13,20 +10,17 @@ use lib.ListN.{length, take, drop, getD, length-drop, length-take, length-append
 use lib.Seq.{length-take-le, take-take, take-append-le, getD-take, getD-at}
 use borrow.Author.Tests.{eq-eqb, ne-eqb, eqb-true}
 use Rattle.token.specs.Kind
-use Rattle.token.specs.Look.{seen-word}
 use Rattle.token.specs.declared.Token.{Token}
-use Rattle.token.specs.declared.Seen.{Seen}
-use Rattle.token.specs.declared.Seen.the-variants.{Good, LexerError, Nothing, Bad}
 use Rattle.tree.specs.NodeKind
 use Rattle.tree.specs.Maybe.{Maybe, nothing, just}
 use Rattle.tree.specs.Tree.{Tree, Forest, node, none, more, one, snoc, count, records, all-records, kind-of}
 use Rattle.tree.specs.Node
 use Rattle.tree.specs.Store.{Emitted}
 use Rattle.tree.specs.Records.{Small, Smalls}
-use Rattle.grammar.specs.Laws.Kinds.{Holds, h-ok, h-bad, h-fail, h-stop, holds-then, holds-past, holds-if, level-small, expr-small, atom-small, pattern-small}
+use Rattle.grammar.specs.Laws.Kinds.{Holds, h-ok, h-fail, holds-then, holds-past, holds-if, level-small, expr-small, atom-small, pattern-small}
 use Rattle.grammar.specs.Reading.Number
-use Rattle.grammar.specs.Reading.Result.{Res, ok, fail, stop, then, ifb}
-use Rattle.grammar.specs.Reading.Look.{looked, look, expect, expect-pattern}
+use Rattle.grammar.specs.Reading.Result.{Res, ok, then, ifb}
+use Rattle.grammar.specs.Reading.Look.{look, expect, expect-pattern}
 use Rattle.grammar.specs.Reading.Pattern.{to-pattern, conv, last-of, front-of, by-item, receiver}
 use Rattle.tree.specs.Maybe.{pick}
 use Rattle.grammar.specs.Reading.Expr.{Level, Stmts, expr}
@@ -36,7 +30,7 @@ use Rattle.grammar.specs.Reading.Function.{Param, required, variadic, default, 
 use Rattle.grammar.specs.Reading.Level.{level}
 use Rattle.pattern.specs.Contract.{Whole}
 use Rattle.parser.specs.Parts.{Header, h-required, h-variadic, h-default, param-name, variadic-head, param-kind, param-head, join, signature-words, path-words}
-use Rattle.parser.specs.Post.{won, out, As, clean, Moved, Room, Failed, Wrote, Agrees, Unread, Taken, Stored, Unstored, Writes}
+use Rattle.parser.specs.Post.{As, clean, Moved, Room, Failed, Wrote, Agrees, Unread, Taken, Stored, Writes}
 use Rattle.parser.specs.Ends.{Added, tree-value}
 use Rattle.parser.specs.Lists.{Ends, keeps, gives, Lists, ClosableAs, Closable, Unders}
 use Rattle.parser.specs.Parameters.{name-bound, Header-at, Heads, Default-one, required-words, default-words, Parameter-at, Params-read, words-of, params-words, with-default, Fitting, Joins-to, Unjoined, Joined-by, OneAs, One}
@@ -50,30 +44,12 @@ use Rattle.parser.specs.declared.Parameter.{Parameter}
 use Rattle.parser.specs.declared.Parameter.the-variants.{Required as PRequired, Variadic as PVariadic, Default as PDefault, Not as PNot}
 use Rattle.parser.specs.declared.Joined.{Joined}
 use Rattle.parser.specs.declared.Joined.the-variants.{To, Not as JNot}
-use Rattle.parser.proofs.Step.{the-type}
-use Rattle.parser.proofs.Algebra.{then-ok, then-then, then-if, then-same, if-same, look-then, look-same}
+use Rattle.parser.proofs.Algebra.{then-ok, then-then, then-if, then-same, if-same, look-then, look-same, Plain, an-ok, a-fail, a-stop, look-plain, plain-then}
 use Rattle.parser.proofs.Laws.{way, link, goes, fails, lacking, Later, Beyond, Looks, did-not, put, all-one, gets, lacks, shorter, all-snoc, count-snoc, prefix}
 use Rattle.parser.proofs.Trees.{path-text}
+use Rattle.parser.proofs.Shapes.{given}
 
 -- what adds no error to the queue
-data Plain {A : Type 0} : Res A → Type 0 where
-  an-ok : {a : A} {r : List ℕ} → Plain (ok a r)
-  a-fail : {e : ℕ} {q r : List ℕ} → Plain (fail e q r)
-  a-stop : {n : ℕ} → Plain (stop n)
-
-looked-plain : (q r : List ℕ) (s : Seen) → Plain (looked q r s)
-unfolding looked
-looked-plain q r (Good tok) = an-ok
-looked-plain q r LexerError = a-fail
-looked-plain q r Nothing = a-fail
-looked-plain q r Bad = a-stop
-
-look-plain : (q ts : List ℕ) → Plain (look q ts)
-unfolding look
-look-plain q [] = a-fail
-look-plain q (w ∷ []) = a-fail
-look-plain q (w ∷ (v ∷ r)) = looked-plain q r (seen-word w v)
-
 plain-if : {A : Type 0} (b : Bool) {x y : Unit {0} → Res A} → ((u : Unit {0}) → Plain (x u)) → ((u : Unit {0}) → Plain (y u)) → Plain (ifb b x y)
 unfolding ifb
 plain-if true f g = f tt
@@ -85,25 +61,9 @@ plain-known q an-ok e f g h = h _ _ e
 plain-known q a-fail e f g h = refl
 plain-known q a-stop e f g h = refl
 
-plain-then : {A B C : Type 0} (q : List ℕ) {d : Res A} → Plain d → (f : A → List ℕ → List ℕ → Res B) (g : A → List ℕ → List ℕ → Res C) (k : B → List ℕ → List ℕ → Res C) → ((a : A) (r : List ℕ) → then q (f a q r) k ≡ g a q r) → then q (then q d f) k ≡ then q d g
-unfolding then
-plain-then q an-ok f g k h = h _ _
-plain-then q a-fail f g k h = refl
-plain-then q a-stop f g k h = refl
-
 -- behind a look, whose token is known
 look-known : {B : Type 0} (q ts : List ℕ) (f g : Token → List ℕ → List ℕ → Res B) → ((tok : Token) (r : List ℕ) → look q ts ≡ ok tok r → f tok q r ≡ g tok q r) → then q (look q ts) f ≡ then q (look q ts) g
 look-known q ts f g h = plain-known q (look-plain q ts) refl f g h
-
--- what a reading gives, as it is seen
-out-holds : {A : Type 0} {P : A → Type 0} (q : List ℕ) {q′ r : List ℕ} {d : Res A} {x : A} → Holds P d → out q d ≡ won x q′ r → P x
-out-holds {P = P} q {x = x} (h-ok {a = a} p) e = let i : a ≡ x = cc in subst P i p
-out-holds {P = P} q {x = x} (h-bad {a = a} p) e = let i : a ≡ x = cc in subst P i p
-out-holds q h-fail e = absurd (let z : _≡_ {A = ℕ} 0 1 = cc in omega arith)
-out-holds q h-stop e = absurd (let z : _≡_ {A = ℕ} 0 1 = cc in omega arith)
-
-pub held-by : {A : Type 0} {P : A → Type 0} {q q′ r : List ℕ} {d : Res A} {x : A} → Holds P d → As q d q′ (ok x r) → P x
-held-by {q = q} h a = out-holds q h (a .is)
 
 -- a text that goes on behind «at» is that long, and leaves what stands before «at»
 up-of : (S S′ X : List ℕ) (at a : ℕ) → take a S′ ≡ take at S ++ X → at ≤ length S → at + length X ≤ a
@@ -275,19 +235,6 @@ pub def-text : (name : ℕ) (ps : Params) (b : Stmts) (X : List ℕ) {Y Z : List
 unfolding records count
 def-text name ps b X e f = rw (e, f) (simp (append-nil, append-assoc))
 
--- what a function that writes answers
-module _ {A : Type 0} {words : A → List ℕ} {d : List ℕ → Res A} {T : List ℕ} {pos least most at w₀ : ℕ} {X S S′ : List ℕ} where
-  pub stored : {p a w : ℕ} {r : Step} → r ≡ Done p a w → Writes words d T pos least most at w₀ X S S′ r → Stored words d T least most at w₀ X p a w S′
-  stored e h = rw e at (h .how)
-
-  unstored-as : (r : Step) → OneOf (1 ∷ 2 ∷ []) (tagOf the-type r) → Writes words d T pos least most at w₀ X S S′ r → Unstored d T pos least w₀ S S′ r
-  unstored-as (Done p a w) o h = absurd (⊎-elim (λ e. omega arith) (λ e. omega arith) o)
-  unstored-as (Fail e p w) o h = h .how
-  unstored-as (Stop n) o h = h .how
-
-  pub unstored : {r : Step} → OneOf (1 ∷ 2 ∷ []) (tagOf the-type r) → Writes words d T pos least most at w₀ X S S′ r → Unstored d T pos least w₀ S S′ r
-  unstored {r = r} o h = unstored-as r o h
-
 pub stored-prefix : {A : Type 0} {words : A → List ℕ} {d : List ℕ → Res A} {T : List ℕ} {least most at₁ w₀ p a w : ℕ} {S′ : List ℕ} (at : ℕ) (S : List ℕ) → Stored words d T least most at₁ w₀ (take at S) p a w S′ → at ≤ length S → take at S′ ≡ take at S
 stored-prefix {words = words} {a = a} {S′ = S′} at S s h = prefix-of S S′ (words (s .got .what)) at a (s .text) h
 
@@ -375,7 +322,7 @@ module _ (d : ℕ) where
       let o₂ = h .room in
       let e : take at S₂ ≡ take at S = shorter S₂ S₁ at a (o .up) (prefix h j) ∙ prefix g i in
       record {
-        small = with-path-small (g .what) (h .what) (held-by (atom-small (level d) (level-small d) _ _) (g .same)) (held-by (path-small _ none _ _ no-smalls) (h .same));
+        small = with-path-small (g .what) (h .what) (given (atom-small (level d) (level-small d) _ _) (g .same)) (given (path-small _ none _ _ no-smalls) (h .same));
         text = h .text ∙ ap (λ (y : List ℕ). y ++ path-words (h .what)) (g .text) ∙ append-assoc (take at S) (records (g .what)) (path-words (h .what)) ∙ rw (e, path-text (g .what) (h .what));
         start = omega arith;
         within = k;
@@ -454,7 +401,7 @@ unfolding join joined
 joins-default ps x e q ts = holds-past q (look q ts) λ tok q₁ rest. holds-then q (holds-if _ (λ _. h-ok refl) (λ _. h-fail)) λ ps₂ q₂ s z. holds-if _ (λ _. h-ok z) (λ _. h-ok z)
 
 join-default : (ps : Params) (x : ℕ) (e : Tree) (q ts r : List ℕ) (ps₂ : Params) → join ps (default x e) q ts ≡ ok ps₂ r → ps₂ ≡ with-default ps x e
-join-default ps x e q ts r ps₂ i = out-holds q (joins-default ps x e q ts) (ap (out q) i)
+join-default ps x e q ts r ps₂ i = given (joins-default ps x e q ts) (way q i)
 
 -- ONE ROUND of the loop
 pub record Round (D : Res Params) (low : Level) (fuel : ℕ) (T : List ℕ) (pos at w₀ : ℕ) (S₀ Q₀ : List ℕ) (p₀ p a w m n v : ℕ) (S Q : List ℕ) : Type 0 where

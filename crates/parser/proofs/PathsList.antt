@@ -1,5 +1,5 @@
 -- Controls, resynchronization and statement lists (grammar's Reading/Stmt.antt), one step each, as the code goes: an equation for each way through a reading. Assumes nothing.
-use mathlib.Core.Path.{_≡_, refl, sym, ap, _∙_, subst}
+use mathlib.Core.Path.{_≡_, refl, sym, ap, _∙_}
 use mathlib.Core.Bool.{Bool, true, false, _&&_, _||_}
 use mathlib.Core.List.{List, [], _∷_, _++_, append-assoc, append-nil}
 use Prim.Native.Nat.{ℕ, zero, suc, _+_, _*_, _-_, _≤_}
@@ -17,7 +17,7 @@ use Rattle.tree.specs.Store.{Emitted}
 use Rattle.tree.specs.Tree.{Tree, Forest, node, none, more, one, snoc, count, records, all-records, kind-of}
 use Rattle.tree.specs.Records.{Small}
 use Rattle.tree.specs.Node
-use Rattle.grammar.specs.Reading.Limit.{queue-full, too-deep}
+use Rattle.grammar.specs.Reading.Limit.{too-deep}
 use Rattle.grammar.specs.Reading.Number
 use Rattle.grammar.specs.Reading.Result.{Res, ok, bad, fail, stop, spoil, either, then, ifb, push, pop}
 use Rattle.grammar.specs.Reading.Look.{looked, look, try-label}
@@ -36,6 +36,7 @@ use Rattle.parser.specs.declared.Entry.{Entry}
 use Rattle.parser.specs.declared.Entry.the-variants.{Stmt as EStmt, Control as EControl, Caught as ECaught, Not as ENot}
 use Rattle.parser.proofs.Algebra.{then-ok, then-then, then-either, then-if, then-same, either-same, if-same}
 use Rattle.parser.proofs.Laws.{Looks, way, link, spoiled, goes, shorter, fails, elsewhere, prefix}
+use Rattle.parser.proofs.Shapes.{given}
 
 -- the value of a control
 pub value-looks : (low : Level) (q ts : List ℕ) → Looks q ts (control-value low q ts)
@@ -81,18 +82,6 @@ module _ (low : Level) (k : ℕ) (q r : List ℕ) {x l : ℕ} where
   pub label-break : (k ≡ Kind.Continue → ⊥) → x ≡ l → label-go low k x q r ≡ then q (control-value low q r) (λ e q₂ s. ok (Node.break l e) s)
   unfolding label-go ifb
   label-break e h = rw (ne-eqb _ _ e, h)
-
--- pushing
-pub push-full : {A : Type 0} (e w : ℕ) (Q : List ℕ) (k : List ℕ → Res A) → w ≡ 96 → w ≤ length Q → push e (take w Q) k ≡ stop queue-full
-unfolding push ifb
-push-full e w Q k h g = rw (eq-eqb _ _ (length-take-le w Q g ∙ h))
-
-push-room : {A : Type 0} (e w : ℕ) (Q : List ℕ) (k : List ℕ → Res A) → (w ≡ 96 → ⊥) → w ≤ length Q → push e (take w Q) k ≡ spoil (take w Q ++ e ∷ []) (k (take w Q ++ e ∷ []))
-unfolding push ifb
-push-room e w Q k h g = rw (ne-eqb _ _ (λ i. h (sym (length-take-le w Q g) ∙ i)))
-
-pub pushes : {A : Type 0} (e w : ℕ) (Q : List ℕ) (k : List ℕ → Res A) {q : List ℕ} → (w ≡ 96 → ⊥) → w ≤ length Q → q ≡ take w Q ++ e ∷ [] → As (take w Q) (push e (take w Q) k) q (k q)
-pushes e w Q k {q} h g x = rw x (link (way _ (push-room e w Q k h g)) (spoiled _ _))
 
 -- fuel
 left : (T : List ℕ) (p fuel : ℕ) → length T ≤ p + fuel → length (drop p T) ≤ fuel
@@ -205,16 +194,6 @@ module _ {D d : Res (Unit {0})} {T : List ℕ} {pos at w₀ p w : ℕ} {S₀ Q�
 
   pub resumes : {r : Step} → Resumes d T p at w Q Q′ r → Agrees no-words D T pos pos 8 at w₀ S₀ Q₀ S Q′ r
   resumes {r = r} h = resumes-as r h
-
--- WHAT WAS READ, where every success has a property
-pub held-of : {A : Type 0} {P : A → Type 0} {d : Res A} {q q′ r : List ℕ} {x : A} → Holds P d → As q d q′ (ok x r) → P x
-held-of {A = A} {P = P} {q = q} {q′ = q′} {r = r} {x = x} h a = by q h (a .is)
-  where
-    by : {d : Res A} (q : List ℕ) → Holds P d → out q d ≡ won x q′ r → P x
-    by q (h-ok {a = y} p) e = let z : y ≡ x = cc in subst P z p
-    by q (h-bad {a = y} p) e = let z : y ≡ x = cc in subst P z p
-    by q h-fail e = absurd (let z : _≡_ {A = ℕ} 0 1 = cc in omega arith)
-    by q h-stop e = absurd (let z : _≡_ {A = ℕ} 0 1 = cc in omega arith)
 
 -- a control is no `Absent`
 abbrev pub Some : Tree → Type 0
@@ -485,7 +464,7 @@ turn-small d end k rest q ts =
     (λ _. held-either q (stmt-small (level d) (level-small d) q ts) (λ t q₁ r x. h-ok x) (λ e q₁ r. holds-past q₁ (caught (level d) e q₁ r) λ u q₂ s. h-ok tt))
 
 pub place-small : (d end k : ℕ) (rest q ts : List ℕ) {q′ r : List ℕ} {t : Tree} → As q (turn (level d) end k rest q ts) q′ (ok (a-stmt t) r) → Small t
-place-small d end k rest q ts a = held-of (turn-small d end k rest q ts) a
+place-small d end k rest q ts a = given (turn-small d end k rest q ts) a
 
 -- the end of a list's statements
 split-snoc : (f : Forest) (t : Tree) → split-last t ≡ whole (one t) → split (snoc f t) ≡ whole (snoc f t)

@@ -1,6 +1,6 @@
 -- What binds tighter than operators (grammar's Reading/Primary.antt and Level.antt), one step each, as the code goes: an equation for each way through a reading;
 -- and what a last call's answer is for the function that makes it. Assumes nothing.
-use mathlib.Core.Path.{_≡_, refl, sym, ap, _∙_, subst}
+use mathlib.Core.Path.{_≡_, refl, sym, ap, _∙_}
 use mathlib.Core.Bool.{Bool, true, false, _&&_, _||_, true≢false}
 use mathlib.Core.List.{List, [], _∷_, _++_, append-assoc}
 use Prim.Native.Nat.{ℕ, zero, suc, _+_, _*_, _-_, _≤_, _<_}
@@ -24,8 +24,7 @@ use Rattle.grammar.specs.Reading.Primary.{atom, indexing-expr, table-field, tab
 use Rattle.grammar.specs.Reading.Block.{block-expr, expr-label, if-expr}
 use Rattle.grammar.specs.Reading.Function.{function-decl-expr}
 use Rattle.grammar.specs.Reading.Level.{primary-expr}
-use Rattle.grammar.specs.Laws.Kinds.{Holds, h-ok, h-bad, h-fail, h-stop}
-use Rattle.parser.specs.Post.{won, out, As, Moved, Room, Wrote, Agrees, Taken, Writes}
+use Rattle.parser.specs.Post.{As, Moved, Room, Wrote, Agrees, Taken, Writes}
 use Rattle.parser.specs.Parts.{goes-on, access, path-words, list-words, unpack-end, named-field, item-end}
 use Rattle.parser.specs.declared.Step.{Step}
 use Rattle.parser.specs.declared.Step.the-variants.{Done, Fail, Stop}
@@ -33,16 +32,6 @@ use Rattle.parser.proofs.Algebra.{then-fail, then-ok, then-then, then-i
 use Rattle.parser.proofs.Tokens.{label-small}
 use Rattle.parser.proofs.Trees.{path-text}
 use Rattle.parser.proofs.Laws.{way, link, goes, Later, fails, Looks, Beyond, lacking, put, all-one}
-
--- what holds of all that a reading gives holds of what was read
-held : {A : Type 0} {P : A → Type 0} {d : Res A} → Holds P d → (q q′ r : List ℕ) (x : A) → out q d ≡ won x q′ r → P x
-held {P = P} (h-ok {a = a} p) q q′ r x e = let i : a ≡ x = cc in subst P i p
-held {P = P} (h-bad {a = a} p) q q′ r x e = let i : a ≡ x = cc in subst P i p
-held h-fail q q′ r x e = absurd (let z : _≡_ {A = ℕ} 0 1 = cc in omega arith)
-held h-stop q q′ r x e = absurd (let z : _≡_ {A = ℕ} 0 1 = cc in omega arith)
-
-pub holds-of : {A : Type 0} {P : A → Type 0} {d : Res A} {q q′ r : List ℕ} {x : A} → Holds P d → As q d q′ (ok x r) → P x
-holds-of h a = held h _ _ _ _ (a .is)
 
 -- LAST CALLS
 -- text that begins with what stood up to «at» is as long

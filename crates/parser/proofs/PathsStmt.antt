@@ -1,13 +1,10 @@
 -- Statements, lists that are ended, and conditionals (grammar's Reading/Block.antt and Stmt.antt): an equation for each way through a reading, and laws of what ends a list. Assumes nothing.
-use mathlib.Core.Path.{_≡_, refl, sym, ap, _∙_, subst}
+use mathlib.Core.Path.{_≡_, refl, sym, ap, _∙_}
 use mathlib.Core.Bool.{Bool, true, false, cond, _||_}
-use mathlib.Core.Logic.{⊎-elim}
 use mathlib.Core.List.{List, [], _∷_, _++_, append-assoc, append-nil}
 use Prim.Native.Nat.{ℕ, zero, suc, _+_, _*_, _-_, _≤_, _<_}
 use native.Mathlib.Numerals.{sub-one}
 use native.Mathlib.Omega.{arith}
-use types.Run.{OneOf}
-use denote.Enum.Declared.{tagOf}
 use lib.Dec.{eqb}
 use lib.ListN.{length, take, drop, length-take, length-drop, length-append}
 use lib.Seq.{length-take-le, take-take, take-append-le}
@@ -18,17 +15,16 @@ use Rattle.tree.specs.Tree.{Tree, Forest, node, none, more, one, two, three, sn
 use Rattle.tree.specs.Node
 use Rattle.tree.specs.Records.{Small}
 use Rattle.tree.specs.Store.{Emitted}
-use Rattle.grammar.specs.Laws.Kinds.{Holds, h-ok, h-bad, h-fail, h-stop}
 use Rattle.grammar.specs.Reading.Number
 use Rattle.grammar.specs.Reading.Pattern.{to-pattern, modified}
-use Rattle.grammar.specs.Reading.Result.{Res, ok, bad, fail, stop, spoil, then, ifb}
+use Rattle.grammar.specs.Reading.Result.{Res, ok, fail, then, ifb}
 use Rattle.grammar.specs.Reading.Look.{look, expect, expect-pattern, try-assign-keyword}
 use Rattle.grammar.specs.Reading.Expr.{Level, Stmts, tuple-expr, expr}
 use Rattle.grammar.specs.Reading.Block.{body, block-of, block-expr, expr-label, branches}
 use Rattle.grammar.specs.Reading.Stmt.{stmt-list-of, loop, while-loop, lvalue-list, for-loop, stmt-label, stmt, is-control}
 use Rattle.grammar.specs.Reading.Level.{level}
 use Rattle.pattern.specs.Contract.{Whole}
-use Rattle.parser.specs.Post.{As, clean, Moved, Wrote, Agrees, Taken, Stored, Unstored, Writes}
+use Rattle.parser.specs.Post.{As, clean, Moved, Wrote, Agrees, Taken, Stored, Writes}
 use Rattle.parser.specs.Parts.{expression-end, branch, Turning, turning, not-allowed}
 use Rattle.parser.specs.Ends.{Added, Ended, Any}
 use Rattle.parser.specs.Lists.{Ends, keeps, gives, Lists, Passing, took, lacks as lacks-one, Passes, Within, Closable, Unders}
@@ -37,58 +33,8 @@ use Rattle.parser.specs.declared.Step.the-variants.{Done, Fail, Stop}
 use Rattle.parser.specs.declared.Listed.{Listed}
 use Rattle.parser.specs.declared.Listed.the-variants.{Suite, Control, Not}
 use Rattle.parser.proofs.Laws.{way, link, goes, did-not, fails, Looks, lacks, lacking, prefix, rebased, relabel, joined, put, all-snoc, count-snoc}
-use Rattle.parser.proofs.Step.{the-type}
 use Rattle.parser.proofs.Tokens.{label-small}
-
--- PUTTING TOGETHER
-spoil-spoil : {A : Type 0} (q q′ : List ℕ) (d : Res A) → spoil q (spoil q′ d) ≡ spoil q′ d
-unfolding spoil
-spoil-spoil q q′ (ok a r) = refl
-spoil-spoil q q′ (bad a q″ r) = refl
-spoil-spoil q q′ (fail e q″ r) = refl
-spoil-spoil q q′ (stop n) = refl
-
-then-spoil : {A B : Type 0} (q q′ : List ℕ) (d : Res A) (k : A → List ℕ → List ℕ → Res B) → then q (spoil q′ d) k ≡ spoil q′ (then q′ d k)
-unfolding spoil then
-then-spoil q q′ (ok a r) k = refl
-then-spoil q q′ (bad a q″ r) k = sym (spoil-spoil q′ q″ (k a q″ r))
-then-spoil q q′ (fail e q″ r) k = refl
-then-spoil q q′ (stop n) k = refl
-
-then-ok : {A B : Type 0} (q : List ℕ) (a : A) (r : List ℕ) (k : A → List ℕ → List ℕ → Res B) → then q (ok a r) k ≡ k a q r
-unfolding then
-then-ok q a r k = refl
-
-then-then : {A B C : Type 0} (q : List ℕ) (d : Res A) (f : A → List ℕ → List ℕ → Res B) (k : B → List ℕ → List ℕ → Res C) → then q (then q d f) k ≡ then q d (λ a q₁ r. then q₁ (f a q₁ r) k)
-unfolding then
-then-then q (ok a r) f k = refl
-then-then q (bad a q₁ r) f k = then-spoil q q₁ (f a q₁ r) k
-then-then q (fail e q₁ r) f k = refl
-then-then q (stop n) f k = refl
-
-then-same : {A B : Type 0} (q : List ℕ) (d : Res A) {f g : A → List ℕ → List ℕ → Res B} → ((a : A) (q : List ℕ) (r : List ℕ) → f a q r ≡ g a q r) → then q d f ≡ then q d g
-unfolding then
-then-same q (ok a r) h = h a q r
-then-same q (bad a q₁ r) h = ap (spoil q₁) (h a q₁ r)
-then-same q (fail e q₁ r) h = refl
-then-same q (stop n) h = refl
-
--- what holds of whatever is read holds of what was read
-pub shape-of : {A : Type 0} {P : A → Type 0} {d : Res A} {q q′ r : List ℕ} {x : A} → Holds P d → As q d q′ (ok x r) → P x
-shape-of {P = P} {x = x} (h-ok {a} y) s =
-    let is = s .is in
-    let e : a ≡ x = cc in
-    subst P e y
-shape-of {P = P} {x = x} (h-bad {a} y) s =
-    let is = s .is in
-    let e : a ≡ x = cc in
-    subst P e y
-shape-of h-fail s =
-    let is = s .is in
-    absurd (let z : _≡_ {A = ℕ} 0 1 = cc in omega arith)
-shape-of h-stop s =
-    let is = s .is in
-    absurd (let z : _≡_ {A = ℕ} 0 1 = cc in omega arith)
+use Rattle.parser.proofs.Algebra.{then-ok, then-then, then-same}
 
 pub label-below : {T : List ℕ} {pos k n v : ℕ} → Taken T pos k n v → k ≡ Kind.Label → v < 4294967296
 label-below {v = v} tk e = label-small {v = v} (tk .fits) e
@@ -284,19 +230,6 @@ module _ {A : Type 0} {words : A → List ℕ} {D : Res A} {d : List ℕ → Res
   pub written : {r : Step} → Writes words d T p least₁ most a w (take at S) S′ S″ r → As (take w₀ Q) D (take w Q′) (d (take w Q′)) → take at S′ ≡ take at S → Written-from (length S) (length Q′) pos least slack at w₀ p least₁ most a w → Agrees words D T pos least slack at w₀ S Q S″ Q′ r
   written {r} h s x n = written-as r h s x n
 
--- what a function that writes answered
-module _ {A : Type 0} {words : A → List ℕ} {d : List ℕ → Res A} {T : List ℕ} {pos least most at w₀ : ℕ} {X S S′ : List ℕ} where
-  pub stored : {p a w : ℕ} {r : Step} → r ≡ Done p a w → Writes words d T pos least most at w₀ X S S′ r → Stored words d T least most at w₀ X p a w S′
-  stored e h = rw e at (h .how)
-
-  not-stored : (r : Step) → OneOf (1 ∷ 2 ∷ []) (tagOf the-type r) → Writes words d T pos least most at w₀ X S S′ r → Unstored d T pos least w₀ S S′ r
-  not-stored (Done p a w) o h = absurd (⊎-elim (λ e. omega arith) (λ e. omega arith) o)
-  not-stored (Fail e p w) o h = h .how
-  not-stored (Stop n) o h = h .how
-
-  pub unstored : {r : Step} → OneOf (1 ∷ 2 ∷ []) (tagOf the-type r) → Writes words d T pos least most at w₀ X S S′ r → Unstored d T pos least w₀ S S′ r
-  unstored {r = r} o h = not-stored r o h
-
 -- what was written as a tree, for who makes a pattern of it
 module _ {B : Type 0} {d : Res B} {k : Tree → List ℕ → List ℕ → Res B} {T : List ℕ} {pos least slack at w₀ : ℕ} {S Q : List ℕ} {p a w : ℕ} {S′ Q′ : List ℕ} (g : Wrote records d k T pos least slack at w₀ S Q p a w S′ Q′) where
   pub whole-of : Small (g .what) → at ≤ length S → a ≤ length S′ → Whole (g .what) S′ at a
@@ -354,7 +287,7 @@ module _ (low : Level) (q ts : List ℕ) where
   -- what goes on as `turning` does
   pub turning-as : {A : Type 0} (make : Tree → Stmts → A) → then q (expr low q ts) (λ e q₁ r. then q₁ (expect Kind.Do Number.missing-do q₁ r) λ tok q₂ s. then q₂ (body low q₂ s) λ b q₃ u. ok (make e b) u) ≡ then q (turning low q ts) (λ x q₁ r. ok (make (x .over) (x .run)) r)
   turning-as make = sym (ap (λ (d : Res Turning). then q d (λ x q₁ r. ok (make (x .over) (x .run)) r)) turning-step ∙ then-then q (expr low q ts) _ _
-      ∙ then-same q (expr low q ts) (λ e q₁ r. then-then q₁ (expect Kind.Do Number.missing-do q₁ r) _ _ ∙ then-same q₁ (expect Kind.Do Number.missing-do q₁ r) (λ tok q₂ s. then-then q₂ (body low q₂ s) _ _ ∙ then-same q₂ (body low q₂ s) (λ b q₃ u. then-ok q₃ _ u _))))
+      ∙ then-same q (expr low q ts) (λ e q₁ r. then-then q₁ (expect Kind.Do Number.missing-do q₁ r) _ _ ∙ then-same q₁ (expect Kind.Do Number.missing-do q₁ r) (λ tok q₂ s. then-then q₂ (body low q₂ s) _ _ ∙ then-same q₂ (body low q₂ s) (λ b q₃ u. then-ok q₃ _))))
 
   pub while-as : (l : ℕ) → while-loop low l q ts ≡ then q (turning low q ts) (λ x q₁ r. ok (Node.while-loop l (x .over) (stmt-list-of (x .run))) r)
   unfolding while-loop
@@ -469,7 +402,7 @@ branch-empty low f q = rw (branch-step low q [], expr-empty low q)
 branches-suc : (low : Level) (n : ℕ) (f : Forest) (q ts : List ℕ) → branches low (suc n) f q ts ≡ then q (branch low q ts) (λ b q₃ u. behind low n f b q₃ u)
 unfolding branches behind
 branches-suc low n f q ts = sym (ap (λ (d : Res Tree). then q d (λ b q₃ u. behind low n f b q₃ u)) (branch-step low q ts) ∙ then-then q (expr low q ts) _ _
-    ∙ then-same q (expr low q ts) (λ e q₁ r. then-then q₁ (expect Kind.Then Number.missing-then q₁ r) _ _ ∙ then-same q₁ (expect Kind.Then Number.missing-then q₁ r) (λ tok q₂ s. then-then q₂ (low .list 1 q₂ s) _ _ ∙ then-same q₂ (low .list 1 q₂ s) (λ b q₃ u. then-ok q₃ _ u _))))
+    ∙ then-same q (expr low q ts) (λ e q₁ r. then-then q₁ (expect Kind.Then Number.missing-then q₁ r) _ _ ∙ then-same q₁ (expect Kind.Then Number.missing-then q₁ r) (λ tok q₂ s. then-then q₂ (low .list 1 q₂ s) _ _ ∙ then-same q₂ (low .list 1 q₂ s) (λ b q₃ u. then-ok q₃ _))))
 
 branches-zero : (low : Level) (f : Forest) (q : List ℕ) → branches low 0 f q [] ≡ fail Number.end-of-tokens q []
 unfolding branches

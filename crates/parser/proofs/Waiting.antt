@@ -11,6 +11,7 @@ use Rattle.parser.specs.Post.{As, Failed, Queues}
 use Rattle.parser.specs.declared.Step.{Step}
 use Rattle.parser.specs.declared.Step.the-variants.{Done, Fail, Stop}
 use Rattle.parser.proofs.Laws.{way, link, spoiled}
+use Rattle.grammar.specs.Reading.Limit.{queue-full}
 
 -- a choice
 pub chosen : {A : Type 0} {b : Bool} (f g : Unit {0} → A) → b ≡ true → ifb b f g ≡ f tt
@@ -22,7 +23,7 @@ unfolding ifb
 other f g e = rw e
 
 -- the queue
-pub push-full : {A : Type 0} (e w : ℕ) (Q : List ℕ) (k : List ℕ → Res A) → w ≡ 96 → w ≤ length Q → push e (take w Q) k ≡ stop 64
+pub push-full : {A : Type 0} (e w : ℕ) (Q : List ℕ) (k : List ℕ → Res A) → w ≡ 96 → w ≤ length Q → push e (take w Q) k ≡ stop queue-full
 unfolding push ifb
 push-full e w Q k h g = rw (eq-eqb _ _ (length-take-le w Q g ∙ h))
 

@@ -7,10 +7,11 @@ use lib.ListN.{drop}
 use Rattle.grammar.specs.Reading.Result.{push}
 use Rattle.grammar.specs.Reading.Level.{level}
 use Rattle.parser.proofs.Laws.{way, link, ends, goes, done, undone, did-not, taken, fails, prefix}
-use Rattle.parser.proofs.PathsList.{push-full, pushes, caught-go, caught-out, caught-push, resumes}
+use Rattle.parser.proofs.PathsList.{caught-go, caught-out, caught-push, resumes}
 use Rattle.parser.proofs.caught.Reads as reads
 use Rattle.parser.proofs.+access+atom+begin+binop+block+body+branch+call+caught+commas+control+decl+def+expr+field+for_in+group+if_expr+index+item+label+list+lvalue+operand+param+params+path+primary+repeat+right+stmt+sync+table+target+tuple+turn+unary+unpack+value+while_do.Lts-caught as lts
 use Rattle.parser.proofs.+access+atom+begin+binop+block+body+branch+call+caught+commas+control+decl+def+expr+field+for_in+group+if_expr+index+item+label+list+lvalue+operand+param+params+path+primary+repeat+right+stmt+sync+table+target+tuple+turn+unary+unpack+value+while_do.Proof.Base.{caught-calls, caught-at}
+use Rattle.parser.proofs.Waiting.{push-full, pushes}
 
 pub returns : (t : ℕ) → lts.Need-returns (caught-calls t) (caught-at t) reads.Post
 returns t c = record { how = record { how = record { same = way _ (caught-out _ _ _ _ (c .if1 .taken)); moved = omega arith; far = omega arith; text = refl } } }

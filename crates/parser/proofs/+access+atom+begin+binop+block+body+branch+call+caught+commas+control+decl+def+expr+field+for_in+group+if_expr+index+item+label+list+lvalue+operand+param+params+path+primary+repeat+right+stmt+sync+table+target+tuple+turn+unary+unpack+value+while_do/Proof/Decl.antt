@@ -6,10 +6,11 @@ use native.Mathlib.Omega.{arith}
 use lib.ListN.{take}
 use Rattle.parser.proofs.Laws.{way, here, link, goes, done, undone, did-not, taken, not-taken, fails, blind, prefix, made-two, later}
 use Rattle.parser.proofs.Tokens.{name-small}
-use Rattle.parser.proofs.PathsFunction.{held-by, target-small, target-named, kind-stands, tree-long, decl-looks, decl-open, decl-target, decl-name}
+use Rattle.parser.proofs.PathsFunction.{target-small, target-named, kind-stands, tree-long, decl-looks, decl-open, decl-target, decl-name}
 use Rattle.parser.proofs.decl.Reads as reads
 use Rattle.parser.proofs.+access+atom+begin+binop+block+body+branch+call+caught+commas+control+decl+def+expr+field+for_in+group+if_expr+index+item+label+list+lvalue+operand+param+params+path+primary+repeat+right+stmt+sync+table+target+tuple+turn+unary+unpack+value+while_do.Lts-decl as lts
 use Rattle.parser.proofs.+access+atom+begin+binop+block+body+branch+call+caught+commas+control+decl+def+expr+field+for_in+group+if_expr+index+item+label+list+lvalue+operand+param+params+path+primary+repeat+right+stmt+sync+table+target+tuple+turn+unary+unpack+value+while_do.Proof.Base.{decl-calls, decl-at}
+use Rattle.parser.proofs.Shapes.{given}
 
 pub look-requires : (t : ℕ) → lts.Need-look-requires (decl-calls t) (decl-at t) reads.Post
 look-requires t c κs = omega arith
@@ -44,8 +45,8 @@ returns-2 t c = let tk = taken (c .before .before .before .before .before .befor
 pub target-name-requires : (t : ℕ) → lts.Need-target-name-requires (decl-calls t) (decl-at t) reads.Post
 target-name-requires t c κs = let tk = taken (c .before .before .before .before .before .before .before .before .before .before .before .kind .given .1) (c .before .before .before .before .before .before .before .before .before .before .before .before .before .look .ensures) in
     let g = done (c .before .before .t .given .1) (c .before .before .before .before .before .before .target .ensures) in
-    let small = held-by (target-small (c .before .before .before .before .before .before .before .before .before .before .before .before .before .before .before .before .args .depth) _ _) (g .same) in
-    let names = held-by (target-named _ _ tk (c .before .before .before .before .before .before .before .before .before .if1 .left)) (g .same) in
+    let small = given (target-small (c .before .before .before .before .before .before .before .before .before .before .before .before .before .before .before .before .args .depth) _ _) (g .same) in
+    let names = given (target-named _ _ tk (c .before .before .before .before .before .before .before .before .before .if1 .left)) (g .same) in
     let l = tree-long g (omega (arith, c .before .before .before .before .before .before .before .before .before .before .before .before .before .before .before .before .pre)) in
     (omega (arith, l), omega (arith, c .before .before .before .before .before .before .before .before .before .before .before .before .before .before .before .before .pre, g .moved, g .room, c .before .before .before .before .before .before .target .kept .1 .0), λ e. name-small (tk .fits) (names (sym (kind-stands (c .before .before .before .before .before .before .target .last .1 .0) (take (c .before .before .before .before .before .before .before .before .before .before .before .before .before .before .before .before .args .at) (c .before .before .before .before .before .before .before .before .before .before .before .before .before .before .before .before .args .store .now)) (c .before .before .t .given .0 .1 .0) (g .what) small (g .text) (omega (arith, c .before .before .before .before .before .before .before .before .before .before .before .before .before .before .before .before .pre, g .moved, g .room, c .before .before .before .before .before .before .target .kept .1 .0))) ∙ e) .0))
 
@@ -64,8 +65,8 @@ returns-3 t c = let tk = taken (c .before .before .before .before .before .befor
     let g = done (c .before .before .before .before .before .before .before .before .before .t .given .1) (c .before .before .before .before .before .before .before .before .before .before .before .before .before .target .ensures) in
     let path = way _ (decl-target _ _ tk (c .before .before .before .before .before .before .before .before .before .before .before .before .before .before .before .before .if1 .left)) in
     let on = goes _ path (g .same) in
-    let small = held-by (target-small (c .before .before .before .before .before .before .before .before .before .before .before .before .before .before .before .before .before .before .before .before .before .before .before .args .depth) _ _) (g .same) in
-    let names = held-by (target-named _ _ tk (c .before .before .before .before .before .before .before .before .before .before .before .before .before .before .before .before .if1 .left)) (g .same) in
+    let small = given (target-small (c .before .before .before .before .before .before .before .before .before .before .before .before .before .before .before .before .before .before .before .before .before .before .before .args .depth) _ _) (g .same) in
+    let names = given (target-named _ _ tk (c .before .before .before .before .before .before .before .before .before .before .before .before .before .before .before .before .if1 .left)) (g .same) in
     let name = c .before .before .before .before .before .before .target-name .ensures (take (c .before .before .before .before .before .before .before .before .before .before .before .before .before .before .before .before .before .before .before .before .before .before .before .args .at) (c .before .before .before .before .before .before .before .before .before .before .before .before .before .before .before .before .before .before .before .before .before .before .before .args .store .now)) (g .what) small (g .text) (λ e. names e .1) in
     let last = link on (way _ (decl-name _ (g .what) name _ _)) in
     did-not (fails _ last (undone (c .match3 .keys2) (c .before .before .before .def2 .ensures)) (prefix g (omega (arith, c .before .before .before .before .before .before .before .before .before .before .before .before .before .before .before .before .before .before .before .before .before .before .before .pre))) (omega (arith, c .before .before .before .before .before .before .before .before .before .before .before .before .before .before .before .before .before .before .before .before .before .before .before .pre, g .moved, g .room)))
@@ -87,8 +88,8 @@ returns-4 t c = let tk = taken (c .before .before .before .before .before .befor
     let h = done (c .before .before .before .before .before .r .given .1) (c .before .before .before .before .before .before .before .before .before .def2 .ensures) in
     let path = way _ (decl-target _ _ tk (c .before .before .before .before .before .before .before .before .before .before .before .before .before .before .before .before .before .before .before .before .before .before .if1 .left)) in
     let on = goes _ path (g .same) in
-    let small = held-by (target-small (c .before .before .before .before .before .before .before .before .before .before .before .before .before .before .before .before .before .before .before .before .before .before .before .before .before .before .before .before .before .args .depth) _ _) (g .same) in
-    let names = held-by (target-named _ _ tk (c .before .before .before .before .before .before .before .before .before .before .before .before .before .before .before .before .before .before .before .before .before .before .if1 .left)) (g .same) in
+    let small = given (target-small (c .before .before .before .before .before .before .before .before .before .before .before .before .before .before .before .before .before .before .before .before .before .before .before .before .before .before .before .before .before .args .depth) _ _) (g .same) in
+    let names = given (target-named _ _ tk (c .before .before .before .before .before .before .before .before .before .before .before .before .before .before .before .before .before .before .before .before .before .before .if1 .left)) (g .same) in
     let name = c .before .before .before .before .before .before .before .before .before .before .before .before .target-name .ensures (take (c .before .before .before .before .before .before .before .before .before .before .before .before .before .before .before .before .before .before .before .before .before .before .before .before .before .before .before .before .before .args .at) (c .before .before .before .before .before .before .before .before .before .before .before .before .before .before .before .before .before .before .before .before .before .before .before .before .before .before .before .before .before .args .store .now)) (g .what) small (g .text) (λ e. names e .1) in
     let last = link on (way _ (decl-name _ (g .what) name _ _)) in
     let e = c .before .before .emit .ensures in

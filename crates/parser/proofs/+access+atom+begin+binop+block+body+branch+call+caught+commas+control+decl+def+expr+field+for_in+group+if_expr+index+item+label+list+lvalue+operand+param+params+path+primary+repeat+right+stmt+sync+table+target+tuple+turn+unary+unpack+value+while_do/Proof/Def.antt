@@ -7,10 +7,11 @@ use lib.ListN.{take}
 use Rattle.parser.proofs.Laws.{way, goes, done, undone, did-not, shorter, fails, lacks, passed, unpassed, gets, prefix}
 use Rattle.parser.proofs.Tokens.{unread}
 use Rattle.grammar.specs.Reading.Block.{block-of}
-use Rattle.parser.proofs.PathsFunction.{closable, under, def-tree, def-step, def-text, stored, unstored, stored-prefix, stored-up}
+use Rattle.parser.proofs.PathsFunction.{closable, under, def-tree, def-step, def-text, stored-prefix, stored-up}
 use Rattle.parser.proofs.def.Reads as reads
 use Rattle.parser.proofs.+access+atom+begin+binop+block+body+branch+call+caught+commas+control+decl+def+expr+field+for_in+group+if_expr+index+item+label+list+lvalue+operand+param+params+path+primary+repeat+right+stmt+sync+table+target+tuple+turn+unary+unpack+value+while_do.Lts-def as lts
 use Rattle.parser.proofs.+access+atom+begin+binop+block+body+branch+call+caught+commas+control+decl+def+expr+field+for_in+group+if_expr+index+item+label+list+lvalue+operand+param+params+path+primary+repeat+right+stmt+sync+table+target+tuple+turn+unary+unpack+value+while_do.Proof.Base.{def-calls, def-at}
+use Rattle.parser.proofs.Writing.{stored, unstored}
 
 pub expect-requires : (t : ℕ) → lts.Need-expect-requires (def-calls t) (def-at t) reads.Post
 expect-requires t c κs = omega arith

@@ -10,8 +10,8 @@ use Rattle.grammar.specs.Reading.Expr.{expr}
 use Rattle.parser.specs.Parts.{expression-end, not-allowed}
 use Rattle.parser.proofs.Laws.{way, here, goes, done, undone, did-not, taken, not-taken, fails, blind, prefix, made-one, later}
 use Rattle.grammar.specs.Reading.Stmt.{stmt-list-of}
-use Rattle.parser.proofs.Shapes.{expr-shape}
-use Rattle.parser.proofs.PathsStmt.{shape-of, label-below, fails-with, renamed, written, two-words, while-as, stmt-looks, stmt-loop, stmt-while, stmt-for, stmt-labelled, stmt-assert, stmt-control, stmt-expr}
+use Rattle.parser.proofs.Shapes.{expr-shape, given}
+use Rattle.parser.proofs.PathsStmt.{label-below, fails-with, renamed, written, two-words, while-as, stmt-looks, stmt-loop, stmt-while, stmt-for, stmt-labelled, stmt-assert, stmt-control, stmt-expr}
 use Rattle.parser.proofs.stmt.Reads as reads
 use Rattle.parser.proofs.+access+atom+begin+binop+block+body+branch+call+caught+commas+control+decl+def+expr+field+for_in+group+if_expr+index+item+label+list+lvalue+operand+param+params+path+primary+repeat+right+stmt+sync+table+target+tuple+turn+unary+unpack+value+while_do.Lts-stmt as lts
 use Rattle.parser.proofs.+access+atom+begin+binop+block+body+branch+call+caught+commas+control+decl+def+expr+field+for_in+group+if_expr+index+item+label+list+lvalue+operand+param+params+path+primary+repeat+right+stmt+sync+table+target+tuple+turn+unary+unpack+value+while_do.Proof.Base.{stmt-calls, stmt-at}
@@ -116,7 +116,7 @@ returns-3 t c = let tk = taken (c .before .before .before .before .before .befor
 pub expression-end-requires : (t : ℕ) → lts.Need-expression-end-requires (stmt-calls t) (stmt-at t) reads.Post
 expression-end-requires t c κs = let tk = taken (c .before .before .before .before .before .before .before .before .before .before .before .before .before .kind .given .1) (c .before .before .before .before .before .before .before .before .before .before .before .before .before .before .before .look .ensures) in
     let v = done (c .before .before .r2 .given .1) (c .before .before .before .before .before .before .expr2 .ensures) in
-    let sh = shape-of (expr-shape _ _ _) (v .same) in
+    let sh = given (expr-shape _ _ _) (v .same) in
     (record { before = take (c .before .before .before .before .before .before .before .before .before .before .before .before .before .before .before .before .before .before .args .at) (c .before .before .before .before .before .before .before .before .before .before .before .before .before .before .before .before .before .before .args .store .now); tree = v .what; shape = sh; text = v .text; within = omega arith }, omega arith)
 
 pub enum-known-s : (t : ℕ) → lts.Need-enum-known-s (stmt-calls t) (stmt-at t) reads.Post
@@ -167,7 +167,7 @@ returns-9 t c = let tk = taken (c .before .before .before .before .before .befor
     let v = done (c .before .before .before .before .before .r2 .given .1) (c .before .before .before .before .before .before .before .before .before .expr2 .ensures) in
     let r = c .before .before .before .before .before .before .before .before .before .before .before .before .before .before .match2 .rest in
     let track = way _ (stmt-expr _ _ tk (r .0 .0 .0 .0 .1) (r .0 .0 .0 .1) (r .0 .0 .1) (r .0 .1) (r .1) (c .before .before .before .before .before .before .before .before .before .before .before .before .before .is-control .ensures) (c .before .before .before .before .before .before .before .before .before .before .before .before .if1 .left)) in
-    let sh = shape-of (expr-shape _ _ _) (v .same) in
+    let sh = given (expr-shape _ _ _) (v .same) in
     written (c .before .before .expression-end .ensures _ _ _ sh (v .text) (v .moved .within)) (goes _ track (v .same)) (prefix v (omega (arith, c .before .before .before .before .before .before .before .before .before .before .before .before .before .before .before .before .before .before .before .before .before .pre, v .moved, v .room))) (omega (arith, c .before .before .before .before .before .before .before .before .before .before .before .before .before .before .before .before .before .before .before .before .before .pre, v .moved, v .room, tk .within))
 
 pub returns-10 : (t : ℕ) → lts.Need-returns-10 (stmt-calls t) (stmt-at t) reads.Post

@@ -5,10 +5,11 @@ use borrow.Author.Needs.{needs}
 use native.Mathlib.Omega.{arith}
 use lib.ListN.{take}
 use Rattle.parser.proofs.Laws.{way, wins, loses, done, missed, stops, taken, prefix}
-use Rattle.parser.proofs.PathsList.{held-of, control-held, turn-control, turn-stmt, catches, caught-two, emitted-before, control-text, closes}
+use Rattle.parser.proofs.PathsList.{control-held, turn-control, turn-stmt, catches, caught-two, emitted-before, control-text, closes}
 use Rattle.parser.proofs.turn.Reads as reads
 use Rattle.parser.proofs.+access+atom+begin+binop+block+body+branch+call+caught+commas+control+decl+def+expr+field+for_in+group+if_expr+index+item+label+list+lvalue+operand+param+params+path+primary+repeat+right+stmt+sync+table+target+tuple+turn+unary+unpack+value+while_do.Lts-turn as lts
 use Rattle.parser.proofs.+access+atom+begin+binop+block+body+branch+call+caught+commas+control+decl+def+expr+field+for_in+group+if_expr+index+item+label+list+lvalue+operand+param+params+path+primary+repeat+right+stmt+sync+table+target+tuple+turn+unary+unpack+value+while_do.Proof.Base.{turn-calls, turn-at}
+use Rattle.parser.proofs.Shapes.{given}
 
 pub is-control-requires : (t : ℕ) → lts.Need-is-control-requires (turn-calls t) (turn-at t) reads.Post
 is-control-requires t c κs = search needs
@@ -55,7 +56,7 @@ pub returns : (t : ℕ) → lts.Need-returns (turn-calls t) (turn-at t) reads.Po
 returns t c = let e = c .before .before .before .before .before .before .before .before .before .before .before .before .before .list-end .ensures in
     let hold = way _ (turn-control _ _ _ _ _ _ (sym (c .before .before .before .before .before .before .before .before .before .before .before .before .before .before .before .before .is-control .ensures) ∙ c .before .before .before .before .before .before .before .before .before .before .before .before .before .before .before .if1 .taken)) in
     let k1 = done (c .before .before .before .before .c .given .1) (c .before .before .before .before .before .before .before .before .control .ensures) in
-    closes (k1 .what) (wins _ _ hold (k1 .same)) (held-of (control-held _ _ _ _) (k1 .same)) (control-text (c .before .before .before .before .before .before .before .before .before .before .before .before .before .before .before .before .before .before .before .args .n) (k1 .what) (take (c .before .before .before .before .before .before .before .before .before .before .before .before .before .before .before .before .before .before .before .args .at) (c .before .before .before .before .before .before .before .before .before .before .before .before .before .before .before .before .before .before .before .args .store .now)) (k1 .text) (e .text)) (emitted-before e (omega (arith, c .before .before .before .before .before .before .before .before .before .before .before .before .before .before .before .before .before .before .before .pre)) _ (prefix k1 (omega (arith, c .before .before .before .before .before .before .before .before .before .before .before .before .before .before .before .before .before .before .before .pre, e .next, e .whole)))) (omega (arith, e .next, k1 .moved, k1 .room)) (c .closed .ensures) (c .before .control-last .ensures)
+    closes (k1 .what) (wins _ _ hold (k1 .same)) (given (control-held _ _ _ _) (k1 .same)) (control-text (c .before .before .before .before .before .before .before .before .before .before .before .before .before .before .before .before .before .before .before .args .n) (k1 .what) (take (c .before .before .before .before .before .before .before .before .before .before .before .before .before .before .before .before .before .before .before .args .at) (c .before .before .before .before .before .before .before .before .before .before .before .before .before .before .before .before .before .before .before .args .store .now)) (k1 .text) (e .text)) (emitted-before e (omega (arith, c .before .before .before .before .before .before .before .before .before .before .before .before .before .before .before .before .before .before .before .pre)) _ (prefix k1 (omega (arith, c .before .before .before .before .before .before .before .before .before .before .before .before .before .before .before .before .before .before .before .pre, e .next, e .whole)))) (omega (arith, e .next, k1 .moved, k1 .room)) (c .closed .ensures) (c .before .control-last .ensures)
 
 pub same-length-2 : (t : ℕ) → lts.Need-same-length-2 (turn-calls t) (turn-at t) reads.Post
 same-length-2 t c = search needs
