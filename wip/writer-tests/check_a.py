@@ -27,13 +27,17 @@ def run_writer(cases,prog=BIN+'/host-o3'):
         out.append((x,z,list(o[i:i+n]))); i+=n
     if len(out)!=len(cases): print('writer answered',len(out),'of',len(cases))
     return out
-if __name__=='__main__':
+def canonical_sheets():
+    """the supplied sheets and their canonical tokens"""
     sheets,canon,cur=[],[],None
     for l in open(SUPPLIED+'/canonical.txt'):
         l=l.strip()
         if l.startswith('sheet'): cur=[];sheets.append(cur)
         elif l=='canonical': cur=[];canon.append(cur)
         elif l.startswith('token='): cur.append(tuple(int(x.split('=')[1]) for x in l.split()))
+    return sheets,canon
+if __name__=='__main__':
+    sheets,canon=canonical_sheets()
     res=run_oracle(sheets)
     cases=[];owner=[]
     for i,a in enumerate(res):

@@ -2,17 +2,13 @@
 import os,sys,random
 sys.path.insert(0,os.path.dirname(os.path.abspath(__file__)))
 from check_pairs import *
+from check_a import canonical_sheets
 def emit(cases,want):
     for (w,m),x in zip(cases,want):
         a=x if isinstance(x,int) else 256*(len(x)//2)
         print(len(w),m,a,*w,*([] if isinstance(x,int) else x))
 if sys.argv[1]=='canonical':
-    sheets,canon,cur=[],[],None
-    for l in open(SUPPLIED+'/canonical.txt'):
-        l=l.strip()
-        if l.startswith('sheet'): cur=[];sheets.append(cur)
-        elif l=='canonical': cur=[];canon.append(cur)
-        elif l.startswith('token='): cur.append(tuple(int(x.split('=')[1]) for x in l.split()))
+    sheets,canon=canonical_sheets()
     res=run_oracle(sheets); cases=[];want=[]
     for i,a in enumerate(res):
         rest=[x for t in canon[i] for x in (t[0],t[2])]
