@@ -89,7 +89,7 @@ pub record GivenBy (t : Tree) : Type 0 where
   pub clean : clean-reading depth sheet ≡ just statements
   pub among : Among t statements
 
-among-valid : {t : Tree} {f : Forest} → Among t f → Valids stmt f → Valid stmt t
+pub among-valid : {t : Tree} {f : Forest} → Among t f → Valids stmt f → Valid stmt t
 among-valid first (v-more h f) = h
 among-valid (later a) (v-more h f) = among-valid a f
 

@@ -3,3 +3,4 @@ pub mod Parts
 pub mod Ends
 pub mod Lists
 pub mod Parameters
+pub mod Flat

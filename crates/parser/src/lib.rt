@@ -13,13 +13,16 @@ ghost use Rattle.grammar.specs.Reading.Block.{body as body-def, block-expr, exp
 ghost use Rattle.grammar.specs.Reading.Function.{param as param-def, function-param-list, function-def, function-assignment-target, function-decl-expr};
 ghost use Rattle.grammar.specs.Reading.Stmt.{loop as loop-def, lvalue-list, for-loop, stmt-label, stmt as stmt-def, is-control as is-control-def, control-value, control-flow, synchronize, caught as caught-def};
 ghost use Rattle.grammar.specs.Reading.Level.{primary-expr, level as at-depth, failed as failed-def, next};
-ghost use Rattle.grammar.specs.Reading.Next.{error-kind as error-kind-def, is-stop as is-stop-def, queue-fits as queue-fits-def, reader-at, halted, error-answer as error-answer-def, called, next-stmt as next-stmt-def};
+ghost use Rattle.grammar.specs.Reading.Next.{error-kind as error-kind-def, is-stop as is-stop-def, queue-fits as queue-fits-def, reader-at, halted, error-answer as error-answer-def, called};
+ghost use Rattle.grammar.specs.Contract.{Returns};
 ghost use Rattle.parser.specs.Post.{no-words, Ready, Lent, Failed, Agrees};
 ghost use Rattle.parser.specs.Parts.{commas as commas-def, tuple-words, access as access-def, path-words, list-words, branch as branch-def, turning, turning-words, signature-words, turn as turn-def, closed-step, resumed-step};
 ghost use Rattle.parser.specs.Lists.{Lists, Enters};
 ghost use Rattle.parser.specs.Parameters.{Params-read};
 
 mod fields;
+pub mod host;
+pub mod kept;
 mod limit;
 mod number;
 mod queue;
@@ -1636,8 +1639,9 @@ fn read_on(position: usize, unread: &[u64], store: &mut [u64]) -> Stepped
 }
 
 // The next answer: the tests in their order, the token length, the reader, a stop, a waiting error, the store; then the statement.
+// `Returns` is the equation of answer, reader and store with the definition `next-stmt`, for all inputs (grammar's specs/Contract.antt).
 pub fn next_stmt(reader: Reader, tokens: &[u64], store: &mut [u64]) -> Stepped
-    ensures { λ r. ⌜ record { step = r; store = (now (store .exit)) } ≡ next-stmt-def reader (now (tokens .entry)) (length (now (store .entry))) ⌝ }
+    ensures { λ r. ⌜ Returns reader (now (tokens .entry)) (now (store .entry)) r (now (store .exit)) ⌝ }
 {
     let position = reader.position;
     let waiting = reader.waiting;

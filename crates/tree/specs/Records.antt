@@ -42,7 +42,7 @@ mutual
   all-records-length (more t f) = rw length-append (omega (arith, records-length t, all-records-length f))
 
 -- the trees of a forest, pushed on a stack
-back : Forest → List Tree → List Tree
+unfoldable pub back : Forest → List Tree → List Tree
 back none s = s
 back (more t f) s = back f (t ∷ s)
 
@@ -87,24 +87,24 @@ pub records-same : {t u : Tree} → Small t → Small u → records t ≡ record
 records-same a b e = cc (decode-records a, decode-records b)
 
 -- the trees of a stack, the last one on top: their records and their kinds
-stack-records : List Tree → List ℕ
+unfoldable pub stack-records : List Tree → List ℕ
 stack-records [] = []
 stack-records (t ∷ s) = stack-records s ++ records t
 
-Stack-small : List Tree → Type 0
+unfoldable pub Stack-small : List Tree → Type 0
 Stack-small [] = Unit {0}
 Stack-small (t ∷ s) = Small t × Stack-small s
 
-nothing-just : {A P : Type 0} {a : A} → nothing ≡ just a → P
+pub nothing-just : {A P : Type 0} {a : A} → nothing ≡ just a → P
 nothing-just e =
     let z : _≡_ {A = ℕ} 0 1 = cc in
     absurd (omega arith)
 
-just-same : {A : Type 0} {a b : A} → just a ≡ just b → a ≡ b
+pub just-same : {A : Type 0} {a b : A} → just a ≡ just b → a ≡ b
 just-same e = cc
 
 -- of a chain that gave something, what its first part gave
-bound : {A B : Type 0} {k : A → Maybe B} {b : B} (m : Maybe A) → bindM m k ≡ just b → (a : A) × (m ≡ just a) × (k a ≡ just b)
+pub bound : {A B : Type 0} {k : A → Maybe B} {b : B} (m : Maybe A) → bindM m k ≡ just b → (a : A) × (m ≡ just a) × (k a ≡ just b)
 bound nothing e = nothing-just e
 bound (just a) e = (a, refl, e)
 

@@ -74,13 +74,13 @@ rows-long (on r t) = rw length-append (omega (arith, rows-long r, long t))
     long (node k v f) = rw length-append (omega arith)
 
 -- the last two words up to i
-record Last (S X : List ℕ) (a b i : ℕ) : Type 0 where
-  at : i ≡ length X + 2
-  front : take (i - 2) S ≡ X
-  word : getD S (i - 2) 0 ≡ a
-  value : getD S (i - 1) 0 ≡ b
+pub record Last (S X : List ℕ) (a b i : ℕ) : Type 0 where
+  pub at : i ≡ length X + 2
+  pub front : take (i - 2) S ≡ X
+  pub word : getD S (i - 2) 0 ≡ a
+  pub value : getD S (i - 1) 0 ≡ b
 
-last-two : (S X : List ℕ) (a b i : ℕ) → i ≤ length S → take i S ≡ X ++ a ∷ b ∷ [] → Last S X a b i
+pub last-two : (S X : List ℕ) (a b i : ℕ) → i ≤ length S → take i S ≡ X ++ a ∷ b ∷ [] → Last S X a b i
 last-two S X a b i h e =
     let n : i ≡ length X + 2 = sym (length-take-le i S h) ∙ ap length e ∙ length-append X (a ∷ b ∷ []) in
     let x : length X ≡ i - 2 = omega arith in

@@ -20,7 +20,7 @@ use Rattle.grammar.specs.Canonical.Writing.{clean-then, clean-from, clea
 use borrow.Author.Tests.{eqb-true}
 use Rattle.grammar.specs.Laws.Facts.{other, and-r}
 use Rattle.grammar.specs.Laws.Post.{Post, p-ok, p-bad, p-fail, p-stop, post-then, post-either}
-use Rattle.grammar.specs.Laws.Numbers.{waits-none, next-end}
+use Rattle.grammar.specs.Laws.Numbers.{next-end}
 use Rattle.grammar.specs.Laws.Sound.Base.{kind-at, Saw, isnt, NotClose}
 use Rattle.grammar.specs.Laws.Sound.Stmt.{stmt-sound, level-sound}
 
@@ -119,7 +119,7 @@ next-ok d ts = go (next d [] ts) refl (next-post d [] ts)
     go : (x : Res Tree) → next d [] ts ≡ x → Post (Began ts) x → NextOk ts x
     go (ok t r) e (p-ok h) = a-stmt (h .valid) (h .start-at)
     go (bad t q r) e h = with-errors
-    go (fail n q r) e h = no-stmt (λ z. ended (next-end d [] ts waits-none (e ∙ ap (λ m. fail m q r) z)))
+    go (fail n q r) e h = no-stmt (λ z. ended (next-end d ts (e ∙ ap (λ m. fail m q r) z)))
     go (stop n) e h = stopped
 
 -- the statements of a clean reading

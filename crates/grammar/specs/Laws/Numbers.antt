@@ -1,13 +1,15 @@
--- Only numbers of errors wait or are on their way, never more of them than the queue takes, and only numbers of stops stop: a lemma for each nonterminal, and
--- `level-numbers`, `stmt-numbers`, `synchronize-numbers`, `start-numbers`, `next-numbers`, `queue-length`. The end is the start's: `next-end`. Assumes nothing.
-use mathlib.Core.Path.{_≡_, refl, sym}
+-- Only numbers of errors wait or are on their way, never more of them than the queue takes and never fewer than waited before, and only numbers of stops stop: a lemma
+-- for each nonterminal, and `level-numbers`, `stmt-numbers`, `start-numbers`, `next-numbers`. The end is the start's: `next-end`. A statement that was read with errors
+-- leaves one that waits: `bad-waits`. Assumes nothing.
+use mathlib.Core.Path.{_≡_, refl}
 use mathlib.Core.Bool.{Bool, true, false, cond, false≢true}
 use mathlib.Core.List.{List, [], _∷_, _++_}
-use Prim.Native.Nat.{ℕ, zero, suc, _≤_, _<_}
+use Prim.Native.Nat.{ℕ, zero, suc, pred, _≤_, _<_}
 use native.Mathlib.Omega.{arith}
-use borrow.Author.Tests.{eqb-true, eqb-false}
+use borrow.Author.Tests.{eqb-false}
 use lib.Dec.{eqb}
 use lib.ListN.{length, length-append}
+use Rattle.token.specs.Kind
 use Rattle.token.specs.declared.Token.{Token}
 use Rattle.token.specs.declared.Seen.{Seen}
 use Rattle.token.specs.declared.Seen.the-variants.{Good, LexerError, Nothing, Bad}
@@ -23,9 +25,7 @@ use Rattle.grammar.specs.Reading.Function.{Param, required, variadic, de
 use Rattle.grammar.specs.Reading.Stmt.{loop, while-loop, lvalue-list, for-loop, stmt-label, stmt, control-value, control-flow, not-last, control-last, synchronize, synchronized, caught, stmts}
 use Rattle.grammar.specs.Reading.Level.{primary-expr, unary-expr, level, start, front, failed, next}
 use Rattle.grammar.specs.Reading.Number
-use Rattle.grammar.specs.Reading.Next.{is-error, is-stop, number, error-answer}
-use Rattle.grammar.specs.declared.ErrorKind.the-variants.{LexerError as LexerErrorKind, EndofTokenStream, SyntaxError}
-use Rattle.grammar.specs.declared.Answer.the-variants.{Error as AError, End}
+use Rattle.grammar.specs.Reading.Next.{is-error, is-stop}
 
 -- the number of an error
 abbrev pub IsError : Error → Type 0
@@ -39,20 +39,24 @@ pub data All (J : Error → Type 0) : List Error → Type 0 where
   a-nil : All J []
   a-cons : {e : Error} {q : List Error} → J e → All J q → All J (e ∷ q)
 
--- what may wait: errors, and no more than the queue takes
-pub record Waits (q : List Error) : Type 0 where
+-- what may wait: errors, at least n of them, and no more than the queue takes
+pub record Waits (n : ℕ) (q : List Error) : Type 0 where
   pub errors : All IsError q
   pub few : length q ≤ queue-limit
+  pub many : n ≤ length q
 
--- what waits after a reading may wait, a failure has the number of an error, and a stop that of a stop
-pub data Num {A : Type 0} : Res A → Type 0 where
-  n-ok : {a : A} {r : List ℕ} → Num (ok a r)
-  n-bad : {a : A} {q : List Error} {r : List ℕ} → Waits q → Num (bad a q r)
-  n-fail : {e : Error} {q : List Error} {r : List ℕ} → IsError e → Waits q → Num (fail e q r)
-  n-stop : {n : ℕ} → IsStop n → Num (stop n)
+-- what waits after a reading may wait, a success with errors leaves one that waits, a failure has the number of an error, and a stop that of a stop
+pub data Num {A : Type 0} (n : ℕ) : Res A → Type 0 where
+  n-ok : {a : A} {r : List ℕ} → Num n (ok a r)
+  n-bad : {a : A} {q : List Error} {r : List ℕ} → Waits n q → 0 < length q → Num n (bad a q r)
+  n-fail : {e : Error} {q : List Error} {r : List ℕ} → IsError e → Waits n q → Num n (fail e q r)
+  n-stop : {k : ℕ} → IsStop k → Num n (stop k)
 
-pub waits-none : Waits []
-waits-none = record { errors = a-nil; few = omega arith }
+pub waits-none : Waits 0 []
+waits-none = record { errors = a-nil; few = omega arith; many = omega arith }
+
+waits-less : {n : ℕ} {q : List Error} → Waits (suc n) q → Waits n q
+waits-less w = record { errors = w .errors; few = w .few; many = omega (arith, w .many) }
 
 -- an error joins the queue at its end, and leaves it at its front
 
@@ -60,66 +64,133 @@ all-snoc : {J : Error → Type 0} {q : List Error} (e : Error) → J e → All J
 all-snoc e j a-nil = a-cons j a-nil
 all-snoc e j (a-cons i a) = a-cons i (all-snoc e j a)
 
-waits-snoc : (e : Error) (q : List Error) → IsError e → Waits q → eqb (length q) queue-limit ≡ false → Waits (q ++ e ∷ [])
-waits-snoc e q j w h = record { errors = all-snoc e j (w .errors); few = omega (arith, length-append q (e ∷ []), eqb-false (length q) queue-limit h) }
+waits-snoc : {n : ℕ} (e : Error) (q : List Error) → IsError e → Waits n q → eqb (length q) queue-limit ≡ false → Waits (suc n) (q ++ e ∷ [])
+waits-snoc e q j w h =
+    let l = length-append q (e ∷ []) in
+    record { errors = all-snoc e j (w .errors); few = omega (arith, l, eqb-false (length q) queue-limit h); many = omega (arith, l, w .many) }
 
-pub waits-front : {e : Error} {q : List Error} → Waits (e ∷ q) → IsError e × Waits q
-waits-front {e} {q} w = go (w .errors)
+pub waits-front : {n : ℕ} {e : Error} {q : List Error} → Waits n (e ∷ q) → IsError e × Waits (pred n) q
+waits-front {n} {e} {q} w = go (w .errors)
   where
-    go : All IsError (e ∷ q) → IsError e × Waits q
-    go (a-cons j a) = (j, record { errors = a; few = omega arith })
+    go : All IsError (e ∷ q) → IsError e × Waits (pred n) q
+    go (a-cons j a) = (j, record { errors = a; few = omega (arith, w .few); many = omega (arith, w .many) })
 
 -- each way to put readings together keeps this
 
-n-spoil : {A : Type 0} {q : List Error} {d : Res A} → Waits q → Num d → Num (spoil q d)
+n-spoil : {A : Type 0} {n : ℕ} {q : List Error} {d : Res A} → Waits n q → 0 < length q → Num n d → Num n (spoil q d)
 unfolding spoil
-n-spoil w n-ok = n-bad w
-n-spoil w (n-bad v) = n-bad v
-n-spoil w (n-fail j v) = n-fail j v
-n-spoil w (n-stop p) = n-stop p
+n-spoil w l n-ok = n-bad w l
+n-spoil w l (n-bad v k) = n-bad v k
+n-spoil w l (n-fail j v) = n-fail j v
+n-spoil w l (n-stop p) = n-stop p
 
-n-either : {A B : Type 0} (q : List Error) {d : Res A} {go : A → List Error → List ℕ → Res B} {or : Error → List Error → List ℕ → Res B} → Waits q → Num d
-    → ((a : A) (q : List Error) (r : List ℕ) → Waits q → Num (go a q r)) → ((e : Error) (q : List Error) (r : List ℕ) → IsError e → Waits q → Num (or e q r))
-    → Num (either q d go or)
-unfolding either
-n-either q w n-ok f g = f _ _ _ w
-n-either q w (n-bad v) f g = n-spoil v (f _ _ _ v)
-n-either q w (n-fail j v) f g = n-spoil v (g _ _ _ j v)
-n-either q w (n-stop p) f g = n-stop p
-
-n-then : {A B : Type 0} (q : List Error) {d : Res A} {go : A → List Error → List ℕ → Res B} → Waits q → Num d
-    → ((a : A) (q : List Error) (r : List ℕ) → Waits q → Num (go a q r)) → Num (then q d go)
+n-then : {A B : Type 0} {n : ℕ} (q : List Error) {d : Res A} {go : A → List Error → List ℕ → Res B} → Waits n q → Num n d
+    → ((a : A) (q : List Error) (r : List ℕ) → Waits n q → Num n (go a q r)) → Num n (then q d go)
 unfolding then
 n-then q w n-ok f = f _ _ _ w
-n-then q w (n-bad v) f = n-spoil v (f _ _ _ v)
+n-then q w (n-bad v l) f = n-spoil v l (f _ _ _ v)
 n-then q w (n-fail j v) f = n-fail j v
 n-then q w (n-stop p) f = n-stop p
 
-n-if : {A : Type 0} (b : Bool) {x y : Unit {0} → Res A} → ((u : Unit {0}) → Num (x u)) → ((u : Unit {0}) → Num (y u)) → Num (ifb b x y)
+n-if : {A : Type 0} {n : ℕ} (b : Bool) {x y : Unit {0} → Res A} → ((u : Unit {0}) → Num n (x u)) → ((u : Unit {0}) → Num n (y u)) → Num n (ifb b x y)
 unfolding ifb
 n-if true f g = f tt
 n-if false f g = g tt
 
-n-full : {A : Type 0} → Num {A = A} (stop queue-full)
-n-full = n-stop {n = queue-full} (refl, omega arith)
+-- the same of a reading that is no clean success, as what a failure is caught by
+pub data Caught {A : Type 0} (n : ℕ) : Res A → Type 0 where
+  c-bad : {a : A} {q : List Error} {r : List ℕ} → Waits n q → 0 < length q → Caught n (bad a q r)
+  c-fail : {e : Error} {q : List Error} {r : List ℕ} → IsError e → Waits n q → Caught n (fail e q r)
+  c-stop : {k : ℕ} → IsStop k → Caught n (stop k)
 
-n-push : {A : Type 0} (e : Error) (q : List Error) {k : List Error → Res A} → IsError e → Waits q → ((q : List Error) → Waits q → Num (k q)) → Num (push e q k)
+c-spoil : {A : Type 0} {n : ℕ} {q : List Error} {d : Res A} → Waits n q → 0 < length q → Num n d → Caught n (spoil q d)
+unfolding spoil
+c-spoil w l n-ok = c-bad w l
+c-spoil w l (n-bad v k) = c-bad v k
+c-spoil w l (n-fail j v) = c-fail j v
+c-spoil w l (n-stop p) = c-stop p
+
+c-then : {A B : Type 0} {n : ℕ} (q : List Error) {d : Res A} {go : A → List Error → List ℕ → Res B} → Caught n d → ((a : A) (q : List Error) (r : List ℕ) → Waits n q → Num n (go a q r)) → Caught n (then q d go)
+unfolding then
+c-then q (c-bad w l) f = c-spoil w l (f _ _ _ w)
+c-then q (c-fail j w) f = c-fail j w
+c-then q (c-stop p) f = c-stop p
+
+c-push : {A : Type 0} {n : ℕ} (e : Error) (q : List Error) {k : List Error → Res A} → IsError e → Waits n q → ((q : List Error) → Waits (suc n) q → Num n (k q)) → Caught n (push e q k)
 unfolding push ifb
-n-push e q {k} j w f = go (eqb (length q) queue-limit) refl
+c-push {n = n} e q {k} j w f = go (eqb (length q) queue-limit) refl
   where
-    go : (b : Bool) → eqb (length q) queue-limit ≡ b → Num (ifb b (λ u. stop queue-full) (λ u. spoil (q ++ e ∷ []) (k (q ++ e ∷ []))))
-    go true h = n-full
-    go false h = let v = waits-snoc e q j w h in n-spoil v (f _ v)
+    go : (b : Bool) → eqb (length q) queue-limit ≡ b → Caught n (ifb b (λ u. stop queue-full) (λ u. spoil (q ++ e ∷ []) (k (q ++ e ∷ []))))
+    go true h = c-stop {k = queue-full} (refl, omega arith)
+    go false h = let v = waits-snoc e q j w h in c-spoil (waits-less v) (omega (arith, v .many)) (f _ v)
 
-n-front : {A : Type 0} (q : List Error) {k : Error → List Error → Res A} → Waits q → ((e : Error) (q : List Error) → IsError e → Waits q → Num (k e q)) → Num (front q k)
-unfolding front
-n-front [] w f = n-full
-n-front (e ∷ q) w f = let (j, v) = waits-front w in f e q j v
+-- what is caught is no longer clean
+n-caught : {A : Type 0} {n : ℕ} {d : Res A} → Caught n d → Num n d
+n-caught (c-bad w l) = n-bad w l
+n-caught (c-fail j w) = n-fail j w
+n-caught (c-stop p) = n-stop p
 
-n-pop : {A : Type 0} (q : List Error) (r : List ℕ) → Waits q → Num {A = A} (pop q r)
+n-stays : {A : Type 0} {n : ℕ} {d : Res A} (q : List Error) → Caught n d → Num n (spoil q d)
+unfolding spoil
+n-stays q (c-bad w l) = n-bad w l
+n-stays q (c-fail j w) = n-fail j w
+n-stays q (c-stop p) = n-stop p
+
+n-push : {A : Type 0} {n : ℕ} (e : Error) (q : List Error) {k : List Error → Res A} → IsError e → Waits n q → ((q : List Error) → Waits (suc n) q → Num n (k q)) → Num n (push e q k)
+n-push e q j w f = n-caught (c-push e q j w f)
+
+n-either : {A B : Type 0} {n : ℕ} (q : List Error) {d : Res A} {go : A → List Error → List ℕ → Res B} {or : Error → List Error → List ℕ → Res B} → Waits n q → Num n d
+    → ((a : A) (q : List Error) (r : List ℕ) → Waits n q → Num n (go a q r)) → ((e : Error) (q : List Error) (r : List ℕ) → IsError e → Waits n q → Caught n (or e q r))
+    → Num n (either q d go or)
+unfolding either
+n-either q w n-ok f g = f _ _ _ w
+n-either q w (n-bad v l) f g = n-spoil v l (f _ _ _ v)
+n-either q w (n-fail j v) f g = n-stays _ (g _ _ _ j v)
+n-either q w (n-stop p) f g = n-stop p
+
+n-pop : {A : Type 0} {n : ℕ} (q : List Error) (r : List ℕ) → Waits (suc n) q → Caught {A = A} n (pop q r)
 unfolding pop
-n-pop [] r w = n-fail refl w
-n-pop (e ∷ q) r w = let (j, v) = waits-front w in n-fail j v
+n-pop [] r w = absurd (omega (arith, w .many))
+n-pop (e ∷ q) r w = let (j, v) = waits-front w in c-fail j v
+
+-- a resynchronization: it fails never, and where nothing waits before it nothing need wait after it
+data Past (n : ℕ) : Res (Unit {0}) → Type 0 where
+  p-ok : {u : Unit {0}} {r : List ℕ} → Past n (ok u r)
+  p-bad : {u : Unit {0}} {q : List Error} {r : List ℕ} → Waits n q → Past n (bad u q r)
+  p-stop : {k : ℕ} → IsStop k → Past n (stop k)
+
+p-spoil : {n : ℕ} {q : List Error} {d : Res (Unit {0})} → Waits n q → Past n d → Past n (spoil q d)
+unfolding spoil
+p-spoil w p-ok = p-bad w
+p-spoil w (p-bad v) = p-bad v
+p-spoil w (p-stop k) = p-stop k
+
+p-either : {A : Type 0} {n : ℕ} (q : List Error) {d : Res A} {go : A → List Error → List ℕ → Res (Unit {0})} {or : Error → List Error → List ℕ → Res (Unit {0})} → Waits n q → Num n d
+    → ((a : A) (q : List Error) (r : List ℕ) → Waits n q → Past n (go a q r)) → ((e : Error) (q : List Error) (r : List ℕ) → Waits n q → Past n (or e q r)) → Past n (either q d go or)
+unfolding either
+p-either q w n-ok f g = f _ _ _ w
+p-either q w (n-bad v l) f g = p-spoil v (f _ _ _ v)
+p-either q w (n-fail j v) f g = p-spoil v (g _ _ _ v)
+p-either q w (n-stop k) f g = p-stop k
+
+p-if : {n : ℕ} (b : Bool) {x y : Unit {0} → Res (Unit {0})} → ((u : Unit {0}) → Past n (x u)) → ((u : Unit {0}) → Past n (y u)) → Past n (ifb b x y)
+unfolding ifb
+p-if true f g = f tt
+p-if false f g = g tt
+
+-- what follows it, where something waited; and a failure behind it
+n-behind : {n : ℕ} (q : List Error) {d : Res (Unit {0})} {go : Unit {0} → List Error → List ℕ → Res (Unit {0})} → Waits (suc n) q → Past (suc n) d
+    → ((u : Unit {0}) (q : List Error) (r : List ℕ) → Waits (suc n) q → Num n (go u q r)) → Num n (then q d go)
+unfolding then
+n-behind q w p-ok f = f _ _ _ w
+n-behind q w (p-bad v) f = n-spoil (waits-less v) (omega (arith, v .many)) (f _ _ _ v)
+n-behind q w (p-stop k) f = n-stop k
+
+c-failing : {A : Type 0} {n : ℕ} (q : List Error) {d : Res (Unit {0})} (e : Error) → IsError e → Waits n q → Past n d → Caught {A = A} n (then q d λ u q r. fail e q r)
+unfolding then spoil
+c-failing q e j w p-ok = c-fail j w
+c-failing q e j w (p-bad v) = c-fail j v
+c-failing q e j w (p-stop k) = c-stop k
 
 -- an error chosen among errors
 e-cond : (b : Bool) (x y : Error) → IsError x → IsError y → IsError (cond b x y)
@@ -135,29 +206,29 @@ atom-error-is k = search e-cond depth 12
 not-last-is : (k : ℕ) → IsError (not-last k)
 not-last-is k = search e-cond
 
-ruleset nums = (n-ok, n-fail, n-then, n-either, n-if, n-push, n-front, n-pop, keyword-alone-is, atom-error-is, not-last-is)
+ruleset nums = (n-ok, n-fail, n-then, n-either, n-if, n-push, c-fail, c-then, keyword-alone-is, atom-error-is, not-last-is)
 
 -- the same of a reading, whatever waits and is left
 abbrev pub Numbered : {A : Type 0} → (List Error → List ℕ → Res A) → Type 0
-Numbered f = (q : List Error) (ts : List ℕ) → Waits q → Num (f q ts)
+Numbered f = (n : ℕ) (q : List Error) (ts : List ℕ) → Waits n q → Num n (f q ts)
 
 pub record Nums (low : Level) : Type 0 where
   pub n-unary : Numbered (low .unary)
   pub n-right : Numbered (low .right)
   pub n-list : (end : ℕ) → Numbered (low .list end)
 
-looked-nums : (q : List Error) (r : List ℕ) (s : Seen) → Waits q → Num (looked q r s)
+looked-nums : (n : ℕ) (q : List Error) (r : List ℕ) (s : Seen) → Waits n q → Num n (looked q r s)
 unfolding looked
-looked-nums q r (Good tok) w = n-ok
-looked-nums q r LexerError w = n-fail refl w
-looked-nums q r Nothing w = n-fail refl w
-looked-nums q r Bad w = n-stop {n = malformed} (refl, omega arith)
+looked-nums m q r (Good tok) w = n-ok
+looked-nums m q r LexerError w = n-fail refl w
+looked-nums m q r Nothing w = n-fail refl w
+looked-nums m q r Bad w = n-stop {k = malformed} (refl, omega arith)
 
 look-nums : Numbered look
 unfolding look
-look-nums q [] w = n-fail refl w
-look-nums q (x ∷ []) w = n-fail refl w
-look-nums q (x ∷ (v ∷ r)) w = looked-nums q r _ w
+look-nums m q [] w = n-fail refl w
+look-nums m q (x ∷ []) w = n-fail refl w
+look-nums m q (x ∷ (v ∷ r)) w = looked-nums m q r _ w
 
 expect-nums : (k : ℕ) (e : Error) → IsError e → Numbered (expect k e)
 unfolding expect
@@ -165,8 +236,8 @@ expect-nums k e j = search (nums, look-nums)
 
 pattern-nums : (e : Error) (m : Maybe Tree) → IsError e → Numbered (expect-pattern e m)
 unfolding expect-pattern
-pattern-nums e nothing j q ts w = n-fail j w
-pattern-nums e (just p) j q ts w = n-ok
+pattern-nums e nothing j m q ts w = n-fail j w
+pattern-nums e (just p) j m q ts w = n-ok
 
 try-label-nums : Numbered try-label
 unfolding try-label
@@ -179,8 +250,8 @@ keyword-nums = search (nums, look-nums)
 module _ (operand : List Error → List ℕ → Res Tree) (h : Numbered operand) where
   operators-nums : (l n : ℕ) (left : Tree) → Numbered (operators operand l n left)
   unfolding operators
-  operators-nums l zero left q ts w = n-fail refl w
-  operators-nums l (suc n) left q ts w = search (nums, look-nums, h, operators-nums l n) depth 9
+  operators-nums l zero left m q ts w = n-fail refl w
+  operators-nums l (suc n) left m q ts w = search (nums, look-nums, h, operators-nums l n) depth 9
 
 literal-nums : (tok : Token) → Numbered (literal tok)
 unfolding literal
@@ -204,28 +275,34 @@ variadic-nums v = search (nums, look-nums)
 
 joined-nums : (ps : Params) (p : Param) (k : ℕ) → Numbered (joined ps p k)
 unfolding joined
-joined-nums ps (variadic v) k q ts w = search nums
-joined-nums ps (default v e) k q ts w = search nums
-joined-nums ps (required v) k q ts w = search nums
+joined-nums ps (variadic v) k m q ts w = search nums
+joined-nums ps (default v e) k m q ts w = search nums
+joined-nums ps (required v) k m q ts w = search nums
 
 control-last-nums : (end k : ℕ) → Numbered (control-last end k)
 unfolding control-last
 control-last-nums end k = search (nums, look-nums)
 
-synchronized-nums : Numbered synchronized
-unfolding synchronized
-synchronized-nums = search (nums, look-nums)
+synchronized-nums : {n : ℕ} (q : List Error) (ts : List ℕ) → Waits (suc n) q → Num n (synchronized q ts)
+unfolding synchronized either
+synchronized-nums {n} q ts w = go (look q ts) (look-nums (suc n) q ts w)
+  where
+    go : (d : Res Token) → Num (suc n) d → Num {A = Unit {0}} n (either q d (λ tok q₁ rest. ifb (eqb (tok .kind) Kind.EOF) (λ _. pop q ts) (λ _. ok tt ts)) (λ e q₁ r. pop q₁ r))
+    go (ok tok r) h = n-if _ (λ u. n-caught (n-pop q ts w)) (λ u. n-ok)
+    go (bad tok p r) (n-bad v l) = n-spoil (waits-less v) l (n-if _ (λ u. n-caught (n-pop q ts w)) (λ u. n-ok))
+    go (fail e p r) (n-fail j v) = n-stays p (n-pop p r v)
+    go (stop k) (n-stop x) = n-stop x
 
 module _ (low : Level) (N : Nums low) where
   binop-nums : (l : ℕ) → Numbered (binop-expr low l)
   unfolding binop-expr
-  binop-nums zero q ts w = N .n-unary q ts w
-  binop-nums (suc l) q ts w = search (nums, binop-nums l, operators-nums)
+  binop-nums zero m q ts w = N .n-unary m q ts w
+  binop-nums (suc l) m q ts w = search (nums, binop-nums l, operators-nums)
 
   members-nums : (n : ℕ) (f : Forest) → Numbered (members low n f)
   unfolding members
-  members-nums zero f q ts w = n-fail refl w
-  members-nums (suc n) f q ts w = search (nums, look-nums, binop-nums, members-nums n) depth 9
+  members-nums zero f m q ts w = n-fail refl w
+  members-nums (suc n) f m q ts w = search (nums, look-nums, binop-nums, members-nums n) depth 9
 
   tuple-nums : Numbered (tuple-expr low)
   unfolding tuple-expr
@@ -257,8 +334,8 @@ module _ (low : Level) (N : Nums low) where
 
   items-nums : (n : ℕ) (f : Forest) → Numbered (table-items low n f)
   unfolding table-items
-  items-nums zero f q ts w = n-fail refl w
-  items-nums (suc n) f q ts w = search (nums, look-nums, item-nums, items-nums n) depth 9
+  items-nums zero f m q ts w = n-fail refl w
+  items-nums (suc n) f m q ts w = search (nums, look-nums, item-nums, items-nums n) depth 9
 
   invocation-nums : Numbered (invocation low)
   unfolding invocation
@@ -266,8 +343,8 @@ module _ (low : Level) (N : Nums low) where
 
   path-nums : (calls : Bool) (n : ℕ) (f : Forest) → Numbered (path low calls n f)
   unfolding path
-  path-nums calls zero f q ts w = n-fail refl w
-  path-nums calls (suc n) f q ts w = search (nums, look-nums, member-nums, indexing-nums, invocation-nums, items-nums, path-nums calls n) depth 9
+  path-nums calls zero f m q ts w = n-fail refl w
+  path-nums calls (suc n) f m q ts w = search (nums, look-nums, member-nums, indexing-nums, invocation-nums, items-nums, path-nums calls n) depth 9
 
   primary-nums : Numbered (primary low)
   unfolding primary
@@ -291,8 +368,8 @@ module _ (low : Level) (N : Nums low) where
 
   branches-nums : (n : ℕ) (f : Forest) → Numbered (branches low n f)
   unfolding branches
-  branches-nums zero f q ts w = n-fail refl w
-  branches-nums (suc n) f q ts w = search (nums, look-nums, expect-nums, expr-nums, body-nums, N .n-list, branches-nums n) depth 9
+  branches-nums zero f m q ts w = n-fail refl w
+  branches-nums (suc n) f m q ts w = search (nums, look-nums, expect-nums, expr-nums, body-nums, N .n-list, branches-nums n) depth 9
 
   plain-nums : (v : ℕ) → Numbered (plain-param low v)
   unfolding plain-param
@@ -304,8 +381,8 @@ module _ (low : Level) (N : Nums low) where
 
   params-nums : (n : ℕ) (ps : Params) → Numbered (params low n ps)
   unfolding params
-  params-nums zero ps q ts w = n-fail refl w
-  params-nums (suc n) ps q ts w = search (nums, look-nums, param-nums, joined-nums, params-nums n) depth 9
+  params-nums zero ps m q ts w = n-fail refl w
+  params-nums (suc n) ps m q ts w = search (nums, look-nums, param-nums, joined-nums, params-nums n) depth 9
 
   function-def-nums : (name : ℕ) → Numbered (function-def low name)
   unfolding function-def
@@ -351,19 +428,23 @@ module _ (low : Level) (N : Nums low) where
   unfolding control-flow
   control-nums k = search (nums, try-label-nums, control-value-nums) depth 9
 
-  synchronize-nums : (inside : Bool) (n : ℕ) → Numbered (synchronize low inside n)
+  synchronize-nums : (inside : Bool) (k n : ℕ) (q : List Error) (ts : List ℕ) → Waits n q → Past n (synchronize low inside k q ts)
   unfolding synchronize
-  synchronize-nums inside zero q ts w = n-bad w
-  synchronize-nums inside (suc n) q ts w = search (nums, look-nums, expr-nums, synchronize-nums inside n) depth 9
+  synchronize-nums inside zero n q ts w = p-bad w
+  synchronize-nums inside (suc k) n q ts w = search (p-ok, p-either, p-if, look-nums, expr-nums, synchronize-nums inside k) depth 9
 
-  caught-nums : (e : Error) → IsError e → Numbered (caught low e)
-  unfolding caught
-  caught-nums e j = search (nums, synchronize-nums, synchronized-nums) depth 9
+  caught-nums : (e : Error) → IsError e → (n : ℕ) (q : List Error) (ts : List ℕ) → Waits n q → Caught n (caught low e q ts)
+  unfolding caught ifb
+  caught-nums e j n q ts w = go (eqb e Number.end-of-tokens)
+    where
+      go : (b : Bool) → Caught n (ifb b (λ _. fail e q ts) λ _. push e q λ q₁. then q₁ (synchronize low true (length ts) q₁ ts) λ u q₂ r. synchronized q₂ r)
+      go true = c-fail j w
+      go false = c-push e q j w λ q₁ v. n-behind q₁ v (synchronize-nums true (length ts) (suc n) q₁ ts v) λ u q₂ r x. synchronized-nums q₂ r x
 
   stmts-nums : (end n : ℕ) (f : Forest) → Numbered (stmts low end n f)
   unfolding stmts
-  stmts-nums end zero f q ts w = n-fail refl w
-  stmts-nums end (suc n) f q ts w = search (nums, look-nums, control-nums, control-last-nums, stmt-nums, caught-nums, stmts-nums end n) depth 9
+  stmts-nums end zero f m q ts w = n-fail refl w
+  stmts-nums end (suc n) f m q ts w = search (nums, look-nums, control-nums, control-last-nums, stmt-nums, caught-nums, stmts-nums end n) depth 9
 
   primary-expr-nums : Numbered (primary-expr low)
   unfolding primary-expr
@@ -377,98 +458,90 @@ pub level-numbers : (d : ℕ) → Nums (level d)
 unfolding level
 level-numbers zero =
     let deep : IsStop too-deep = (refl, omega arith) in
-    record { n-unary = λ q ts w. n-stop deep; n-right = λ q ts w. n-stop deep; n-list = λ end q ts w. n-stop deep }
+    record { n-unary = λ n q ts w. n-stop deep; n-right = λ n q ts w. n-stop deep; n-list = λ end n q ts w. n-stop deep }
 level-numbers (suc d) =
     record {
       n-unary = unary-nums (level d) (level-numbers d);
       n-right = expr-nums (level d) (level-numbers d);
-      n-list = λ end q ts w. stmts-nums (level d) (level-numbers d) end _ _ q ts w;
+      n-list = λ end n q ts w. stmts-nums (level d) (level-numbers d) end _ _ n q ts w;
     }
 
 pub stmt-numbers : (d : ℕ) → Numbered (stmt (level d))
 stmt-numbers d = stmt-nums (level d) (level-numbers d)
 
-pub synchronize-numbers : (d : ℕ) (inside : Bool) (n : ℕ) → Numbered (synchronize (level d) inside n)
-synchronize-numbers d = synchronize-nums (level d) (level-numbers d)
-
-failed-nums : (d : ℕ) (e : Error) → IsError e → Numbered (failed d e)
-unfolding failed
-failed-nums d e j = search (nums, synchronize-numbers) depth 9
+failed-nums : (d : ℕ) (e : Error) → IsError e → (n : ℕ) (q : List Error) (ts : List ℕ) → Waits n q → Caught n (failed d e q ts)
+unfolding failed front
+failed-nums d e j n q ts w = c-push e q j w λ q₁ v. go q₁ v
+  where
+    go : (q₁ : List Error) → Waits (suc n) q₁ → Num {A = Tree} n (front q₁ λ f q₂. then q₂ (synchronize (level d) false (length ts) q₂ ts) λ u q₃ r. fail f q₃ r)
+    go [] v = absurd (omega (arith, v .many))
+    go (f ∷ q₂) v = let (i, x) = waits-front v in n-caught (c-failing q₂ f i x (synchronize-nums (level d) (level-numbers d) false (length ts) n q₂ ts x))
 
 -- the same at the top level, where a failure may be the end too: error 0, with q waiting as before and X of the words that are left
-pub data Top {A : Type 0} (X : List ℕ → Type 0) (q : List Error) : Res A → Type 0 where
-  t-end : {r : List ℕ} → X r → Top X q (fail 0 q r)
-  t-num : {d : Res A} → Num d → Top X q d
+pub data Top {A : Type 0} (X : List ℕ → Type 0) (n : ℕ) (q : List Error) : Res A → Type 0 where
+  t-end : {r : List ℕ} → X r → Top X n q (fail 0 q r)
+  t-num : {d : Res A} → Num n d → Top X n q d
 
 module _ {X : List ℕ → Type 0} where
-  t-spoil : {A : Type 0} {q p : List Error} {d : Res A} → Waits p → Top X q d → Top X q (spoil p d)
-  unfolding spoil
-  t-spoil w (t-end x) = t-end x
-  t-spoil w (t-num n) = t-num (n-spoil w n)
-
-  t-either : {A B : Type 0} {q : List Error} (p : List Error) {d : Res A} {go : A → List Error → List ℕ → Res B} {or : Error → List Error → List ℕ → Res B} → Waits p → Num d
-      → ((a : A) (p : List Error) (r : List ℕ) → Waits p → Top X q (go a p r)) → ((e : Error) (p : List Error) (r : List ℕ) → IsError e → Waits p → Top X q (or e p r))
-      → Top X q (either p d go or)
-  unfolding either
-  t-either p w n-ok f g = f _ _ _ w
-  t-either p w (n-bad v) f g = t-spoil v (f _ _ _ v)
-  t-either p w (n-fail j v) f g = t-spoil v (g _ _ _ j v)
-  t-either p w (n-stop s) f g = t-num (n-stop s)
-
-  t-if : {A : Type 0} {q : List Error} (b : Bool) {x y : Unit {0} → Res A} → ((u : Unit {0}) → Top X q (x u)) → ((u : Unit {0}) → Top X q (y u)) → Top X q (ifb b x y)
-  unfolding ifb
-  t-if true f g = f tt
-  t-if false f g = g tt
-
-  t-then : {A B : Type 0} {q : List Error} {d : Res A} {go : A → List Error → List ℕ → Res B} → Waits q → Top X q d
-      → ((a : A) (q : List Error) (r : List ℕ) → Waits q → Num (go a q r)) → Top X q (then q d go)
-  unfolding then
-  t-then w (t-end x) f = t-end x
-  t-then {q} w (t-num n) f = t-num (n-then q w n f)
-
   -- the end is said by the reading itself
-  t-self : {A : Type 0} {q : List Error} {d : Res A} → Top X q d → Top (λ r. d ≡ fail 0 q r) q d
+  t-self : {A : Type 0} {n : ℕ} {q : List Error} {d : Res A} → Top X n q d → Top (λ r. d ≡ fail 0 q r) n q d
   t-self (t-end x) = t-end refl
   t-self (t-num n) = t-num n
 
   -- 0 is no error's number
-  t-zero : {A : Type 0} {q p : List Error} {r : List ℕ} → Top {A = A} X q (fail 0 p r) → X r
+  t-zero : {A : Type 0} {n : ℕ} {q p : List Error} {r : List ℕ} → Top {A = A} X n q (fail 0 p r) → X r
   t-zero (t-end x) = x
   t-zero (t-num (n-fail j w)) = absurd (false≢true j)
 
-pub start-numbers : (n : ℕ) (q : List Error) (ts : List ℕ) → Waits q → Top (λ r. Unit {0}) q (start n q ts)
+  t-then : {A B : Type 0} {n : ℕ} {q : List Error} {d : Res A} {go : A → List Error → List ℕ → Res B} → Waits n q → Top X n q d
+      → ((a : A) (q : List Error) (r : List ℕ) → Waits n q → Num n (go a q r)) → Top X n q (then q d go)
+  unfolding then
+  t-then w (t-end x) f = t-end x
+  t-then {q = q} w (t-num n) f = t-num (n-then q w n f)
+
+  t-spoil : {A : Type 0} {n : ℕ} {q p : List Error} {d : Res A} → Waits n p → 0 < length p → Top X n q d → Top X n q (spoil p d)
+  unfolding spoil
+  t-spoil w l (t-end x) = t-end x
+  t-spoil w l (t-num n) = t-num (n-spoil w l n)
+
+  t-if : {A : Type 0} {n : ℕ} {q : List Error} (b : Bool) {x y : Unit {0} → Res A} → ((u : Unit {0}) → Top X n q (x u)) → ((u : Unit {0}) → Top X n q (y u)) → Top X n q (ifb b x y)
+  unfolding ifb
+  t-if true f g = f tt
+  t-if false f g = g tt
+
+  t-either : {A B : Type 0} {n : ℕ} {q : List Error} (p : List Error) {d : Res A} {go : A → List Error → List ℕ → Res B} (or : Error → List Error → List ℕ → Res B) → Waits n p → Num n d
+      → ((a : A) (p : List Error) (r : List ℕ) → Waits n p → Top X n q (go a p r)) → ((e : Error) (p : List Error) (r : List ℕ) → IsError e → Waits n p → Top X n q (spoil p (or e p r)))
+      → Top X n q (either p d go or)
+  unfolding either
+  t-either p or w n-ok f g = f _ _ _ w
+  t-either p or w (n-bad v l) f g = t-spoil v l (f _ _ _ v)
+  t-either p or w (n-fail j v) f g = g _ _ _ j v
+  t-either p or w (n-stop s) f g = t-num (n-stop s)
+
+-- a lexer error, or no token left, which is the end
+start-fails : {n : ℕ} (b : Bool) (e : Error) (q p : List Error) (ts r : List ℕ) → IsError e → Waits n q → Top {A = Unit {0}} (λ r. Unit {0}) n q (spoil p (ifb b (λ _. fail 0 q ts) (λ _. fail e q r)))
+unfolding spoil ifb
+start-fails true e q p ts r j w = t-end tt
+start-fails false e q p ts r j w = t-num (n-fail j w)
+
+pub start-numbers : (k n : ℕ) (q : List Error) (ts : List ℕ) → Waits n q → Top (λ r. Unit {0}) n q (start k q ts)
 unfolding start
-start-numbers zero q ts w = t-end tt
-start-numbers (suc n) q ts w = search (t-end, t-num, t-either, t-if, nums, look-nums, start-numbers n) depth 9
+start-numbers zero n q ts w = t-end tt
+start-numbers (suc k) n q ts w =
+    t-either q _ w (look-nums n q ts w)
+    (λ tok p rest v. t-if _ (λ u. t-end tt) λ u. t-if _ (λ u. start-numbers k n q rest w) (λ u. t-num n-ok))
+    (λ e p r j v. start-fails _ e q p ts r j w)
 
-pub next-numbers : (d : ℕ) (q : List Error) (ts : List ℕ) → Waits q → Top (λ r. start (length ts) q ts ≡ fail 0 q r) q (next d q ts)
+pub next-numbers : (d n : ℕ) (q : List Error) (ts : List ℕ) → Waits n q → Top (λ r. start (length ts) q ts ≡ fail 0 q r) n q (next d q ts)
 unfolding next
-next-numbers d q ts w = t-then w (t-self (start-numbers (length ts) q ts w)) (search (nums, stmt-numbers, failed-nums))
+next-numbers d n q ts w = t-then w (t-self (start-numbers (length ts) n q ts w)) (search (nums, stmt-numbers, failed-nums))
 
-pub next-end : (d : ℕ) (q : List Error) (ts : List ℕ) {p : List Error} {r : List ℕ} → Waits q → next d q ts ≡ fail 0 p r → start (length ts) q ts ≡ fail 0 q r
-next-end d q ts w h = t-zero (rw h at (next-numbers d q ts w))
+pub next-end : (d : ℕ) (ts : List ℕ) {p : List Error} {r : List ℕ} → next d [] ts ≡ fail 0 p r → start (length ts) [] ts ≡ fail 0 [] r
+next-end d ts h = t-zero (rw h at (next-numbers d 0 [] ts waits-none))
 
--- what waits after a reading before which q waits; after a stop nothing does
-abbrev pub after : {A : Type 0} → List Error → Res A → List Error
-after q (ok a r) = q
-after q (bad a p r) = p
-after q (fail e p r) = p
-after q (stop n) = []
-
-pub queue-length : {A : Type 0} {q : List Error} {d : Res A} → Waits q → Num d → length (after q d) ≤ queue-limit
-queue-length w n-ok = w .few
-queue-length w (n-bad v) = v .few
-queue-length w (n-fail j v) = v .few
-queue-length w (n-stop s) = omega arith
-
--- the number of an error's answer is its own
-pub error-number : (e : Error) → number (error-answer e) ≡ e
-unfolding error-answer ifb
-error-number e = go (eqb e 0) refl (eqb e Number.lexer-error) refl (eqb e Number.end-of-tokens) refl
+-- a statement that was read with errors leaves one that waits
+pub bad-waits : (d : ℕ) (ts : List ℕ) {t : Tree} {q : List Error} {r : List ℕ} → next d [] ts ≡ bad t q r → 0 < length q
+bad-waits d ts {t} {q} {r} h = go (rw h at (next-numbers d 0 [] ts waits-none))
   where
-    go : (a : Bool) → eqb e 0 ≡ a → (b : Bool) → eqb e Number.lexer-error ≡ b → (c : Bool) → eqb e Number.end-of-tokens ≡ c
-        → number (ifb a (λ _. End) (λ _. AError (cond b LexerErrorKind (cond c EndofTokenStream (SyntaxError e))))) ≡ e
-    go true p b q c r = sym (eqb-true e 0 p)
-    go false p true q c r = sym (eqb-true e Number.lexer-error q)
-    go false p false q true r = sym (eqb-true e Number.end-of-tokens r)
-    go false p false q false r = refl
+    go : Top (λ s. start (length ts) [] ts ≡ fail 0 [] s) 0 [] (bad t q r) → 0 < length q
+    go (t-num (n-bad w l)) = l

@@ -1,5 +1,5 @@
 -- The readers that a call returns: the given one, one with errors that wait, or a stopped one. So error 61 does not refuse a returned reader where it did not
--- refuse the given one: `returned-fits`, `returned-whole`. Assumes nothing.
+-- refuse the given one: `returned-accepted`, `returned-whole`. Assumes nothing.
 use mathlib.Core.Path.{_≡_, refl}
 use mathlib.Core.Bool.{Bool, true, false, false≢true}
 use mathlib.Core.List.{List, [], _∷_, _++_}
@@ -10,16 +10,9 @@ use lib.ListN.{length, take, replicate, length-append, length-replicate, length-
 use Rattle.tree.specs.Tree.{Tree}
 use Rattle.grammar.specs.Reading.Limit.{queue-limit}
 use Rattle.grammar.specs.Reading.Result.{Error, Res, ifb}
-use Rattle.grammar.specs.Reading.Next.{is-error, is-stop, queue-fits, pad, reader-at, Called, called, answered, next-stmt}
+use Rattle.grammar.specs.Reading.Next.{is-error, queue-fits, pad, reader-at, Accepted, Called, called, answered, next-stmt}
 use Rattle.grammar.specs.declared.Reader.{Reader}
 use Rattle.grammar.specs.Laws.Numbers.{IsError, IsStop, All, a-nil, a-cons, Waits, waits-none, waits-front, n-ok, n-bad, n-fail, n-stop, Top, t-end, t-num, next-numbers}
-
--- the tests of error 61: what is asked of a reader over a sheet's words
-pub record Fits (T : List ℕ) (R : Reader) : Type 0 where
-  pub within : R .position ≤ length T / 2
-  pub few : R .waiting ≤ queue-limit
-  pub stops : is-stop (R .stopped) ≡ true
-  pub queue : queue-fits (R .waiting) (R .errors) ≡ true
 
 -- a queue in its array fits, and what fits is a queue
 
@@ -47,7 +40,7 @@ fits-all (suc w) (e ∷ es) h = let (j, k) = both (is-error e) _ h in a-cons j (
 -- the readers that a call returns where R was given
 pub data Returned (T : List ℕ) (R : Reader) : Reader → Type 0 where
   as-given : Returned T R R
-  waiting-at : (p : ℕ) (q : List Error) → p ≤ length T / 2 → Waits q → Returned T R (reader-at p q)
+  waiting-at : (p : ℕ) (q : List Error) → p ≤ length T / 2 → Waits 0 q → Returned T R (reader-at p q)
   stopped-at : (n : ℕ) → IsStop n → Returned T R (record { position = R .position; waiting = 0; errors = pad []; stopped = n })
 
 abbrev Leaves : List ℕ → Reader → Called → Type 0
@@ -58,21 +51,21 @@ unfolding ifb
 leaves-if true x y f g = f tt
 leaves-if false x y f g = g tt
 
-called-leaves : {X : List ℕ → Type 0} {T : List ℕ} {R : Reader} (m : ℕ) {d : Res Tree} → Top X [] d → Leaves T R (called (length T / 2) m (R .position) d)
+called-leaves : {X : List ℕ → Type 0} {T : List ℕ} {R : Reader} (m : ℕ) {d : Res Tree} → Top X 0 [] d → Leaves T R (called (length T / 2) m (R .position) d)
 called-leaves m (t-end x) = waiting-at _ _ (sub-le _ _) waits-none
 called-leaves m (t-num n-ok) = waiting-at _ _ (sub-le _ _) waits-none
-called-leaves m (t-num (n-bad w)) = waiting-at _ _ (sub-le _ _) w
+called-leaves m (t-num (n-bad w l)) = waiting-at _ _ (sub-le _ _) w
 called-leaves m (t-num (n-fail j w)) = waiting-at _ _ (sub-le _ _) w
 called-leaves m (t-num (n-stop s)) = stopped-at _ s
 
-answered-leaves : {T : List ℕ} {R : Reader} (m : ℕ) (q : List Error) → Fits T R → Waits q → Leaves T R (answered m R q)
+answered-leaves : {T : List ℕ} {R : Reader} (m : ℕ) (q : List Error) → Accepted T R → Waits 0 q → Leaves T R (answered m R q)
 answered-leaves m [] f w = as-given
 answered-leaves m (e ∷ q) f w = waiting-at _ q (f .within) (waits-front w .1)
 
-given-waits : {T : List ℕ} {R : Reader} → Fits T R → Waits (take (R .waiting) (R .errors))
-given-waits {R} f = record { errors = fits-all _ _ (f .queue); few = omega (arith, length-take (R .waiting) (R .errors)) }
+given-waits : {T : List ℕ} {R : Reader} → Accepted T R → Waits 0 (take (R .waiting) (R .errors))
+given-waits {R} f = record { errors = fits-all _ _ (f .queue); few = omega (arith, length-take (R .waiting) (R .errors)); many = omega arith }
 
-pub returned : (R : Reader) (T : List ℕ) (m : ℕ) → Fits T R → Returned T R (next-stmt R T m .step .reader)
+pub returned : (R : Reader) (T : List ℕ) (m : ℕ) → Accepted T R → Returned T R (next-stmt R T m .step .reader)
 unfolding next-stmt
 returned R T m f =
     leaves-if _ _ _ (λ u. stopped-at _ (refl, omega arith)) λ u.
@@ -81,18 +74,18 @@ returned R T m f =
     (λ u. leaves-if _ _ _ (λ u. as-given) λ u.
     leaves-if _ _ _ (λ u. answered-leaves m _ f (given-waits f)) λ u.
     leaves-if _ _ _ (λ u. as-given) λ u.
-    called-leaves m (next-numbers _ [] _ waits-none))
+    called-leaves m (next-numbers _ 0 [] _ waits-none))
     (λ u. as-given)
 
 -- what is returned
 
-fits-returned : {T : List ℕ} {R S : Reader} → Fits T R → Returned T R S → Fits T S
-fits-returned f as-given = f
-fits-returned f (waiting-at p q h w) = record { within = h; few = w .few; stops = refl; queue = pad-fits (queue-limit - length q) (w .errors) }
-fits-returned f (stopped-at n s) = record { within = f .within; few = omega arith; stops = s .0; queue = zeros-fit queue-limit }
+accepted-returned : {T : List ℕ} {R S : Reader} → Accepted T R → Returned T R S → Accepted T S
+accepted-returned f as-given = f
+accepted-returned f (waiting-at p q h w) = record { within = h; few = w .few; stops = refl; queue = pad-fits (queue-limit - length q) (w .errors) }
+accepted-returned f (stopped-at n s) = record { within = f .within; few = omega arith; stops = s .0; queue = zeros-fit queue-limit }
 
-pub returned-fits : (R : Reader) (T : List ℕ) (m : ℕ) → Fits T R → Fits T (next-stmt R T m .step .reader)
-returned-fits R T m f = fits-returned f (returned R T m f)
+pub returned-accepted : (R : Reader) (T : List ℕ) (m : ℕ) → Accepted T R → Accepted T (next-stmt R T m .step .reader)
+returned-accepted R T m f = accepted-returned f (returned R T m f)
 
 whole-returned : {T : List ℕ} {R S : Reader} → length (R .errors) ≡ queue-limit → Returned T R S → length (S .errors) ≡ queue-limit
 whole-returned h as-given = h
@@ -102,5 +95,5 @@ whole-returned h (waiting-at p q l w) =
     omega (arith, w .few, length-append q zeros, n)
 whole-returned h (stopped-at n s) = refl
 
-pub returned-whole : (R : Reader) (T : List ℕ) (m : ℕ) → Fits T R → length (R .errors) ≡ queue-limit → length (next-stmt R T m .step .reader .errors) ≡ queue-limit
+pub returned-whole : (R : Reader) (T : List ℕ) (m : ℕ) → Accepted T R → length (R .errors) ≡ queue-limit → length (next-stmt R T m .step .reader .errors) ≡ queue-limit
 returned-whole R T m f h = whole-returned h (returned R T m f)

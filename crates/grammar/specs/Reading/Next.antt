@@ -1,8 +1,9 @@
 -- A reading call as a whole: of a reader, a sheet's words and a store of m words, the answer, the reader that comes back and every word of the store.
 -- Definitions; they assume nothing.
+use mathlib.Core.Path.{_≡_}
 use mathlib.Core.Bool.{Bool, true, false, cond, _&&_, _||_}
 use mathlib.Core.List.{List, [], _∷_, _++_}
-use Prim.Native.Nat.{ℕ, zero, suc, _-_, _*_, _/_, _%_}
+use Prim.Native.Nat.{ℕ, zero, suc, _-_, _*_, _/_, _%_, _≤_}
 use lib.Dec.{eqb, leb, ltb}
 use lib.ListN.{length, take, drop, replicate}
 use Rattle.tree.specs.Tree.{Tree, records}
@@ -49,6 +50,14 @@ unfoldable pub queue-fits : ℕ → List ℕ → Bool
 queue-fits w [] = true
 queue-fits zero (e ∷ es) = ifb (eqb e 0) (λ _. queue-fits zero es) (λ _. false)
 queue-fits (suc w) (e ∷ es) = ifb (is-error e) (λ _. queue-fits w es) (λ _. false)
+
+-- nothing that 61 names: the position is not past the tokens, at most 96 errors wait, the stop is 0 or a stop's number, each waiting number is an error's and
+-- each unused place of the queue is 0
+pub record Accepted (T : List ℕ) (R : Reader) : Type 0 where
+  pub within : R .position ≤ length T / 2
+  pub few : R .waiting ≤ queue-limit
+  pub stops : is-stop (R .stopped) ≡ true
+  pub queue : queue-fits (R .waiting) (R .errors) ≡ true
 
 -- a queue in its array
 abbrev pub pad : List Error → List ℕ

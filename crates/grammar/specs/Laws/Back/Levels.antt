@@ -13,20 +13,19 @@ use Rattle.tree.specs.Node
 use Rattle.tree.specs.Maybe.{just}
 use Rattle.grammar.specs.Reading.Result.{ok, then, either, ifb}
 use Rattle.grammar.specs.Reading.Look.{looked, look}
-use Rattle.grammar.specs.Reading.Expr.{expr}
 use Rattle.grammar.specs.Reading.Stmt as Stmt
 use Rattle.grammar.specs.Reading.Level.{level, start, next}
 use Rattle.grammar.specs.Canonical.Write.{own, write, statement, run}
 use Rattle.grammar.specs.Canonical.Writing.{clean-from, clean-reading, statement-words, is-too-deep}
 use Rattle.grammar.specs.Canonical.Need.{most, need, needs}
-use Rattle.grammar.specs.Canonical.Valid.{Valid, Valids, unary, ex, control, stmt, v-none, v-more}
+use Rattle.grammar.specs.Canonical.Valid.{Valid, Valids, stmt, v-none, v-more}
 use borrow.Author.Tests.{le-leb, leb-true, lt-leb}
 use Rattle.grammar.specs.Laws.Back.Steps.{Needs, reach, settle, fits, see, done, exactly, enough, missed, inside, weigh, then-ok, either-is, if-yes, if-no}
 use Rattle.grammar.specs.Laws.Back.Longer.{longer, longer-length, longer-even}
-use Rattle.grammar.specs.Laws.Back.Follow.{Follows, ends}
+use Rattle.grammar.specs.Laws.Back.Follow.{ends}
 use Rattle.grammar.specs.Laws.Back.Starts.{Starts, starts, starts-length, isnt, stmt-starts}
 use Rattle.grammar.specs.Laws.Back.Snoc.{join, most-more}
-use Rattle.grammar.specs.Laws.Back.Expr.{Reads, After, Ended, ex-back}
+use Rattle.grammar.specs.Laws.Back.Expr.{Reads, ex-back}
 use Rattle.grammar.specs.Laws.Back.Unary.{unary-need, unary-back}
 use Rattle.grammar.specs.Laws.Back.Stmt.{stmt-reads, stmts-reads}
 
@@ -43,18 +42,6 @@ level-back (suc d) = record {
   r-list = λ h j end q r e. inside (stmts-reads d (level-back d) h j end _ none q r e (le-refl _));
 }
 
--- every role that a nonterminal reads, with any waiting errors and any words behind
-pub operand-back : {b : Bool} {t : Tree} → Valid (unary b) t → (d : ℕ) (q r : List ℕ) → Follows 2 r → level d .unary q (write t own r) ≡ settle (leb (need t own) d) t r
-operand-back h d q r f = level-back d .r-unary h q r f .is
-
-pub expr-back : {b c : Bool} {t : Tree} → Valid (ex b c) t → (d : ℕ) (q r : List ℕ) → After c r → expr (level d) q (write t own r) ≡ settle (leb (need t own) d) t r
-expr-back h d q r a = ex-back d (level-back d) h q r a .is
-
-pub list-back : {f : Forest} {c : Tree} → Valids stmt f → Valid control c → (d end : ℕ) (q r : List ℕ) → Ended end r
-    → level d .list end q (write (Node.stmt-list f c) own r) ≡ settle (leb (need (Node.stmt-list f c) own) d) (record { suite = f; control = c }) r
-unfolding write need
-list-back h j d end q r e = level-back d .r-list h j end q r e .is
-
 pub stmt-back : {t : Tree} → Valid stmt t → (d : ℕ) (q r : List ℕ) → Stmt.stmt (level d) q (write t own (Kind.Semicolon ∷ 0 ∷ r)) ≡ settle (leb (need t own) d) t (Kind.Semicolon ∷ 0 ∷ r)
 stmt-back h d q r = stmt-reads d (level-back d) h q _ (ends refl) .is
 
@@ -66,7 +53,7 @@ start-is (suc m) q l (starts {s = s} t b) =
     enough (either-is _ _ _ (exactly (see q s t)) (if-no _ _ (isnt b Kind.EOF refl) (if-no _ _ (isnt b Kind.Semicolon refl) done))) (le-refl 0)
 
 -- the words r, or those behind a semicolon
-data Leads (r : List ℕ) : List ℕ → Type 0 where
+pub data Leads (r : List ℕ) : List ℕ → Type 0 where
   here : Leads r r
   behind : Leads r (Kind.Semicolon ∷ 0 ∷ r)
 
@@ -76,7 +63,7 @@ start-leads {ts} q h here = start-is (length ts) q (omega (arith, starts-length 
 start-leads {ts} q h behind =
     enough (either-is _ _ _ (exactly (see q ts (fits refl))) (if-no _ _ refl (if-yes _ _ refl (exactly (start-is (suc (length ts)) q (omega arith) h))))) (le-refl 0)
 
-next-reads : {t : Tree} {x : List ℕ} → Valid stmt t → (d : ℕ) (q r : List ℕ) → Leads (statement t r) x → Needs (need t own) d (next d q x) (ok t (Kind.Semicolon ∷ 0 ∷ r))
+pub next-reads : {t : Tree} {x : List ℕ} → Valid stmt t → (d : ℕ) (q r : List ℕ) → Leads (statement t r) x → Needs (need t own) d (next d q x) (ok t (Kind.Semicolon ∷ 0 ∷ r))
 unfolding next
 next-reads h d q r l = then-ok _ _ (start-leads q (stmt-starts h _) l) (weigh (either-is _ _ _ (stmt-reads d (level-back d) h q _ (ends refl)) done) (omega arith))
 
@@ -98,7 +85,7 @@ unfolding need
 run-back h d n l c = clean-leads h d n l c here
 
 -- a run is whole tokens, at least one for each statement
-run-length : (f : Forest) → (length (run f) % 2 ≡ 0) × (count f ≤ length (run f))
+pub run-length : (f : Forest) → (length (run f) % 2 ≡ 0) × (count f ≤ length (run f))
 unfolding run count
 run-length none = (refl, omega arith)
 run-length (more t f) =

@@ -1,0 +1,164 @@
+-- Sheets that meet all that the theorem supposes, and one that does not: so it speaks of something, and not of everything. Assumes nothing.
+-- `a; b` and `a b` have the same canonical tokens, and so the same remaining answers; `c; a b` behind two calls, of which one was refused, has the same again.
+-- `(a)` and `a` have other canonical tokens, and other remaining answers. Of `)` nothing is supposed: it is not clean.
+use mathlib.Core.Path.{_≡_, refl, sym, ap, subst}
+use mathlib.Core.Logic.{_≢_}
+use mathlib.Core.Bool.{Bool, true, false}
+use mathlib.Core.List.{List, [], _∷_}
+use Prim.Native.Nat.{ℕ, suc, _*_, _%_, _≤_}
+use native.Mathlib.Omega.{arith}
+use borrow.Author.Tests.{eqb-true}
+use lib.Dec.{eqb}
+use lib.ListN.{length, replicate}
+use Rattle.token.specs.Kind
+use Rattle.tree.specs.Tree.{Tree, Forest, none, more, one, records}
+use Rattle.tree.specs.Node
+use Rattle.tree.specs.Maybe.{nothing, just}
+use Rattle.tree.specs.Records.{nothing-just}
+use Rattle.grammar.specs.Reading.Limit.{depth-limit, length-limit}
+use Rattle.grammar.specs.Reading.Result.{ifb}
+use Rattle.grammar.specs.Reading.Next.{fresh, next-stmt}
+use Rattle.grammar.specs.Canonical.Write.{own, run}
+use Rattle.grammar.specs.Canonical.Need.{need}
+use Rattle.grammar.specs.Canonical.Valid.{stmt, Valids, v-none, v-more}
+use Rattle.grammar.specs.Canonical.Writing.{clean-from, clean-reading}
+use Rattle.grammar.specs.Laws.Back.Levels.{run-length}
+use Rattle.grammar.specs.Sheets as Sheets
+use Rattle.grammar.specs.Theorems.{sound, decoded}
+use Rattle.grammar.specs.declared.Reader.{Reader}
+use Rattle.agreement.specs.Calls.{Entry, by-value, kept, Call, Gave, Gives, Run, no-call, a-call, defined, Calm, unread}
+use Rattle.agreement.specs.Answers.{Seen, tree, end, stopped, Afresh, Remaining, Shows, the-end, a-tree, Lacks62, lacks-none, lacks-more}
+use Rattle.agreement.specs.Statement.{Left, canonical}
+use Rattle.agreement.specs.Theorem.{two-sheets}
+use Rattle.agreement.specs.Laws.Step.{fresh-accepted, before-fresh}
+use Rattle.agreement.specs.Laws.Clean.{answers, case-of, clean-reads, clean-only, shown-clean}
+use Rattle.agreement.specs.Laws.Whole.{clean-is, clean-of, run-clean}
+use Rattle.agreement.specs.Laws.Calls.{gave-of}
+
+-- the definition's own calls are a run of the entries
+gives-own : (entry : Entry) (R : Reader) (T S : List ℕ) → Gives entry R T S (gave-of (next-stmt R T (length S)))
+gives-own by-value R T S = refl
+gives-own kept R T S = refl
+
+record Made (T : List ℕ) (R : Reader) (cs : List Call) : Type 0 where
+  given : List Gave
+  ran : Run T R cs given (defined T R cs)
+
+made : (T : List ℕ) (R : Reader) (cs : List Call) → Made T R cs
+unfolding defined
+made T R [] = record { given = []; ran = no-call }
+made T R (c ∷ cs) = let m = made T (next-stmt R T (length (c .store)) .step .reader) cs in record { given = _; ran = a-call (gives-own (c .entry) R T (c .store)) (m .ran) }
+
+-- a clean reading is of whole tokens
+clean-even : (ts : List ℕ) {f : Forest} → clean-reading depth-limit ts ≡ just f → length ts % 2 ≡ 0
+unfolding clean-reading ifb
+clean-even ts {f} e = go (eqb (length ts % 2) 0) refl e
+  where
+    go : (b : Bool) → eqb (length ts % 2) 0 ≡ b → ifb b (λ _. clean-from depth-limit (suc (length ts)) ts) (λ _. nothing) ≡ just f → length ts % 2 ≡ 0
+    go true x e = eqb-true _ _ x
+    go false x e = nothing-just e
+
+shows-answers : {f : Forest} → Valids stmt f → Shows (answers f) f
+unfolding answers
+shows-answers v-none = the-end
+shows-answers (v-more h v) = a-tree (decoded h) (shows-answers v)
+
+lacks-answers : (f : Forest) → Lacks62 (answers f)
+unfolding answers
+lacks-answers none = lacks-more {a = end} (λ e. omega (arith, ap case-of e)) lacks-none
+lacks-answers (more t f) = lacks-more {a = tree (records t)} (λ e. omega (arith, ap case-of e)) (lacks-answers f)
+
+-- what the theorem supposes holds of a new reader and some calls, where what they leave reads cleanly and is not too long or too deep
+sheet-left : (T : List ℕ) (cs : List Call) (f : Forest) → length T ≤ 2 * length-limit → Calm (defined T fresh cs) → clean-reading depth-limit (unread T (defined T fresh cs)) ≡ just f
+    → length (unread T (defined T fresh cs)) ≤ 2 * length-limit → length (run f) ≤ 2 * length-limit → need (Node.list f) own ≤ depth-limit → Left
+sheet-left T cs f h c e u l d =
+    let m = made T fresh cs in
+    let U = unread T (defined T fresh cs) in
+    let v = sound depth-limit U f e in
+    record {
+      sheet = T;
+      within = omega (arith, h);
+      reader = fresh;
+      accepted = fresh-accepted T;
+      calls = cs;
+      given = m .given;
+      after = defined T fresh cs;
+      ran = m .ran;
+      calm = c;
+      answers = answers f;
+      read = clean-reads (clean-of U e) (before-fresh (clean-even U e) u);
+      trees = f;
+      shown = shows-answers v;
+      keeps = record { short = l; shallow = λ xs r. subst Lacks62 (sym (clean-only (run-clean v d) (before-fresh (run-length f .0) l) r)) (lacks-answers f) };
+    }
+
+-- the tokens of a name, and of one with nothing but its kind
+abbrev name : ℕ → List ℕ → List ℕ
+name n r = Kind.Identifier ∷ n ∷ r
+
+abbrev symbol : ℕ → List ℕ → List ℕ
+symbol k r = k ∷ 0 ∷ r
+
+abbrev eof : List ℕ
+eof = symbol Kind.EOF []
+
+abbrev just-name : ℕ → Tree
+just-name n = Node.expression (Node.identifier n)
+
+abbrev two-names : Forest
+two-names = more (just-name 0) (one (just-name 1))
+
+abbrev calm : {R : Reader} → R .waiting ≡ 0 → R .stopped ≡ 0 → Calm R
+calm w s = record { waiting = w; stopped = s }
+
+-- `a; b`
+pub apart : Left
+unfolding Sheets.canonical defined need
+apart = sheet-left (name 0 (symbol Kind.Semicolon (name 1 eof))) [] two-names (omega arith) (calm refl refl) refl (omega arith) (omega arith) (omega arith)
+
+-- `a b`
+pub together : Left
+unfolding Sheets.canonical defined need
+together = sheet-left (name 0 (name 1 eof)) [] two-names (omega arith) (calm refl refl) refl (omega arith) (omega arith) (omega arith)
+
+-- `c; a b` behind two calls: one by value with no store, which is refused, and one on the kept reader, which answers `c`
+pub behind : Left
+unfolding Sheets.canonical defined need
+behind =
+    sheet-left (name 2 (symbol Kind.Semicolon (name 0 (name 1 eof)))) (record { entry = by-value; store = [] } ∷ record { entry = kept; store = replicate 80 7 } ∷ [])
+    two-names (omega arith) (calm refl refl) refl (omega arith) (omega arith) (omega arith)
+
+-- `(a)`
+pub grouped : Left
+unfolding Sheets.canonical defined need
+grouped = sheet-left (symbol Kind.OpenParen (name 0 (symbol Kind.CloseParen eof))) [] (one (Node.expression (Node.group 0 (Node.identifier 0)))) (omega arith) (calm refl refl) refl (omega arith) (omega arith) (omega arith)
+
+-- `a`
+pub plain : Left
+unfolding Sheets.canonical defined need
+plain = sheet-left (name 0 eof) [] (one (just-name 0)) (omega arith) (calm refl refl) refl (omega arith) (omega arith) (omega arith)
+
+-- the same remaining answers, by the theorem
+pub same-apart : (xs ys : List Seen) → Remaining (apart .sheet) (apart .after) xs → Remaining (together .sheet) (together .after) ys → xs ≡ ys
+unfolding apart together sheet-left
+same-apart xs ys h i = two-sheets apart together .c xs ys h i .1 refl
+
+pub same-behind : (xs ys : List Seen) → Remaining (apart .sheet) (apart .after) xs → Remaining (behind .sheet) (behind .after) ys → xs ≡ ys
+unfolding apart behind sheet-left
+same-behind xs ys h i = two-sheets apart behind .c xs ys h i .1 refl
+
+-- other ones
+abbrev first-word : List ℕ → ℕ
+first-word [] = 0
+first-word (w ∷ ws) = w
+
+pub other-grouped : (xs ys : List Seen) → Remaining (grouped .sheet) (grouped .after) xs → Remaining (plain .sheet) (plain .after) ys → xs ≢ ys
+unfolding Sheets.canonical grouped plain sheet-left
+other-grouped xs ys h i e =
+    let z : _≡_ {A = ℕ} Kind.OpenParen Kind.Identifier = ap first-word (two-sheets grouped plain .c xs ys h i .0 e) in
+    omega arith
+
+-- `)` is no clean sheet, so the theorem supposes nothing of it
+pub not-clean : (xs : List Seen) (f : Forest) → Afresh (symbol Kind.CloseParen eof) xs → Shows xs f → ⊥
+unfolding Sheets.canonical
+not-clean xs f r s = nothing-just (clean-is refl (shown-clean r s (before-fresh refl (omega arith))))

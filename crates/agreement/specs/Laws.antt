@@ -1,0 +1,6 @@
+pub mod Step
+pub mod Clean
+pub mod Whole
+pub mod Deep
+pub mod Calls
+pub mod Writer

@@ -1,0 +1,75 @@
+-- What the writer gives for a valid statement that the depth limit is enough for. Assumes nothing.
+use mathlib.Core.Path.{_≡_, refl, sym, ap, _∙_}
+use mathlib.Core.Logic.{_↔_}
+use mathlib.Core.Bool.{Bool, true, false, true≢false}
+use mathlib.Core.List.{List, _++_}
+use Prim.Native.Nat.{ℕ, _-_, _/_, _≤_, _<_}
+use native.Mathlib.Omega.{arith}
+use borrow.Author.Tests.{ltb-true, ltb-false, le-ltb}
+use lib.Dec.{ltb}
+use lib.ListN.{length, replicate}
+use Rattle.tree.specs.Tree.{Tree, Forest, records}
+use Rattle.tree.specs.Node
+use Rattle.grammar.specs.Reading.Limit.{depth-limit, short-output}
+use Rattle.grammar.specs.Reading.Result.{ifb}
+use Rattle.grammar.specs.Canonical.Write.{own}
+use Rattle.grammar.specs.Canonical.Need.{need}
+use Rattle.grammar.specs.Canonical.Valid.{stmt, Valid}
+use Rattle.grammar.specs.Canonical.Writing.{statement-words, Wrote, bare, write-stmt}
+use Rattle.grammar.specs.Contract.{Writes}
+use Rattle.grammar.specs.Laws.Back.Snoc.{most-more}
+use Rattle.grammar.specs.Laws.Small.{valid-small}
+use Rattle.grammar.specs.Theorems.{Among, first, later, readable-valid, limit-exact, decoded}
+use Rattle.grammar.specs.declared.Written.{Written}
+use Rattle.grammar.specs.declared.Written.the-variants.{Tokens, Stopped, Refused}
+use Rattle.agreement.specs.Statement.{Written-as}
+
+-- a statement needs no more than all
+pub among-need : {t : Tree} {f : Forest} → Among t f → need t own ≤ need (Node.list f) own
+unfolding need
+among-need {t} (first {f = f}) = omega (arith, most-more t f)
+among-need (later {u = u} {f = f} a) = omega (arith, most-more u f, among-need a)
+
+-- what the writer leaves, by whether the output is too short
+abbrev outcome : Bool → Tree → ℕ → Wrote
+outcome true t m = bare m (Refused short-output)
+outcome false t m = record { answer = Tokens (length (statement-words t) / 2); output = statement-words t ++ replicate (m - length (statement-words t)) 0 }
+
+writes-is : {t : Tree} (m : ℕ) → Valid stmt t → need t own ≤ depth-limit → write-stmt (records t) m ≡ outcome (ltb m (length (statement-words t))) t m
+unfolding write-stmt ifb
+writes-is {t} m h l = go (ltb m (length (statement-words t))) refl
+  where
+    go : (b : Bool) → ltb m (length (statement-words t)) ≡ b → write-stmt (records t) m ≡ outcome b t m
+    go true e = rw (decoded h, readable-valid t (valid-small h) .1 h, limit-exact h, le-ltb depth-limit (need t own) l, e)
+    go false e = rw (decoded h, readable-valid t (valid-small h) .1 h, limit-exact h, le-ltb depth-limit (need t own) l, e)
+
+abbrev is-tokens : Written → Bool
+is-tokens (Tokens n) = true
+is-tokens (Stopped n) = false
+is-tokens (Refused n) = false
+
+module _ {t : Tree} (h : Valid stmt t) (l : need t own ≤ depth-limit) (output : List ℕ) (answer : Written) (output′ : List ℕ) (w : Writes (records t) output answer output′) where
+  left : (b : Bool) → ltb (length output) (length (statement-words t)) ≡ b → record { answer = answer; output = output′ } ≡ outcome b t (length output)
+  left b e = w ∙ writes-is (length output) h l ∙ ap (λ b. outcome b t (length output)) e
+
+  -- the tokens come exactly if the output is long enough
+  pub tokens-exact : Written-as t output answer output′ ↔ (length (statement-words t) ≤ length output)
+  tokens-exact = go (ltb (length output) (length (statement-words t))) refl
+    where
+      go : (b : Bool) → ltb (length output) (length (statement-words t)) ≡ b → Written-as t output answer output′ ↔ (length (statement-words t) ≤ length output)
+      go true e = (
+        (λ x. absurd (true≢false (sym (ap is-tokens (x .tokens)) ∙ ap (λ y. is-tokens (y .answer)) (left true e)))),
+        λ x. absurd (omega (arith, x, ltb-true (length output) (length (statement-words t)) e)),
+      )
+      go false e = ((λ x. ltb-false _ _ e), λ x. record { tokens = ap (λ y. y .answer) (left false e); words = ap (λ y. y .output) (left false e) })
+
+  -- and 66 exactly if it is not
+  pub short-exact : (answer ≡ Refused short-output) ↔ (length output < length (statement-words t))
+  short-exact = go (ltb (length output) (length (statement-words t))) refl
+    where
+      go : (b : Bool) → ltb (length output) (length (statement-words t)) ≡ b → (answer ≡ Refused short-output) ↔ (length output < length (statement-words t))
+      go true e = ((λ x. ltb-true _ _ e), λ x. ap (λ y. y .answer) (left true e))
+      go false e = (
+        (λ x. absurd (true≢false (sym (ap (λ y. is-tokens (y .answer)) (left false e)) ∙ ap is-tokens x))),
+        λ x. absurd (omega (arith, x, ltb-false (length output) (length (statement-words t)) e)),
+      )

@@ -1,0 +1,15 @@
+mod Numbers
+mod Laws
+mod Shaping
+mod Texts
+mod Memory
+mod Places
+mod Kids
+mod Targets
+mod Chains
+mod Validity
+mod Writing
+mod Nodes
+mod Spine
+mod Ending
+mod Entry

@@ -1,0 +1,110 @@
+-- What is remembered of where trees begin, and the numbers of the record at a place. Assumes nothing.
+use mathlib.Core.Path.{_≡_, refl, subst}
+use mathlib.Core.List.{List, [], _∷_}
+use Prim.Native.Nat.{ℕ, zero, suc, _-_, _/_, _%_, _≤_, _<_}
+use native.Mathlib.Omega.{arith}
+use native.Mathlib.Decide.{ℕ-discrete}
+use lib.ListN.{length, getD, set, replicate}
+use lib.Seq.{getD-set-same, getD-set-other}
+use Rattle.tree.specs.Tree.{Tree, Forest, node, none, more, count}
+use Rattle.tree.specs.Maybe.{Maybe, nothing, just}
+use Rattle.tree.specs.Records.{back}
+use Rattle.writer.specs.Stack.{At, Skipped, Memo, SpotAs, Spot, kind-in, count-in, value-in, last-tree, last-in}
+use Rattle.writer.proofs.Laws.{at-many, pop}
+
+pub memo-hit : {L K S : List ℕ} {p : ℕ} (i : ℕ) → Memo L K S → getD K i 0 ≡ p → Skipped L p (getD S i 0)
+memo-hit i m e = rw e at (m .how i)
+
+-- where nothing is remembered, all that is remembered is right: no tree ends at 0
+memo-none : {L : List ℕ} {r : ℕ} → Skipped L 0 r
+memo-none = record { how = λ t s a. absurd (omega (arith, at-many a)) }
+
+pub memo-start : (L : List ℕ) (n m : ℕ) → Memo L (replicate n 0) (replicate m 0)
+memo-start L n m = record { how = λ i. rw (zero-at n i) memo-none }
+  where
+    zero-at : (n i : ℕ) → getD {A = ℕ} (replicate n 0) i 0 ≡ 0
+    zero-at zero i = refl
+    zero-at (suc n) zero = refl
+    zero-at (suc n) (suc i) = zero-at n i
+
+pub memo-set : {L : List ℕ} (K S : List ℕ) (i p r : ℕ) → i < length K → i < length S → Memo L K S → Skipped L p r → Memo L (set K i p) (set S i r)
+memo-set {L} K S i p r hk hs m w = record { how = λ j. go j (ℕ-discrete j i) }
+  where
+    go : (j : ℕ) → Dec (j ≡ i) → Skipped L (getD (set K i p) j 0) (getD (set S i r) j 0)
+    go j (yes e) = rw (e, getD-set-same K i p 0 hk, getD-set-same S i r 0 hs) w
+    go j (no n) = rw (getD-set-other K i j p 0 n, getD-set-other S i j r 0 n) (m .how j)
+
+spot-bound-as : (L : List ℕ) (p : ℕ) (m : Maybe Tree) (s : List Tree) → SpotAs L p m s → p ≤ length L
+spot-bound-as L p nothing s e = omega arith
+spot-bound-as L p (just t) s a = a .inside
+
+-- a place lies in the records
+pub spot-bound : {L : List ℕ} {p : ℕ} {m : Maybe Tree} {s : List Tree} → Spot L p m s → p ≤ length L
+spot-bound {L} {p} {m} {s} h = spot-bound-as L p m s (h .how)
+
+none-as : (L : List ℕ) (p : ℕ) (m : Maybe Tree) (s : List Tree) → p < 2 → SpotAs L p m s → m ≡ nothing
+none-as L p nothing s l e = refl
+none-as L p (just t) s l a = absurd (omega (arith, at-many a))
+
+-- below 2 there is no tree
+pub spot-none : {L : List ℕ} {p : ℕ} (m : Maybe Tree) (s : List Tree) → p < 2 → Spot L p m s → m ≡ nothing
+spot-none {L} {p} m s l h = none-as L p m s l (h .how)
+
+-- where there is none, the place is 0
+pub spot-zero : {L : List ℕ} {p : ℕ} {m : Maybe Tree} {s : List Tree} → m ≡ nothing → Spot L p m s → p ≡ 0
+spot-zero e h = rw e at h .how
+
+pub kind-there : {L : List ℕ} {p : ℕ} (m : Maybe Tree) (s : List Tree) → 2 ≤ p → Spot L p m s → getD L (p - 2) 0 % 256 ≡ kind-in m
+kind-there {L} {p} m s l h = go m (h .how)
+  where
+    go : (m : Maybe Tree) → SpotAs L p m s → getD L (p - 2) 0 % 256 ≡ kind-in m
+    go nothing e = absurd (omega arith)
+    go (just (node k v f)) a = pop a .kind
+
+pub count-there : {L : List ℕ} {p : ℕ} (m : Maybe Tree) (s : List Tree) → 2 ≤ p → Spot L p m s → getD L (p - 2) 0 / 256 ≡ count-in m
+count-there {L} {p} m s l h = go m (h .how)
+  where
+    go : (m : Maybe Tree) → SpotAs L p m s → getD L (p - 2) 0 / 256 ≡ count-in m
+    go nothing e = absurd (omega arith)
+    go (just (node k v f)) a = pop a .kids
+
+pub value-there : {L : List ℕ} {p : ℕ} (m : Maybe Tree) (s : List Tree) → 2 ≤ p → Spot L p m s → getD L (p - 1) 0 ≡ value-in m
+value-there {L} {p} m s l h = go m (h .how)
+  where
+    go : (m : Maybe Tree) → SpotAs L p m s → getD L (p - 1) 0 ≡ value-in m
+    go nothing e = absurd (omega arith)
+    go (just (node k v f)) a = pop a .value
+
+last-none : (m : Maybe Tree) → count-in m ≡ 0 → last-in m ≡ nothing
+unfolding count last-tree
+last-none nothing e = refl
+last-none (just (node k v none)) e = refl
+last-none (just (node k v (more t f))) e = absurd (omega arith)
+
+-- without children there is no last one
+pub no-last : {L : List ℕ} (m : Maybe Tree) → count-in m ≡ 0 → (u : List Tree) × Spot L 0 (last-in m) u
+no-last m e = ([], rw (last-none m e) (record { how = refl }))
+
+back-last : (t : Tree) (f : Forest) (s : List Tree) → (u : List Tree) × (x : Tree) × (last-tree (more t f) ≡ just x) × (back (more t f) s ≡ x ∷ u)
+unfolding back last-tree
+back-last t none s = (s, t, refl, refl)
+back-last t (more u f) s = back-last u f (t ∷ s)
+
+-- the last child ends two words before its parent
+pub a-last : {L : List ℕ} {p : ℕ} (m : Maybe Tree) (s : List Tree) → (count-in m ≡ 0 → ⊥) → Spot L p m s → (u : List Tree) × Spot L (p - 2) (last-in m) u
+unfolding count
+a-last {L} {p} m s n h = go m n (h .how)
+  where
+    go : (m : Maybe Tree) → (count-in m ≡ 0 → ⊥) → SpotAs L p m s → (u : List Tree) × Spot L (p - 2) (last-in m) u
+    go nothing n e = absurd (n refl)
+    go (just (node k v none)) n a = absurd (n refl)
+    go (just (node k v (more t f))) n a =
+        let b = back-last t f s in
+        (b .0, rw (b .2) (record { how = subst (λ (x : List Tree). At L (p - 2) x) (b .3) (pop a .under) }))
+
+pub two-before : {L : List ℕ} {p : ℕ} (m : Maybe Tree) (s : List Tree) → (count-in m ≡ 0 → ⊥) → Spot L p m s → 2 ≤ p
+two-before {L} {p} m s n h = go m n (h .how)
+  where
+    go : (m : Maybe Tree) → (count-in m ≡ 0 → ⊥) → SpotAs L p m s → 2 ≤ p
+    go nothing n e = absurd (n refl)
+    go (just t) n a = omega (arith, at-many a)

@@ -1,0 +1,178 @@
+// The writer of canonical tokens: a statement's records in, its tokens' words out.
+ghost use lib.ListN.{length};
+ghost use Rattle.grammar.specs.Contract.{Writes};
+ghost use Rattle.writer.specs.Post.{Held, Wrote-tree, Fronted, Ran-out};
+ghost use Rattle.writer.specs.Stack.{Known};
+
+mod choice;
+mod class;
+mod demand;
+mod form;
+mod kinds;
+mod legal;
+mod mode;
+mod node;
+mod operators;
+mod records;
+mod sound;
+mod target;
+mod text;
+mod tokens;
+
+use crate::form::OWN;
+use crate::form::base;
+use crate::form::deeper;
+use crate::form::place_of;
+use crate::legal::legal;
+use crate::mode::form_at;
+use crate::operators::op_token;
+use crate::records::Places;
+use crate::records::shape;
+use crate::text::closing;
+use crate::text::opening;
+use crate::text::put;
+use crate::text::shift;
+use crate::tokens::after_token;
+use grammar::Written;
+use token::kind;
+use tree::clear;
+
+// How deep the run may be. grammar's specs/Reading/Limit.antt has this and the numbers below.
+const DEPTH_LIMIT: u64 = 64;
+
+const TOO_DEEP: u64 = 62;
+
+const NO_STATEMENT: u64 = 65;
+
+const SHORT_OUTPUT: u64 = 66;
+
+// The first word of an operator's record: BinaryOp, with two children.
+const OPERATOR: u64 = 525;
+
+// A tree was written: where its records begin, and 2 more than where its words begin (below 2: no room). Or it is too deep.
+pub enum Step {
+    Done(usize, usize),
+    Deep,
+}
+
+// The tree that ends at `from`, its words before the text that begins at end - 2. A chain of operators is a loop from its root: the right
+// side, the operator, and on with the left side.
+fn write_tree(
+    records: &[u64],
+    keys: &Places,
+    starts: &Places,
+    output: &mut [u64],
+    depth: u64,
+    place: u64,
+    from: usize,
+    end: usize,
+) -> Step
+    requires { ⌜ Known (now records) (now keys) (now starts) from × Held end (now output) ⌝ }
+    ensures { λ r. ⌜ Wrote-tree (now (records .entry)) depth place from end (now (output .entry)) (now (output .exit)) r ⌝ }
+{
+    let mut at = place;
+    let mut p = from;
+    let mut a = end;
+    while records[p - 2] == OPERATOR {
+        let number = records[p - 1];
+        let r = write_tree(records, keys, starts, output, depth, OWN, p - 2, a);
+        let Step::Done(q, e) = r else {
+            return r;
+        };
+        a = put(output, e, op_token(number), 0);
+        p = q;
+        at = OWN;
+    }
+    write_node(records, keys, starts, output, depth, at, p, a)
+}
+
+// The same, of a tree that is no operator with two sides: what stands behind the children, the children from the last to the first, each
+// with the token behind it, and what stands before them.
+fn write_node(
+    records: &[u64],
+    keys: &Places,
+    starts: &Places,
+    output: &mut [u64],
+    depth: u64,
+    place: u64,
+    p: usize,
+    end: usize,
+) -> Step
+    requires { ⌜ Known (now records) (now keys) (now starts) p × Held end (now output) ⌝ }
+    ensures { λ r. ⌜ Wrote-tree (now (records .entry)) depth place p end (now (output .entry)) (now (output .exit)) r ⌝ }
+{
+    let word = records[p - 2];
+    let value = records[p - 1];
+    let kind = word % 256;
+    if depth < base(kind) {
+        return Step::Deep;
+    }
+    let form = form_at(records, keys, starts, p, place);
+    let n = word / 256;
+    let mut j = n;
+    let mut q = p - 2;
+    let mut a = closing(output, end, kind, value, form);
+    while 0 < j {
+        let b = put(output, a, after_token(kind, value, form, n, j), 0);
+        let below = depth - deeper(kind, form, j);
+        let its = place_of(kind, value, form, j);
+        let r = write_tree(records, keys, starts, output, below, its, q, b);
+        let Step::Done(q2, e) = r else {
+            return r;
+        };
+        q = q2;
+        a = e;
+        j -= 1;
+    }
+    Step::Done(q, opening(output, a, kind, value, form))
+}
+
+// What was written up to the output's end, from the word b - 2 on, goes to its front.
+fn written(output: &mut [u64], b: usize) -> Written
+    requires { ⌜ Held b (now output) ⌝ }
+    ensures { λ r. ⌜ Fronted b (now (output .entry)) (now (output .exit)) r ⌝ }
+{
+    if b < 2 {
+        clear(output, 0);
+        return Written::Refused(SHORT_OUTPUT);
+    }
+    let m = output.len();
+    let by = b - 2;
+    shift(output, by);
+    Written::Tokens((m - by) / 2)
+}
+
+// The tree whose records these are and its semicolon, at the output's front, and zeros behind them.
+fn run_out(records: &[u64], keys: &Places, starts: &Places, output: &mut [u64]) -> Written
+    requires { ⌜ Known (now records) (now keys) (now starts) (length (now records)) ⌝ }
+    ensures { λ r. ⌜ Ran-out (now (records .entry)) (now (output .entry)) (now (output .exit)) r ⌝ }
+{
+    let a = put(output, output.len() + 2, kind::SEMICOLON, 0);
+    let n = records.len();
+    let r = write_tree(records, keys, starts, output, DEPTH_LIMIT, OWN, n, a);
+    match r {
+        Step::Done(_, b) => written(output, b),
+        Step::Deep => {
+            clear(output, 0);
+            Written::Stopped(TOO_DEEP)
+        }
+    }
+}
+
+// Writes the canonical tokens of the statement whose records these are, its semicolon included, and zeros behind them. `Writes` is the
+// equation of answer and output with the definition `write-stmt`, for all inputs (grammar's specs/Contract.antt).
+pub fn write_stmt(records: &[u64], output: &mut [u64]) -> Written
+    ensures { λ r. ⌜ Writes (now (records .entry)) (now (output .entry)) r (now (output .exit)) ⌝ }
+{
+    if !shape(records) {
+        clear(output, 0);
+        return Written::Refused(NO_STATEMENT);
+    }
+    let mut keys = [0usize; 49152];
+    let mut starts = [0usize; 49152];
+    if !legal(records, &mut keys, &mut starts) {
+        clear(output, 0);
+        return Written::Refused(NO_STATEMENT);
+    }
+    run_out(records, &keys, &starts, output)
+}
