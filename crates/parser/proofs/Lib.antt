@@ -11,7 +11,6 @@ mod Names
 mod Waiting
 mod Answers
 mod PathsExpr
-mod PathsAtom
 mod PathsPrimary
 mod PathsStmt
 mod PathsList

@@ -2,12 +2,12 @@
 use mathlib.Core.Path.{_≡_, refl, sym, ap, _∙_, subst}
 use mathlib.Core.Bool.{Bool, true, false}
 use mathlib.Core.List.{List, [], _∷_, _++_, append-assoc, append-nil}
-use Prim.Native.Nat.{ℕ, zero, suc, _+_, _*_, _-_, _%_, _≤_, _<_}
+use Prim.Native.Nat.{ℕ, zero, suc, _+_, _*_, _-_, _≤_}
 use native.Mathlib.Numerals.{sub-one}
 use native.Mathlib.Omega.{arith}
 use lib.Dec.{eqb}
-use lib.ListN.{length, take, drop, getD, length-drop, length-take, length-append}
-use lib.Seq.{length-take-le, take-take, take-append-le, getD-take, getD-at}
+use lib.ListN.{length, take, drop, length-drop, length-take, length-append}
+use lib.Seq.{length-take-le, take-take, take-append-le}
 use borrow.Author.Tests.{eq-eqb, ne-eqb, eqb-true}
 use Rattle.token.specs.Kind
 use Rattle.token.specs.declared.Token.{Token}
@@ -48,6 +48,7 @@ use Rattle.parser.proofs.Algebra.{then-ok, then-then, then-if, then-sam
 use Rattle.parser.proofs.Laws.{way, link, goes, fails, lacking, Later, Beyond, Looks, did-not, put, all-one, gets, lacks, shorter, all-snoc, count-snoc, prefix}
 use Rattle.parser.proofs.Trees.{path-text}
 use Rattle.parser.proofs.Shapes.{given}
+use Rattle.parser.proofs.Writing.{words-some}
 
 -- what adds no error to the queue
 plain-if : {A : Type 0} (b : Bool) {x y : Unit {0} → Res A} → ((u : Unit {0}) → Plain (x u)) → ((u : Unit {0}) → Plain (y u)) → Plain (ifb b x y)
@@ -133,15 +134,11 @@ default-one X W v t {Y = Y} e f g = put 26 (one t) Y e (rw all-one f) refl ∙ a
 place : (S S′ X : List ℕ) (at a : ℕ) → take a S′ ≡ take at S ++ X → at ≤ length S → a ≤ length S′ → a ≡ at + length X
 place S S′ X at a e h g = sym (length-take-le a S′ g) ∙ ap length e ∙ length-append (take at S) X ∙ ap (λ (n : ℕ). n + length X) (length-take-le at S h)
 
-record-length : (t : Tree) → 2 ≤ length (records t)
-unfolding records
-record-length (node k v f) = rw length-append (omega arith)
-
 ends-some : {f : Forest} {at a last : ℕ} → Ends f at a last → a ≡ at + length (all-records f) → (last ≡ a → ⊥) → (last + 2 ≤ a) × (1 ≤ count f)
 ends-some (keeps s e) l h = absurd (h e)
 ends-some (gives g v e i j) l h =
     let t : Tree = node NodeKind.Expression v (one e) in
-    let n = record-length t in
+    let n = words-some t in
     let c = ap count i ∙ count-snoc g t in
     let m = ap (λ x. length (all-records x)) i ∙ ap length (all-snoc g t) ∙ length-append (all-records g) (records t) in
     (omega arith, omega arith)
@@ -545,27 +542,6 @@ pub decl-name : (low : Level) (p : Tree) {n : ℕ} → n ≡ target-name p → (
 decl-name low p e q r = ap (λ (m : ℕ). then q (function-def low m q r) (λ d q₃ s. ok (Node.assignment 2 0 p d) s)) (sym e)
 
 -- THE NAME of a target is its first token's, if it is a name alone
-root-kind : (S X : List ℕ) (a k v : ℕ) (f : Forest) → take a S ≡ X ++ records (node k v f) → a ≤ length S → k < 256 → getD S (a - 2) 0 % 256 ≡ k
-unfolding records
-root-kind S X a k v f text within h =
-    let Y : List ℕ = X ++ all-records f in
-    let w : ℕ = k + 256 * count f in
-    let t : take a S ≡ Y ++ w ∷ v ∷ [] = text ∙ sym (append-assoc X (all-records f) (w ∷ v ∷ [])) in
-    let l : a ≡ length Y + 2 = sym (length-take-le a S within) ∙ ap length t ∙ length-append Y (w ∷ v ∷ []) in
-    let n : length Y ≡ a - 2 = omega arith in
-    let i : getD S (a - 2) 0 ≡ k + 256 * count f = sym (getD-take a S (a - 2) 0 (omega arith)) ∙ ap (λ (y : List ℕ). getD y (a - 2) 0) t ∙ getD-at Y w (v ∷ []) 0 (a - 2) n in
-    omega (arith, i)
-
-pub kind-stands : (S X : List ℕ) (a : ℕ) (t : Tree) → Small t → take a S ≡ X ++ records t → a ≤ length S → getD S (a - 2) 0 % 256 ≡ kind-of t
-unfolding Small
-kind-stands S X a (node k v f) s text within = root-kind S X a k v f text within (s .0)
-
-pub tree-long : {A : Type 0} {d : Res A} {k : Tree → List ℕ → List ℕ → Res A} {T : List ℕ} {pos least slack at w₀ : ℕ} {S Q : List ℕ} {p a w : ℕ} {S′ Q′ : List ℕ} → Wrote records d k T pos least slack at w₀ S Q p a w S′ Q′ → at ≤ length S → at + 2 ≤ a
-tree-long {at = at} {S = S} {a = a} {S′ = S′} g h =
-    let u = up-of S S′ (records (g .what)) at a (g .text) h in
-    let n = record-length (g .what) in
-    omega arith
-
 -- a pattern that is a name alone is of a token of this kind and value
 abbrev pub Names : ℕ → ℕ → Tree → Type 0
 Names k v t = kind-of t ≡ NodeKind.IdentifierPattern → (k ≡ Kind.Identifier) × (tree-value t ≡ v)

@@ -18,9 +18,9 @@ use Rattle.tree.specs.Node
 use Rattle.tree.specs.Store.{Emitted}
 use Rattle.grammar.specs.Reading.Number
 use Rattle.grammar.specs.Reading.Result.{Res, ok, fail, then, ifb}
-use Rattle.grammar.specs.Reading.Look.{look, expect}
-use Rattle.grammar.specs.Reading.Expr.{Level, inner-expr}
-use Rattle.grammar.specs.Reading.Primary.{atom, indexing-expr, table-field, table-item, table-items, table-literal, member-access, invocation, path, with-path, primary, unpack-expr}
+use Rattle.grammar.specs.Reading.Look.{look, expect, try-assign-keyword}
+use Rattle.grammar.specs.Reading.Expr.{Level, inner-expr, expr}
+use Rattle.grammar.specs.Reading.Primary.{with-action, group-expr, literal, atom, indexing-expr, table-field, table-item, table-items, table-literal, member-access, arguments, invocation, path, with-path, primary, unpack-expr}
 use Rattle.grammar.specs.Reading.Block.{block-expr, expr-label, if-expr}
 use Rattle.grammar.specs.Reading.Function.{function-decl-expr}
 use Rattle.grammar.specs.Reading.Level.{primary-expr}
@@ -40,19 +40,6 @@ grown S S′ X at a h i e =
     let n : length (take at S) ≡ at = length-take-le at S h in
     let m : length (take a S′) ≡ a = length-take-le a S′ i in
     let l : length (take a S′) ≡ length (take at S) + length X = ap length e ∙ length-append (take at S) X in
-    omega arith
-
--- a tree has two words at least
-two-at-least : (t : Tree) → 2 ≤ length (records t)
-unfolding records
-two-at-least (node k v f) =
-    let m : length (records (node k v f)) ≡ length (all-records f) + 2 = length-append (all-records f) ((k + 256 * count f) ∷ v ∷ []) in
-    omega arith
-
-pub tree-ends : {C : Type 0} {d : Res C} {k : Tree → List ℕ → List ℕ → Res C} {T : List ℕ} {pos least slack at w₀ : ℕ} {S Q : List ℕ} {p a w : ℕ} {S′ Q′ : List ℕ} (g : Wrote records d k T pos least slack at w₀ S Q p a w S′ Q′) → at ≤ length S → a ≤ length S′ → at + 2 ≤ a
-tree-ends {at = at} {S = S} {a = a} {S′ = S′} g h i =
-    let n = grown S S′ (records (g .what)) at a h i (g .text) in
-    let m = two-at-least (g .what) in
     omega arith
 
 -- a label's value
@@ -364,3 +351,48 @@ path-far none S S′ Z a r e g h i j =
     let l : length (take a S) ≡ length (take r S′) = ap length (e ∙ sym g) in
     omega arith
 path-far (more t f) S S′ Z a r e g h i j = omega arith
+
+-- ATOMS
+-- what looks first
+module _ (low : Level) (q ts : List ℕ) where
+  pub atom-looks : Looks q ts (atom low q ts)
+  unfolding atom
+  atom-looks = record { go = _; is = refl }
+
+  pub group-looks : Looks q ts (group-expr low q ts)
+  unfolding group-expr
+  group-looks = record { go = _; is = refl }
+
+  pub call-looks : Looks q ts (invocation low q ts)
+  unfolding invocation
+  call-looks = record { go = _; is = refl }
+
+  -- an index
+  pub index-step : indexing-expr low q ts ≡ then q (expr low q ts) (λ e q₁ r. then q₁ (expect Kind.CloseSquare Number.index-closing q₁ r) λ tok q₂ s. ok e s)
+  unfolding indexing-expr
+  index-step = refl
+
+module _ (low : Level) (q : List ℕ) {T : List ℕ} {pos k n v : ℕ} (at : Taken T pos k n v) where
+  pub atom-group : k ≡ Kind.OpenParen → atom low q (drop pos T) ≡ group-expr low q (drop (pos + 2) T)
+  unfolding atom then ifb
+  atom-group e = rw (at .same, eq-eqb _ _ e)
+
+  pub atom-literal : (k ≡ Kind.OpenParen → ⊥) → atom low q (drop pos T) ≡ literal (record { kind = k; newline = 0; value = v }) q (drop (pos + 2) T)
+  unfolding atom literal then ifb
+  atom-literal e = rw (at .same, ne-eqb _ _ e)
+
+  pub group-empty : k ≡ Kind.CloseParen → group-expr low q (drop pos T) ≡ ok Node.empty-tuple (drop (pos + 2) T)
+  unfolding group-expr then ifb
+  group-empty e = rw (at .same, eq-eqb _ _ e)
+
+  pub group-more : (k ≡ Kind.CloseParen → ⊥) → group-expr low q (drop pos T) ≡ then q (try-assign-keyword q (drop pos T)) (λ m q₂ r. then q₂ (expr low q₂ r) λ e q₃ s. then q₃ (expect Kind.CloseParen Number.group-closing q₃ s) λ tok₂ q₄ u. ok (Node.group m (with-action m e)) u)
+  unfolding group-expr then ifb
+  group-more e = rw (at .same, ne-eqb _ _ e)
+
+  pub call-empty : k ≡ Kind.CloseParen → invocation low q (drop pos T) ≡ ok (Node.invoke none) (drop (pos + 2) T)
+  unfolding invocation then ifb
+  call-empty e = rw (at .same, eq-eqb _ _ e)
+
+  pub call-more : (k ≡ Kind.CloseParen → ⊥) → invocation low q (drop pos T) ≡ then q (expr low q (drop pos T)) (λ e q₂ r. then q₂ (expect Kind.CloseParen Number.arguments-closing q₂ r) λ tok₂ q₃ s. ok (Node.invoke (arguments e)) s)
+  unfolding invocation then ifb
+  call-more e = rw (at .same, ne-eqb _ _ e)

@@ -100,7 +100,7 @@ pub told : {B : Type 0} {D : Res B} {d : List ℕ → Res ℕ} {T : List ℕ} {l
 told {T = T} {p = p} {q₁ = q₁} k x a = link (gets k (x .got) a) (way _ (ap (λ (n : ℕ). k n q₁ (drop p T)) (x .is)))
 
 -- a tree has words
-words-some : (t : Tree) → 2 ≤ length (records t)
+pub words-some : (t : Tree) → 2 ≤ length (records t)
 unfolding records
 words-some (node k v f) = rw length-append (omega arith)
 

@@ -1,5 +1,6 @@
 -- The parts of an access, which ends in an attribute or an index, and where they stand. Assumes nothing.
 use mathlib.Core.Path.{_≡_, refl, sym, ap, _∙_}
+use mathlib.Core.Bool.{false}
 use mathlib.Core.List.{List, _++_, append-assoc}
 use Prim.Native.Nat.{ℕ, suc, _+_, _*_, _-_, _/_, _%_, _≤_, _<_}
 use native.Mathlib.Omega.{arith}
@@ -11,9 +12,9 @@ use Rattle.tree.specs.Rows.{Row, end, on, rows, width, SmallRow, push, Trees, w
 use Rattle.tree.specs.Maybe.{Maybe, nothing, just}
 use Rattle.grammar.specs.Reading.Pattern.{pattern, receiver, by-item, by-path, conv}
 use Rattle.pattern.specs.Word
-use Rattle.pattern.specs.Contract.{Is}
+use Rattle.pattern.specs.Contract.{Is, has-members}
 use Rattle.pattern.proofs.Conv.{primary, not-path, no-path, some-path, attribute-is, Index, index-is, no-item, took, lost}
-use Rattle.pattern.proofs.Steps.{Ahead, Node, at-node, View, none-of, kid-small}
+use Rattle.pattern.proofs.Steps.{Ahead, Node, at-node, View, none-of, kid-small, no-member}
 
 -- a Primary: the receiver and the path
 pub record Receives (C S : List ℕ) (i : ℕ) (t : Tree) : Type 0 where
@@ -71,15 +72,18 @@ module _ {C S : List ℕ} {i : ℕ} {t : Tree} (p : Receives C S i t) where
       let o = rows-long (on end (p .atom)) in
       omega arith
 
-  pub not-path-step : (getD S (i - 4) 0 % 256 ≡ NodeKind.List → ⊥) → conv t pattern ≡ nothing
+  not-path-step : (getD S (i - 4) 0 % 256 ≡ NodeKind.List → ⊥) → conv t pattern ≡ nothing
   not-path-step z =
       let k = p .node-of in
       p .is ∙ ap (by-path (p .v) (p .atom)) (k .shape) ∙ not-path (p .v) (p .atom) (k .kind) (k .val) (k .kids) (k .less) (λ q. z (ap (λ (n : ℕ). n % 256) (k .word) ∙ q))
 
-  pub no-path-step : getD S (i - 4) 0 < 256 → conv t pattern ≡ nothing
+  no-path-step : getD S (i - 4) 0 < 256 → conv t pattern ≡ nothing
   no-path-step z =
       let k = p .node-of in
       p .is ∙ ap (by-path (p .v) (p .atom)) (k .shape) ∙ no-path (p .v) (p .atom) (k .kind) (k .val) (k .kids) (omega arith)
+
+  pub path-none : has-members (getD S (i - 4) 0) ≡ false → conv t pattern ≡ nothing
+  path-none z = no-member _ z not-path-step no-path-step
 
 module _ {C S : List ℕ} {i : ℕ} {t : Tree} (h : i ≤ length S) (p : Receives C S i t) where
   pub shape-of : getD S (i - 4) 0 % 256 ≡ NodeKind.List → 256 ≤ getD S (i - 4) 0 → Shape C S i t

@@ -1,11 +1,12 @@
 -- The store after records were put and moved, one after the other. Assumes nothing.
 use mathlib.Core.Path.{_≡_, refl, sym, ap, _∙_}
-use mathlib.Core.List.{List, _∷_, _++_, append-assoc, append-nil}
+use mathlib.Core.Bool.{Bool, true, false}
+use mathlib.Core.List.{List, [], _∷_, _++_, append-assoc, append-nil}
 use Prim.Native.Nat.{ℕ, _+_, _*_, _-_, _%_, _≤_}
 use native.Mathlib.Omega.{arith}
 use native.Mathlib.Nat.{le-trans}
-use borrow.Author.Tests.{eqb-true, eqb-false, ltb-true, ltb-false}
-use lib.Dec.{eqb, ltb}
+use borrow.Author.Tests.{eqb-true, eqb-false}
+use lib.Dec.{eqb}
 use lib.ListN.{length, take, drop, getD, length-append, length-drop}
 use lib.Seq.{take-take, take-at, drop-at, take-add, length-take-le}
 use Rattle.tree.specs.NodeKind
@@ -14,10 +15,10 @@ use Rattle.tree.specs.Rows.{end, on, rows, push, Starts, rows-push}
 use Rattle.tree.specs.Maybe.{Maybe, nothing, just}
 use Rattle.grammar.specs.Reading.Pattern.{pattern, receiver, conv, to-pattern}
 use Rattle.pattern.specs.Word
-use Rattle.pattern.specs.Contract.{Is, Put, Right, Left, Fit, Stands, Access, Placed}
+use Rattle.pattern.specs.Contract.{Is, Put, Right, Left, Fit, Stands, Access, Placed, Over, over-as, over-words, has-members}
 use Rattle.pattern.proofs.Conv.{by-test, wordsM}
-use Rattle.pattern.proofs.Steps.{Ahead, View, all-read, no-pattern, tuple-not-list, tuple-empty}
-use Rattle.pattern.proofs.Access.{top-text, top-pat, off-top, Receives, prim, Shape, shape-of, not-path-step, no-path-step, no-item-step, attribute-pat, attribute-text, index-of, index-pat, index-text}
+use Rattle.pattern.proofs.Steps.{Ahead, View, all-read, no-pattern, some-members, unpack-room, unpack-absent, unpack-other, tuple-room, tuple-step, tuple-none}
+use Rattle.pattern.proofs.Access.{top-text, top-pat, off-top, Receives, prim, Shape, shape-of, path-none, no-item-step, attribute-pat, attribute-text, index-of, index-pat, index-text}
 
 -- a part of a list, told from its front and from its end
 drop-take : (S : List ℕ) (w to : ℕ) → w ≤ to → to ≤ length S → drop w (take to S) ≡ take (to - w) (drop w S)
@@ -50,11 +51,9 @@ just-not m a b = let z : _≡_ {A = ℕ} 0 1 = cc in omega arith
 -- an access that is a pattern has a path, and an attribute or an index last
 shape-from : {C S : List ℕ} {i : ℕ} {t : Tree} {p : Tree} → i ≤ length S → Receives C S i t → conv t pattern ≡ just p → Shape C S i t
 shape-from {S = S} {i = i} {t = t} h q e =
-    by-test (eqb (getD S (i - 4) 0 % 256) NodeKind.List)
-    (λ z. by-test (ltb (getD S (i - 4) 0) 256)
-    (λ y. absurd (just-not (conv t pattern) e (no-path-step q (ltb-true _ _ y))))
-    (λ y. shape-of h q (eqb-true _ _ z) (ltb-false _ _ y)))
-    (λ z. absurd (just-not (conv t pattern) e (not-path-step q (eqb-false _ _ z))))
+    by-test (has-members (getD S (i - 4) 0))
+    (λ z. let l = some-members _ z in shape-of h q (l .0) (l .1))
+    (λ z. absurd (just-not (conv t pattern) e (path-none q z)))
 
 module _ {B : List ℕ} {p : Tree} {S : List ℕ} {i w : ℕ} (a : Access B p S i w) where
   pub reach : i ≤ length S
@@ -160,16 +159,6 @@ pub go-put : {m : Maybe Tree} {B S S′ Y : List ℕ} (Z : List ℕ) {word value
 go-put {Y = Y} Z {word = word} {value = value} n w a d p h e =
     record { ahead = word ∷ value ∷ Y; left = rw (before-put p n h) a; done = put-then p w e ∙ ap (λ (l : List ℕ). word ∷ value ∷ l) d }
 
-pub go-puts : {m : Maybe Tree} {B S S₁ S₂ Y : List ℕ} (Z : List ℕ) {a b c d at₁ at₂ : ℕ} (n n′ w : ℕ) → Ahead m B (take n S) (a ∷ b ∷ c ∷ d ∷ Y) → drop w S ≡ Y ++ Z → Put at₁ c d S S₁ → Put at₂ a b S₁ S₂
-    → n′ ≡ n → n ≤ at₂ → at₂ + 2 ≡ at₁ → at₁ + 2 ≡ w → Going m B Z S₂ n′ at₂
-go-puts {Y = Y} Z {a = a} {b = b} {c = c} {d = d} {at₁ = at₁} n n′ w x y p q s h e f =
-    let l : n ≤ at₁ = omega arith in
-    record {
-      ahead = a ∷ b ∷ c ∷ d ∷ Y;
-      left = rw (s, before-put q n h, before-put p n l) x;
-      done = put-then q at₁ e ∙ ap (λ (l : List ℕ). a ∷ b ∷ l) (put-then p w f ∙ ap (λ (l : List ℕ). c ∷ d ∷ l) y);
-    }
-
 pub go-access : {m : Maybe Tree} {B S S′ Y : List ℕ} (Z : List ℕ) {i w r : ℕ} {p : Tree} → (x : View m B S i Y) → conv (x .tree) pattern ≡ just p → drop w S ≡ Y ++ Z → Placed (B ++ rows (x .under)) p S i w r S′ → Going m B Z S′ r (r + (w - i))
 go-access {S′ = S′} {Y = Y} Z {r = r} {p = p} x e d q =
     record {
@@ -182,21 +171,66 @@ abbrev pub an-access : {m : Maybe Tree} {B S Y : List ℕ} {i w : ℕ} {p : Tree
 an-access x e k a b = record { tree = x .tree; small = x .small; text = top-text x; same = e; kind = k; before = a; within = b }
 
 -- what is no identifier, group, unpack or access and yet a pattern is a tuple
-pub record Members (S : List ℕ) (i : ℕ) : Type 0 where
-  pub tuple : getD S (i - 2) 0 ≡ Word.Tuple
-  pub list : getD S (i - 4) 0 % 256 ≡ NodeKind.List
-  pub some : 256 ≤ getD S (i - 4) 0
+record Members (S : List ℕ) (i : ℕ) : Type 0 where
+  tuple : getD S (i - 2) 0 ≡ Word.Tuple
+  list : getD S (i - 4) 0 % 256 ≡ NodeKind.List
+  some : 256 ≤ getD S (i - 4) 0
 
-pub sure-tuple : {m : Maybe Tree} {B S Y : List ℕ} {i : ℕ} {p : Tree} → i ≤ length S → View m B S i Y → m ≡ just p
+sure-tuple : {m : Maybe Tree} {B S Y : List ℕ} {i : ℕ} {p : Tree} → i ≤ length S → View m B S i Y → m ≡ just p
     → (getD S (i - 2) 0 ≡ Word.Identifier → ⊥) → (getD S (i - 2) 0 ≡ Word.Group → ⊥) → (getD S (i - 2) 0 ≡ Word.Unpack → ⊥) → (getD S (i - 2) 0 ≡ Word.Primary → ⊥) → Members S i
 sure-tuple {m = m} {S = S} {i = i} h x e a b c d =
     by-test (eqb (getD S (i - 2) 0) Word.Tuple)
-    (λ z. by-test (eqb (getD S (i - 4) 0 % 256) NodeKind.List)
-    (λ y. by-test (ltb (getD S (i - 4) 0) 256)
-    (λ q. absurd (just-not m e (tuple-empty h x (eqb-true _ _ z) (ltb-true _ _ q))))
-    (λ q. record { tuple = eqb-true _ _ z; list = eqb-true _ _ y; some = ltb-false _ _ q }))
-    (λ y. absurd (just-not m e (tuple-not-list h x (eqb-true _ _ z) (eqb-false _ _ y)))))
+    (λ z. by-test (has-members (getD S (i - 4) 0))
+    (λ y. let l = some-members _ y in record { tuple = eqb-true _ _ z; list = l .0; some = l .1 })
+    (λ y. absurd (just-not m e (tuple-none h x (eqb-true _ _ z) y))))
     (λ z. absurd (just-not m e (no-pattern x a b c (eqb-false _ _ z) d)))
+
+-- what an unpack or a tuple becomes is a record or two
+over-size : (a b : Bool) (x v : ℕ) → (2 ≤ length (over-as a b x v)) × (length (over-as a b x v) ≤ 4)
+over-size true true x v = (omega arith, omega arith)
+over-size true false x v = (omega arith, omega arith)
+over-size false b x v = (omega arith, omega arith)
+
+-- an unpack or a tuple: what stands before i once its record is passed, and what it has become
+pub record Above (m : Maybe Tree) (B S : List ℕ) (i : ℕ) (Y : List ℕ) : Type 0 where
+  pub room : 4 ≤ i
+  pub many : (2 ≤ length (over-words S i)) × (length (over-words S i) ≤ 4)
+  pub next : Ahead m B (take (i - length (over-words S i)) S) (over-words S i ++ Y)
+
+pub sure-above : {m : Maybe Tree} {B S Y : List ℕ} {i : ℕ} {p : Tree} → i ≤ length S → View m B S i Y → m ≡ just p
+    → (getD S (i - 2) 0 ≡ Word.Identifier → ⊥) → (getD S (i - 2) 0 ≡ Word.Group → ⊥) → (getD S (i - 2) 0 ≡ Word.Primary → ⊥) → Above m B S i Y
+sure-above {S = S} {i = i} h x e a b c =
+    let size = over-size (eqb (getD S (i - 2) 0) Word.Unpack) (eqb (getD S (i - 4) 0) Word.Absent) (getD S (i - 4) 0) (getD S (i - 3) 0) in
+    by-test (eqb (getD S (i - 2) 0) Word.Unpack)
+    (λ z. let u = eqb-true _ _ z in
+    let r : 4 ≤ i = omega (arith, unpack-room h x u) in
+    by-test (eqb (getD S (i - 4) 0) Word.Absent)
+    (λ y. record { room = r; many = size; next = rw (z, y) (unpack-absent h x u (eqb-true _ _ y)) })
+    (λ y. record { room = r; many = size; next = rw (z, y) (unpack-other h x u (eqb-false _ _ y)) }))
+    (λ z. let t = sure-tuple h x e a b (eqb-false _ _ z) c in
+    record { room = omega (arith, tuple-room h x (t .tuple)); many = size; next = rw z (tuple-step h x (t .tuple) (t .list) (t .some)) })
+
+pub go-over : {m : Maybe Tree} {B S S′ Y : List ℕ} (Z : List ℕ) {i w r : ℕ} → Above m B S i Y → drop w S ≡ Y ++ Z → i ≤ w → Over (over-words S i) w S r S′ → Going m B Z S′ (i - r) (w - r)
+go-over {S = S} {S′ = S′} {Y = Y} Z {i = i} {w = w} {r = r} a d h o =
+    let X = over-words S i in
+    let e : take (i - r) S′ ≡ take (i - length X) S = keep (i - r) (w - r) S S′ (omega arith) (o .head) ∙ ap (λ (n : ℕ). take (i - n) S) (o .many) in
+    record {
+      ahead = X ++ Y;
+      left = rw e (a .next);
+      done = o .tail ∙ ap (λ (l : List ℕ). X ++ l) d ∙ sym (append-assoc X Y Z);
+    }
+
+-- the words that `place_over` has put
+pub over-one : {S S₁ X : List ℕ} {w c : ℕ} → 2 ≤ w → Put (w - 2) c 0 S S₁ → X ≡ c ∷ 0 ∷ [] → Over X w S 2 S₁
+over-one {S = S} {w = w} h p e = record { many = ap length (sym e); head = p .head; tail = put-then p w (omega arith) ∙ ap (λ (l : List ℕ). l ++ drop w S) (sym e) }
+
+pub over-two : {S S₁ S₂ X : List ℕ} {w a b c : ℕ} → 4 ≤ w → Put (w - 2) c 0 S S₁ → Put (w - 4) a b S₁ S₂ → X ≡ a ∷ b ∷ c ∷ 0 ∷ [] → Over X w S 4 S₂
+over-two {S = S} {w = w} {a = a} {b = b} h p q e =
+    record {
+      many = ap length (sym e);
+      head = q .head ∙ before-put p (w - 4) (omega arith);
+      tail = put-then q (w - 2) (omega arith) ∙ ap (λ (l : List ℕ). a ∷ b ∷ l) (put-then p w (omega arith)) ∙ ap (λ (l : List ℕ). l ++ drop w S) (sym e);
+    }
 
 pub sure-pat : {m : Maybe Tree} {B S Y : List ℕ} {i : ℕ} {p : Tree} → (x : View m B S i Y) → m ≡ just p → Is (conv (x .tree) pattern)
 sure-pat {m = m} x e = top-pat x (just-not m e)

@@ -1,8 +1,11 @@
 -- One turn of a scan, from the right, over the records of trees that are all to be patterns. Assumes nothing.
 use mathlib.Core.Path.{_≡_, refl, sym, ap, _∙_}
+use mathlib.Core.Bool.{true, false}
 use mathlib.Core.List.{List, [], _∷_, _++_, append-nil}
 use Prim.Native.Nat.{ℕ, suc, _+_, _*_, _-_, _%_, _≤_, _<_}
 use native.Mathlib.Omega.{arith}
+use borrow.Author.Tests.{eqb-true, eqb-false, leb-true, leb-false}
+use lib.Dec.{eqb}
 use lib.ListN.{length, take, getD, length-take, length-append}
 use lib.Seq.{length-take-le}
 use Rattle.tree.specs.NodeKind
@@ -12,8 +15,8 @@ use Rattle.tree.specs.Rows.{Row, end, on, rows, width, SmallRow, push, rows-pus
 use Rattle.tree.specs.Maybe.{Maybe, nothing, just, bindM, both}
 use Rattle.grammar.specs.Reading.Pattern.{pattern, maybe, members, over, modified, grouped, listed, conv, all-conv, to-pattern}
 use Rattle.pattern.specs.Word
-use Rattle.pattern.specs.Contract.{Is, Whole}
-use Rattle.pattern.proofs.Conv.{ident, Over, group, unpack, absent, present, tuple, list-is, not-list, no-members, other, convR, wordsR, wordsM, took, lost, same-as, wrapped, tupled}
+use Rattle.pattern.specs.Contract.{Is, Whole, has-members}
+use Rattle.pattern.proofs.Conv.{by-test, ident, Over, group, unpack, absent, present, tuple, list-is, not-list, no-members, other, convR, wordsR, wordsM, took, lost, same-as, wrapped, tupled}
 
 -- the words T are B and trees that are to be patterns, Y is what follows them, and all of that is the pattern m
 pub record Ahead (m : Maybe Tree) (B T Y : List ℕ) : Type 0 where
@@ -195,6 +198,15 @@ module _ {m : Maybe Tree} {B S : List ℕ} {i : ℕ} {Y : List ℕ} (x : View m 
   no-tuple : (e : getD S (i - 2) 0 ≡ Word.Tuple) → conv (tuple-of e .kid) members ≡ nothing → m ≡ nothing
   no-tuple e z = failed x (tuple-of e .is ∙ ap (λ (t : Maybe Tree). bindM t (λ p. just (node NodeKind.TuplePattern 0 (one p)))) z)
 
+-- what the test of a list's first word tells
+pub some-members : (n : ℕ) → has-members n ≡ true → (n % 256 ≡ NodeKind.List) × (256 ≤ n)
+some-members n e =
+    by-test (eqb (n % 256) NodeKind.List) (λ z. (eqb-true _ _ z, leb-true _ _ (rw z at e)))
+    (λ z. absurd (let y = rw z at e in let q : _≡_ {A = ℕ} 0 1 = cc in omega arith))
+
+pub no-member : {P : Type 0} (n : ℕ) → has-members n ≡ false → ((n % 256 ≡ NodeKind.List → ⊥) → P) → (n < 256 → P) → P
+no-member n e f g = by-test (eqb (n % 256) NodeKind.List) (λ z. g (leb-false _ _ (rw z at e))) (λ z. f (eqb-false _ _ z))
+
 -- the steps that read the record of the top's only child too
 module _ {m : Maybe Tree} {B S : List ℕ} {i : ℕ} {Y : List ℕ} (h : i ≤ length S) (x : View m B S i Y) where
   kid-node : (u : Tree) → x .here .kids ≡ one u → Node B S (i - 2) (i - 4) (i - 3) (x .under) u
@@ -253,12 +265,15 @@ module _ {m : Maybe Tree} {B S : List ℕ} {i : ℕ} {Y : List ℕ} (h : i ≤ l
         same = same-here x ∙ tupled (x .under) (node (n .kind) (n .val) (n .kids)) (k .val) (k .kids) Y c (omega arith) ∙ rw (y, k .value);
       }
 
-  pub tuple-not-list : getD S (i - 2) 0 ≡ Word.Tuple → (getD S (i - 4) 0 % 256 ≡ NodeKind.List → ⊥) → m ≡ nothing
+  tuple-not-list : getD S (i - 2) 0 ≡ Word.Tuple → (getD S (i - 4) 0 % 256 ≡ NodeKind.List → ⊥) → m ≡ nothing
   tuple-not-list e z =
       let k = kid-node (tuple-of x e .kid) (tuple-of x e .only) in
       no-tuple x e (ap (λ (t : Tree). conv t members) (k .shape) ∙ not-list (k .kind) (k .val) (k .kids) (k .less) (λ q. z (ap (λ (n : ℕ). n % 256) (k .word) ∙ q)))
 
-  pub tuple-empty : getD S (i - 2) 0 ≡ Word.Tuple → getD S (i - 4) 0 < 256 → m ≡ nothing
+  tuple-empty : getD S (i - 2) 0 ≡ Word.Tuple → getD S (i - 4) 0 < 256 → m ≡ nothing
   tuple-empty e z =
       let k = kid-node (tuple-of x e .kid) (tuple-of x e .only) in
       no-tuple x e (ap (λ (t : Tree). conv t members) (k .shape) ∙ no-members (k .kind) (k .val) (k .kids) (omega arith))
+
+  pub tuple-none : getD S (i - 2) 0 ≡ Word.Tuple → has-members (getD S (i - 4) 0) ≡ false → m ≡ nothing
+  tuple-none e z = no-member _ z (tuple-not-list e) (tuple-empty e)

@@ -1,9 +1,11 @@
 -- What the functions on patterns ask of the store, and say of it, as it was (S) and as it is (S′). Assumes nothing.
 use mathlib.Core.Path.{_≡_}
-use mathlib.Core.Bool.{Bool, true, false}
-use mathlib.Core.List.{List, _∷_, _++_}
-use Prim.Native.Nat.{ℕ, _+_, _-_, _≤_}
+use mathlib.Core.Bool.{Bool, true, false, _&&_}
+use mathlib.Core.List.{List, [], _∷_, _++_}
+use Prim.Native.Nat.{ℕ, _+_, _-_, _%_, _≤_}
+use lib.Dec.{eqb, leb}
 use lib.ListN.{length, take, drop, getD}
+use Rattle.tree.specs.NodeKind
 use Rattle.tree.specs.Tree.{Tree, records}
 use Rattle.tree.specs.Records.{Small}
 use Rattle.tree.specs.Rows.{Trees}
@@ -56,6 +58,10 @@ SettledAs m false = m ≡ nothing
 pub record Settled (m : Maybe Tree) (r : Bool) : Type 0 where
   pub how : SettledAs m r
 
+-- a first word is that of a list with members
+abbrev pub has-members : ℕ → Bool
+has-members word = eqb (word % 256) NodeKind.List && leb 256 word
+
 -- after B and up to i stands an access that is the pattern p, and the place for the pattern ends at w
 pub record Access (B : List ℕ) (p : Tree) (S : List ℕ) (i w : ℕ) : Type 0 where
   pub tree : Tree
@@ -77,6 +83,21 @@ pub record Placed (B : List ℕ) (p : Tree) (S : List ℕ) (i w r : ℕ) (S′ :
   pub on : r ≤ i
   pub head : take r S′ ≡ B
   pub tail : drop (r + (w - i)) S′ ≡ records p ++ drop w S
+
+-- what the record of an unpack or a tuple becomes, and with it that of its only child, whose first word is inner, where it is absent or a list
+abbrev pub over-as : Bool → Bool → ℕ → ℕ → List ℕ
+over-as true true inner value = Word.Absent ∷ value ∷ Word.Pack ∷ 0 ∷ []
+over-as true false inner value = Word.Pack ∷ 0 ∷ []
+over-as false _ inner value = inner ∷ value ∷ Word.TuplePattern ∷ 0 ∷ []
+
+abbrev pub over-words : List ℕ → ℕ → List ℕ
+over-words S i = over-as (eqb (getD S (i - 2) 0) Word.Unpack) (eqb (getD S (i - 4) 0) Word.Absent) (getD S (i - 4) 0) (getD S (i - 3) 0)
+
+-- the words X, r of them, end at w, and what stood before them stands as it was
+pub record Over (X : List ℕ) (w : ℕ) (S : List ℕ) (r : ℕ) (S′ : List ℕ) : Type 0 where
+  pub many : r ≡ length X
+  pub head : take (w - r) S′ ≡ take (w - r) S
+  pub tail : drop (w - r) S′ ≡ X ++ drop w S
 
 -- the tree t, which is the pattern p, stands from «from» to «to»
 pub record Fit (t p : Tree) (S : List ℕ) (from to : ℕ) : Type 0 where

@@ -1,13 +1,14 @@
 // The records of an expression, in a store, become the records of the pattern that it is, in place.
 // Records stand in post-order, so from the right they are read root first, then the last child:
 // what stands from `from` up to one index is a row of trees that are all still to be patterns, and no depth is kept.
+ghost use mathlib.Core.Path.{_≡_};
 ghost use mathlib.Core.List.{List};
 ghost use Prim.Native.Nat.{ℕ, _+_, _≤_};
 ghost use lib.ListN.{length, take};
 ghost use Rattle.tree.specs.Tree.{Tree};
 ghost use Rattle.tree.specs.Rows.{Trees, Starts};
 ghost use Rattle.grammar.specs.Reading.Pattern.{to-pattern};
-ghost use Rattle.pattern.specs.Contract.{Put, Right, Left, Ended, Whole, A-tree, Settled, Access, An-access, Placed, Fit, A-fit, Stands, Answers};
+ghost use Rattle.pattern.specs.Contract.{Put, Right, Left, Ended, Whole, A-tree, Settled, Access, An-access, Placed, Fit, A-fit, Stands, Answers, Over, over-words, has-members as has-members-def};
 
 // What each child adds to the first word of a record: that word is the kind + 256 × the count of the children.
 const CHILD: u64 = 256;
@@ -99,6 +100,16 @@ fn skip(store: &[u64], to: usize, n: usize) -> usize
     i
 }
 
+// Whether a first word is that of a list with members.
+fn has_members(word: u64) -> bool
+    ensures { λ r. ⌜ r ≡ has-members-def word ⌝ }
+{
+    if word % CHILD != LIST {
+        return false;
+    }
+    CHILD <= word
+}
+
 // Whether the expression from `from` to `to` is a pattern. The store is only read, so that a refusal leaves it as it was.
 fn settles(store: &[u64], from: usize, to: usize) -> bool
     requires { ⌜ A-tree (now store) from to ⌝ }
@@ -117,21 +128,14 @@ fn settles(store: &[u64], from: usize, to: usize) -> bool
                 }
             }
             TUPLE => {
-                let list = store[i - 4];
-                if list % CHILD != LIST {
-                    return false;
-                }
-                if list < CHILD {
+                if !has_members(store[i - 4]) {
                     return false;
                 }
                 i -= 4;
             }
             PRIMARY => {
                 let list = store[i - 4];
-                if list % CHILD != LIST {
-                    return false;
-                }
-                if list < CHILD {
+                if !has_members(list) {
                     return false;
                 }
                 let n = (list / CHILD) as usize;
@@ -182,6 +186,28 @@ fn place_access(store: &mut [u64], i: usize, w: usize) -> usize
     }
 }
 
+// Writes what the record of an unpack or a tuple, which ends at `i`, becomes, up to `w`, and says how many words these are. What such a record
+// has as its only child is a record of the pattern too where it is absent or a list.
+fn place_over(store: &mut [u64], i: usize, w: usize) -> usize
+    requires { ⌜ (4 ≤ i) × (i ≤ w) × (w ≤ length (now store)) ⌝ }
+    ensures { λ r. ⌜ Over (over-words (now (store .entry)) i) w (now (store .entry)) r (now (store .exit)) ⌝ }
+{
+    let word = store[i - 2];
+    let inner = store[i - 4];
+    let value = store[i - 3];
+    if word != UNPACK {
+        put(store, w - 2, TUPLE_PATTERN, 0);
+        put(store, w - 4, inner, value);
+        return 4;
+    }
+    put(store, w - 2, PACK, 0);
+    if inner == ABSENT {
+        put(store, w - 4, ABSENT, value);
+        return 4;
+    }
+    2
+}
+
 // Turns the expression from `from` to `to`, which is a pattern, into the pattern, and says where that ends. It cannot fail.
 // The pattern has no more records than the expression: they are written from the right, up to `to`, and then moved left to `from`.
 fn place(store: &mut [u64], from: usize, to: usize) -> usize
@@ -206,31 +232,16 @@ fn place(store: &mut [u64], from: usize, to: usize) -> usize
                     put(store, w, MODIFIER, value - 1);
                 }
             }
-            UNPACK => {
-                let inner = store[i - 4];
-                let absent = store[i - 3];
-                w -= 2;
-                i -= 2;
-                put(store, w, PACK, 0);
-                if inner == ABSENT {
-                    w -= 2;
-                    i -= 2;
-                    put(store, w, ABSENT, absent);
-                }
-            }
             PRIMARY => {
                 let start = place_access(store, i, w);
                 w = start + (w - i);
                 i = start;
             }
-            // what is a pattern and none of these is a tuple
+            // what is a pattern and none of these is an unpack or a tuple
             _ => {
-                let list = store[i - 4];
-                let other = store[i - 3];
-                w -= 4;
-                i -= 4;
-                put(store, w + 2, TUPLE_PATTERN, 0);
-                put(store, w, list, other);
+                let n = place_over(store, i, w);
+                w -= n;
+                i -= n;
             }
         }
     }

@@ -10,8 +10,8 @@ use Rattle.tree.specs.Tree.{Tree}
 use Rattle.tree.specs.Rows.{rows}
 use Rattle.grammar.specs.Reading.Pattern.{to-pattern, conv, pattern}
 use Rattle.pattern.specs.Contract.{Is, Fit, Access}
-use Rattle.pattern.proofs.Steps.{View, view, shorter, whole-ahead, ident-step, group-bare, group-modified, unpack-room, unpack-absent, unpack-other, tuple-room, tuple-step}
-use Rattle.pattern.proofs.Places.{Going, go-same, go-put, go-puts, go-access, an-access, Members, sure-tuple, sure-pat, not-below, all-placed}
+use Rattle.pattern.proofs.Steps.{View, view, shorter, whole-ahead, ident-step, group-bare, group-modified}
+use Rattle.pattern.proofs.Places.{Going, go-same, go-put, go-access, an-access, Above, sure-above, go-over, sure-pat, not-below, all-placed}
 use Rattle.pattern.proofs.place.Statement.{statement}
 use Rattle.pattern.proofs.place.Tie as tie
 
@@ -73,14 +73,8 @@ module _ (c : tie.In-loop Inv-loop μ-loop) where
   room : 2 ≤ i at
   room = omega (arith, seen (held at) .here .room)
 
--- what an unpack has stands before it
-pack-room : (c : tie.At-match-keys3 Inv-loop μ-loop) → 4 ≤ i (at (c .before .before .before))
-pack-room c =
-    let e = c .before .before .before in
-    omega (arith, unpack-room (reach (at e)) (seen e (held (at e))) (c .match .keys3))
-
 -- an access, and the pattern that it is
-module _ (c : tie.At-match-keys4 Inv-loop μ-loop) where
+module _ (c : tie.At-match-keys3 Inv-loop μ-loop) where
   abbrev turn : tie.In-loop Inv-loop μ-loop
   turn = c .before .before .before
 
@@ -88,20 +82,17 @@ module _ (c : tie.At-match-keys4 Inv-loop μ-loop) where
   is g = sure-pat (seen turn g) (g .same)
 
   abbrev access : {t p : Tree} (g : Holds (at turn) t p) → Access (take (from (at turn)) (S₀ (at turn)) ++ rows (seen turn g .under)) (is g .what) (S (at turn)) (i (at turn)) (w (at turn))
-  access g = an-access (seen turn g) (is g .same) (c .match .keys4) (behind (at turn)) (within (at turn))
+  access g = an-access (seen turn g) (is g .same) (c .match .keys3) (behind (at turn)) (within (at turn))
 
--- what is a pattern and none of the others is a tuple with members
+-- what is a pattern and none of the others is an unpack or a tuple
 module _ (c : tie.At-match-rest Inv-loop μ-loop) where
-  members : Members (S (at (c .before .before .before))) (i (at (c .before .before .before)))
-  members =
-      let e = c .before .before .before in
-      let n = c .match .rest in
-      sure-tuple (reach (at e)) (seen e (held (at e))) (held (at e) .same) (n .0 .0 .0 .1) (n .0 .0 .1) (n .0 .1) (n .1)
+  abbrev other : tie.In-loop Inv-loop μ-loop
+  other = c .before .before .before
 
-  member-room : 4 ≤ i (at (c .before .before .before))
-  member-room =
-      let e = c .before .before .before in
-      omega (arith, tuple-room (reach (at e)) (seen e (held (at e))) (members .tuple))
+  abbrev above : {t p : Tree} (g : Holds (at other) t p) → Above (to-pattern t) (take (from (at other)) (S₀ (at other))) (S (at other)) (i (at other)) (going (at other) g .ahead)
+  above g =
+      let n = c .match .rest in
+      sure-above (reach (at other)) (seen other g) (g .same) (n .0 .0 .1) (n .0 .1) (n .1)
 
 loop-holds : tie.Need-loop-holds Inv-loop μ-loop
 loop-holds c = (omega arith, omega arith, refl, λ t p g. record { ahead = []; left = whole-ahead (g .whole); done = refl })
@@ -190,96 +181,26 @@ loop-again-3 c =
           go-same _ (group-bare (seen e g) (c .before .match .keys2) (c .if1 .left)) (going (at e) g .done),
     )
 
-sub-inner : tie.Need-sub-inner Inv-loop μ-loop
-sub-inner c = pack-room c
-
-mul-inner : tie.Need-mul-inner Inv-loop μ-loop
-mul-inner c = omega arith
-
-slice-read-inner : tie.Need-slice-read-inner Inv-loop μ-loop
-slice-read-inner c = omega arith
-
-sub-absent : tie.Need-sub-absent Inv-loop μ-loop
-sub-absent c = omega (arith, pack-room (c .before))
-
-mul-absent : tie.Need-mul-absent Inv-loop μ-loop
-mul-absent c = omega arith
-
-slice-read-absent : tie.Need-slice-read-absent Inv-loop μ-loop
-slice-read-absent c = omega arith
-
-sub-w-3 : tie.Need-sub-w-3 Inv-loop μ-loop
-sub-w-3 c = let e = c .before .before .before .before .before in le-trans (room e) (behind (at e))
-
-sub-i-3 : tie.Need-sub-i-3 Inv-loop μ-loop
-sub-i-3 c = room (c .before .before .before .before .before)
-
-put-requires-3 : tie.Need-put-requires-3 Inv-loop μ-loop
-put-requires-3 c κs = omega (arith, room (c .before .before .before .before .before .before))
-
-sub-w-4 : tie.Need-sub-w-4 Inv-loop μ-loop
-sub-w-4 c = omega (arith, pack-room (c .before .before .before .before .before .before .before))
-
-sub-i-4 : tie.Need-sub-i-4 Inv-loop μ-loop
-sub-i-4 c = omega (arith, pack-room (c .before .before .before .before .before .before .before))
-
-put-requires-4 : tie.Need-put-requires-4 Inv-loop μ-loop
-put-requires-4 c κs = omega (arith, pack-room (c .before .before .before .before .before .before .before .before))
-
-loop-less-4 : tie.Need-loop-less-4 Inv-loop μ-loop
-loop-less-4 c = omega arith
-
-loop-again-4 : tie.Need-loop-again-4 Inv-loop μ-loop
-loop-again-4 c =
-    let f = c .before .before .before .before in
-    let k = f .before .before .before .before .before .before .before in
-    let e = k .before .before .before in
-    let r = pack-room k in
-    let p = f .before .before .before .put3 in
-    let q = c .before .before .put4 in (
-      omega arith,
-      omega arith,
-      q .kept .0 ∙ p .kept .0 ∙ kept (at e),
-      λ t u g.
-          go-puts _ (i (at e) - 4) _ (w (at e)) (unpack-absent (reach (at e)) (seen e g) (k .match .keys3) (f .if2 .taken)) (going (at e) g .done) (p .ensures) (q .ensures) (omega arith) (omega arith) (omega arith) (omega arith),
-    )
-
-loop-less-5 : tie.Need-loop-less-5 Inv-loop μ-loop
-loop-less-5 c = omega arith
-
-loop-again-5 : tie.Need-loop-again-5 Inv-loop μ-loop
-loop-again-5 c =
-    let k = c .before .before .before .before .before .before .before in
-    let e = k .before .before .before in
-    let r = room e in
-    let p = c .before .before .before .put3 in (
-      omega arith,
-      omega arith,
-      p .kept .0 ∙ kept (at e),
-      λ t u g.
-          go-put _ (i (at e) - 2) (w (at e)) (unpack-other (reach (at e)) (seen e g) (k .match .keys3) (c .if2 .left)) (going (at e) g .done) (p .ensures) (omega arith) (omega arith),
-    )
-
 place-access-requires : tie.Need-place-access-requires Inv-loop μ-loop
 place-access-requires c κs = record { base = _; pat = _; it = access (c .before) (held (at (turn (c .before)))) }
 
-sub-w-5 : tie.Need-sub-w-5 Inv-loop μ-loop
-sub-w-5 c = behind (at (turn (c .before .before .before .before)))
+sub-w-3 : tie.Need-sub-w-3 Inv-loop μ-loop
+sub-w-3 c = behind (at (turn (c .before .before .before .before)))
 
 add-w : tie.Need-add-w Inv-loop μ-loop
 add-w c =
     let k = c .before .before .before .before in
     omega (arith, c .before .before .place-access .ensures _ _ (access k (held (at (turn k)))) .on)
 
-loop-less-6 : tie.Need-loop-less-6 Inv-loop μ-loop
-loop-less-6 c =
+loop-less-4 : tie.Need-loop-less-4 Inv-loop μ-loop
+loop-less-4 c =
     let k = c .before .before .before .before in
     let l = at (turn k) in
     let g = held l in
     omega (arith, c .before .before .place-access .ensures _ _ (access k g) .at, seen (turn k) g .here .room, length-append (take (from l) (S₀ l)) (rows (seen (turn k) g .under)))
 
-loop-again-6 : tie.Need-loop-again-6 Inv-loop μ-loop
-loop-again-6 c =
+loop-again-4 : tie.Need-loop-again-4 Inv-loop μ-loop
+loop-again-4 c =
     let k = c .before .before .before .before in
     let l = at (turn k) in
     let a = c .before .before .place-access in
@@ -291,55 +212,41 @@ loop-again-6 c =
           go-access _ (seen (turn k) g) (is k g .same) (going l g .done) (a .ensures _ _ (access k g)),
     )
 
-sub-list : tie.Need-sub-list Inv-loop μ-loop
-sub-list c = member-room c
+place-over-requires : tie.Need-place-over-requires Inv-loop μ-loop
+place-over-requires c κs =
+    let l = at (other (c .before)) in
+    (above (c .before) (held l) .room, behind l, within l)
 
-mul-list : tie.Need-mul-list Inv-loop μ-loop
-mul-list c = omega arith
+-- how many words are passed
+module _ (c : tie.After-slice-known7 Inv-loop μ-loop) where
+  abbrev kind : tie.At-match-rest Inv-loop μ-loop
+  kind = c .before .before .before .before
 
-slice-read-list : tie.Need-slice-read-list Inv-loop μ-loop
-slice-read-list c = omega arith
+  few : (c .before .before .place-over .result ≤ i (at (other kind))) × (2 ≤ c .before .before .place-over .result)
+  few =
+      let a = above kind (held (at (other kind))) in
+      let many = c .before .before .place-over .ensures .many in
+      (omega (arith, a .room, a .many), omega (arith, a .many))
 
-sub-other : tie.Need-sub-other Inv-loop μ-loop
-sub-other c = omega (arith, member-room (c .before))
+sub-w-4 : tie.Need-sub-w-4 Inv-loop μ-loop
+sub-w-4 c = le-trans (few c .0) (behind (at (other (kind c))))
 
-mul-other : tie.Need-mul-other Inv-loop μ-loop
-mul-other c = omega arith
+sub-i-3 : tie.Need-sub-i-3 Inv-loop μ-loop
+sub-i-3 c = few c .0
 
-slice-read-other : tie.Need-slice-read-other Inv-loop μ-loop
-slice-read-other c = omega arith
+loop-less-5 : tie.Need-loop-less-5 Inv-loop μ-loop
+loop-less-5 c = omega (arith, few c)
 
-sub-w-6 : tie.Need-sub-w-6 Inv-loop μ-loop
-sub-w-6 c = le-trans (member-room (c .before .before)) (behind (at (c .before .before .before .before .before)))
-
-sub-i-5 : tie.Need-sub-i-5 Inv-loop μ-loop
-sub-i-5 c = member-room (c .before .before)
-
-add-put : tie.Need-add-put Inv-loop μ-loop
-add-put c = omega arith
-
-put-requires-5 : tie.Need-put-requires-5 Inv-loop μ-loop
-put-requires-5 c κs = omega (arith, member-room (c .before .before .before))
-
-put-requires-6 : tie.Need-put-requires-6 Inv-loop μ-loop
-put-requires-6 c κs = omega (arith, member-room (c .before .before .before .before .before .before .before))
-
-loop-less-7 : tie.Need-loop-less-7 Inv-loop μ-loop
-loop-less-7 c = omega arith
-
-loop-again-7 : tie.Need-loop-again-7 Inv-loop μ-loop
-loop-again-7 c =
-    let k = c .before .before .before .before .before .before .before .before .before .before in
-    let e = k .before .before .before in
-    let r = member-room k in
-    let m = members k in
-    let p = c .before .before .before .before .before .before .put5 in
-    let q = c .before .before .put6 in (
+loop-again-5 : tie.Need-loop-again-5 Inv-loop μ-loop
+loop-again-5 c =
+    let l = at (other (kind c)) in
+    let p = c .before .before .place-over in
+    let f = few c in (
       omega arith,
       omega arith,
-      q .kept .0 ∙ p .kept .0 ∙ kept (at e),
+      p .kept .0 ∙ kept l,
       λ t u g.
-          go-puts _ (i (at e) - 4) _ (w (at e)) (tuple-step (reach (at e)) (seen e g) (m .tuple) (m .list) (m .some)) (going (at e) g .done) (p .ensures) (q .ensures) refl (omega arith) refl (omega arith),
+          go-over _ (above (kind c) g) (going l g .done) (behind l) (p .ensures),
     )
 
 sub-by : tie.Need-sub-by Inv-loop μ-loop
@@ -388,40 +295,16 @@ place-spec =
     loop-again-2
     loop-less-3
     loop-again-3
-    sub-inner
-    mul-inner
-    slice-read-inner
-    sub-absent
-    mul-absent
-    slice-read-absent
+    place-access-requires
     sub-w-3
-    sub-i-3
-    put-requires-3
-    sub-w-4
-    sub-i-4
-    put-requires-4
+    add-w
     loop-less-4
     loop-again-4
+    place-over-requires
+    sub-w-4
+    sub-i-3
     loop-less-5
     loop-again-5
-    place-access-requires
-    sub-w-5
-    add-w
-    loop-less-6
-    loop-again-6
-    sub-list
-    mul-list
-    slice-read-list
-    sub-other
-    mul-other
-    slice-read-other
-    sub-w-6
-    sub-i-5
-    add-put
-    put-requires-5
-    put-requires-6
-    loop-less-7
-    loop-again-7
     sub-by
     move-left-requires
     sub-result

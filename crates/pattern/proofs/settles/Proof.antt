@@ -1,9 +1,11 @@
 -- `pattern::settles` meets its contract: in each turn the top of a row of trees that are all to be patterns is passed. Assumes nothing.
+use mathlib.Core.Path.{sym, _∙_}
 use mathlib.Core.Logic.{⊎-elim, inl, inr}
 use mathlib.Core.List.{List, [], _++_}
 use Prim.Native.Nat.{ℕ, _-_, _≤_}
 use native.Mathlib.Omega.{arith}
-use borrow.Author.Tests.{eqb-true, eqb-false}
+use borrow.Author.Needs.{needs}
+use borrow.Author.Tests.{eqb-true, eqb-false, not-true, not-false}
 use lib.Dec.{eqb}
 use lib.ListN.{length, take, getD, length-take}
 use Rattle.tree.specs.Tree.{Tree}
@@ -12,8 +14,8 @@ use Rattle.tree.specs.Maybe.{Maybe}
 use Rattle.grammar.specs.Reading.Pattern.{to-pattern}
 use Rattle.pattern.specs.Contract.{Whole}
 use Rattle.pattern.proofs.Conv.{by-test}
-use Rattle.pattern.proofs.Steps.{Ahead, View, view, shorter, whole-ahead, all-read, settled, ident-step, group-bare, group-modified, unpack-room, unpack-absent, unpack-other, tuple-room, tuple-step, tuple-not-list, tuple-empty, no-pattern}
-use Rattle.pattern.proofs.Access.{Receives, top-prim, prim-room, not-path-step, no-path-step, Shape, shape-of, no-item-step, attribute-pat, attribute-trees, index-pat, index-trees, no-top, off-top}
+use Rattle.pattern.proofs.Steps.{Ahead, View, view, shorter, whole-ahead, all-read, settled, ident-step, group-bare, group-modified, unpack-room, unpack-absent, unpack-other, tuple-room, tuple-step, tuple-none, some-members, no-pattern}
+use Rattle.pattern.proofs.Access.{Receives, top-prim, prim-room, path-none, Shape, shape-of, no-item-step, attribute-pat, attribute-trees, index-pat, index-trees, no-top, off-top}
 use Rattle.pattern.proofs.settles.Statement.{statement}
 use Rattle.pattern.proofs.settles.Tie as tie
 
@@ -75,12 +77,14 @@ module _ (c : tie.At-match-keys4 Inv-loop μ-loop) where
   access-room : 6 ≤ i turn
   access-room = omega (arith, prim-room (receives (held turn)))
 
-module _ (c : tie.Else5 Inv-loop μ-loop) where
+module _ (c : tie.Else3 Inv-loop μ-loop) where
   abbrev access : tie.At-match-keys4 Inv-loop μ-loop
   access = c .before .before .before
 
   abbrev parts : {t : Tree} (g : Holds (turn access) t) → Shape (take (from (turn access)) (S (turn access)) ++ rows (seen (turn access) g .under)) (S (turn access)) (i (turn access)) (seen (turn access) g .tree)
-  parts g = shape-of (reach (turn access)) (receives access g) (c .before .if4 .left) (c .if5 .left)
+  parts g =
+      let l = some-members _ (sym (c .before .has-members2 .ensures) ∙ not-false (c .before .has-members2 .result) (c .if3 .left)) in
+      shape-of (reach (turn access)) (receives access g) (l .0) (l .1)
 
   path-room : 8 ≤ i (turn access)
   path-room = omega (arith, parts (held (turn access)) .room)
@@ -150,24 +154,23 @@ loop-again-3 c =
     let h = reach e in
     (omega arith, λ t g. record { ahead = _; left = unpack-other h (seen e g) (c .before .before .match .keys2) (c .if1 .left) })
 
-sub-list : tie.Need-sub-list Inv-loop μ-loop
-sub-list c = member-room c
+sub-has-members : tie.Need-sub-has-members Inv-loop μ-loop
+sub-has-members c = member-room c
 
-mul-list : tie.Need-mul-list Inv-loop μ-loop
-mul-list c = omega arith
+mul-has-members : tie.Need-mul-has-members Inv-loop μ-loop
+mul-has-members c = omega arith
 
-shared-slice-read-list : tie.Need-shared-slice-read-list Inv-loop μ-loop
-shared-slice-read-list c = omega arith
+shared-slice-read-has-members : tie.Need-shared-slice-read-has-members Inv-loop μ-loop
+shared-slice-read-has-members c = omega arith
+
+has-members-requires : tie.Need-has-members-requires Inv-loop μ-loop
+has-members-requires c κs = search needs
 
 returns : tie.Need-returns Inv-loop μ-loop
 returns c =
-    let e = c .before .before .before .before in
-    λ t g. record { how = tuple-not-list (reach e) (seen e g) (c .before .before .match .keys3) (c .if2 .taken) }
-
-returns-2 : tie.Need-returns-2 Inv-loop μ-loop
-returns-2 c =
     let e = c .before .before .before .before .before in
-    λ t g. record { how = tuple-empty (reach e) (seen e g) (c .before .before .before .match .keys3) (c .if3 .taken) }
+    let n = sym (c .before .has-members .ensures) ∙ not-true (c .before .has-members .result) (c .if2 .taken) in
+    λ t g. record { how = tuple-none (reach e) (seen e g) (c .before .before .before .match .keys3) n }
 
 sub-i-4 : tie.Need-sub-i-4 Inv-loop μ-loop
 sub-i-4 c = member-room (c .before .before .before)
@@ -178,29 +181,30 @@ loop-less-4 c = omega arith
 loop-again-4 : tie.Need-loop-again-4 Inv-loop μ-loop
 loop-again-4 c =
     let e = c .before .before .before .before .before in
-    let h = reach e in
-    (omega arith, λ t g. record { ahead = _; left = tuple-step h (seen e g) (c .before .before .before .match .keys3) (c .before .if2 .left) (c .if3 .left) })
+    let h = reach e in (
+      omega arith,
+      λ t g.
+          let l = some-members _ (sym (c .before .has-members .ensures) ∙ not-false (c .before .has-members .result) (c .if2 .left)) in
+          record { ahead = _; left = tuple-step h (seen e g) (c .before .before .before .match .keys3) (l .0) (l .1) },
+    )
 
-sub-list-2 : tie.Need-sub-list-2 Inv-loop μ-loop
-sub-list-2 c = omega (arith, access-room c)
+sub-list : tie.Need-sub-list Inv-loop μ-loop
+sub-list c = omega (arith, access-room c)
 
-mul-list-2 : tie.Need-mul-list-2 Inv-loop μ-loop
-mul-list-2 c = omega arith
+mul-list : tie.Need-mul-list Inv-loop μ-loop
+mul-list c = omega arith
 
-shared-slice-read-list-2 : tie.Need-shared-slice-read-list-2 Inv-loop μ-loop
-shared-slice-read-list-2 c = omega arith
+shared-slice-read-list : tie.Need-shared-slice-read-list Inv-loop μ-loop
+shared-slice-read-list c = omega arith
 
-returns-3 : tie.Need-returns-3 Inv-loop μ-loop
-returns-3 c =
-    let a = c .before .before in
-    let h = reach (turn a) in
-    λ t g. record { how = no-top (seen (turn a) g) (not-path-step (receives a g) (c .if4 .taken)) }
+has-members-requires-2 : tie.Need-has-members-requires-2 Inv-loop μ-loop
+has-members-requires-2 c κs = search needs
 
-returns-4 : tie.Need-returns-4 Inv-loop μ-loop
-returns-4 c =
+returns-2 : tie.Need-returns-2 Inv-loop μ-loop
+returns-2 c =
     let a = c .before .before .before in
-    let h = reach (turn a) in
-    λ t g. record { how = no-top (seen (turn a) g) (no-path-step (receives a g) (c .if5 .taken)) }
+    let n = sym (c .before .has-members2 .ensures) ∙ not-true (c .before .has-members2 .result) (c .if3 .taken) in
+    λ t g. record { how = no-top (seen (turn a) g) (path-none (receives a g) n) }
 
 sub-last : tie.Need-sub-last Inv-loop μ-loop
 sub-last c = omega (arith, path-room c)
@@ -218,27 +222,27 @@ skip-requires : tie.Need-skip-requires Inv-loop μ-loop
 skip-requires c κs =
     let p = c .before .before in
     let h = reach (turn (access p)) in
-    (omega arith, record { base = _; trees = attribute-trees (parts p (held (turn (access p)))) (c .if6 .taken) })
+    (omega arith, record { base = _; trees = attribute-trees (parts p (held (turn (access p)))) (c .if4 .taken) })
 
 loop-less-5 : tie.Need-loop-less-5 Inv-loop μ-loop
 loop-less-5 c =
     let p = c .before .before .before in
     let e = turn (access p) in
-    omega (arith, c .skip .ensures _ (attribute-trees (parts p (held e)) (c .before .if6 .taken)) .at, parts p (held e) .room)
+    omega (arith, c .skip .ensures _ (attribute-trees (parts p (held e)) (c .before .if4 .taken)) .at, parts p (held e) .room)
 
 loop-again-5 : tie.Need-loop-again-5 Inv-loop μ-loop
 loop-again-5 c =
     let p = c .before .before .before in
     let e = turn (access p) in
     let h = reach e in
-    let k = c .before .if6 .taken in
+    let k = c .before .if4 .taken in
     (omega (arith, loop-less-5 c), λ t g. record { ahead = _; left = off-top (seen e g) _ (attribute-pat (parts p g) k) (c .skip .ensures _ (attribute-trees (parts p g) k) .text) })
 
-returns-5 : tie.Need-returns-5 Inv-loop μ-loop
-returns-5 c =
+returns-3 : tie.Need-returns-3 Inv-loop μ-loop
+returns-3 c =
     let p = c .before .before .before in
     let e = turn (access p) in
-    λ t g. record { how = no-top (seen e g) (no-item-step (parts p g) (c .before .if6 .left) (c .if7 .taken)) }
+    λ t g. record { how = no-top (seen e g) (no-item-step (parts p g) (c .before .if4 .left) (c .if5 .taken)) }
 
 sub-skip-2 : tie.Need-sub-skip-2 Inv-loop μ-loop
 sub-skip-2 c = omega (arith, path-room (c .before .before .before))
@@ -252,30 +256,30 @@ skip-requires-2 : tie.Need-skip-requires-2 Inv-loop μ-loop
 skip-requires-2 c κs =
     let p = c .before .before .before in
     let h = reach (turn (access p)) in
-    (omega arith, record { base = _; trees = index-trees (parts p (held (turn (access p)))) (c .if7 .left) })
+    (omega arith, record { base = _; trees = index-trees (parts p (held (turn (access p)))) (c .if5 .left) })
 
 loop-less-6 : tie.Need-loop-less-6 Inv-loop μ-loop
 loop-less-6 c =
     let p = c .before .before .before .before in
     let e = turn (access p) in
-    omega (arith, c .skip2 .ensures _ (index-trees (parts p (held e)) (c .before .if7 .left)) .at, parts p (held e) .room)
+    omega (arith, c .skip2 .ensures _ (index-trees (parts p (held e)) (c .before .if5 .left)) .at, parts p (held e) .room)
 
 loop-again-6 : tie.Need-loop-again-6 Inv-loop μ-loop
 loop-again-6 c =
     let p = c .before .before .before .before in
     let e = turn (access p) in
     let h = reach e in
-    let k = c .before .if7 .left in
+    let k = c .before .if5 .left in
     (omega (arith, loop-less-6 c), λ t g. record { ahead = _; left = off-top (seen e g) _ (index-pat (parts p g) k) (c .skip2 .ensures _ (index-trees (parts p g) k) .text) })
 
-returns-6 : tie.Need-returns-6 Inv-loop μ-loop
-returns-6 c =
+returns-4 : tie.Need-returns-4 Inv-loop μ-loop
+returns-4 c =
     let e = c .before .before in
     let n = c .match .rest in
     λ t g. record { how = no-pattern (seen e g) (λ k. n .0 .0 .0 .1 (inl k)) (λ k. n .0 .0 .0 .1 (inr k)) (n .0 .0 .1) (n .0 .1) (n .1) }
 
-returns-7 : tie.Need-returns-7 Inv-loop μ-loop
-returns-7 c = λ t g. record { how = settled (all-read _ _ (c .before .loop .inv .0) (c .before .loop .inv .1 _ g .left) (no-shorter _ _ _ _ g (c .loop-test .left))) }
+returns-5 : tie.Need-returns-5 Inv-loop μ-loop
+returns-5 c = λ t g. record { how = settled (all-read _ _ (c .before .loop .inv .0) (c .before .loop .inv .1 _ g .left) (no-shorter _ _ _ _ g (c .loop-test .left))) }
 
 pub settles-spec : {M : Type 1} → statement M
 settles-spec =
@@ -299,19 +303,19 @@ settles-spec =
     sub-i-3
     loop-less-3
     loop-again-3
-    sub-list
-    mul-list
-    shared-slice-read-list
+    sub-has-members
+    mul-has-members
+    shared-slice-read-has-members
+    has-members-requires
     returns
-    returns-2
     sub-i-4
     loop-less-4
     loop-again-4
-    sub-list-2
-    mul-list-2
-    shared-slice-read-list-2
-    returns-3
-    returns-4
+    sub-list
+    mul-list
+    shared-slice-read-list
+    has-members-requires-2
+    returns-2
     sub-last
     mul-last
     shared-slice-read-last
@@ -319,11 +323,11 @@ settles-spec =
     skip-requires
     loop-less-5
     loop-again-5
-    returns-5
+    returns-3
     sub-skip-2
     add-skip
     skip-requires-2
     loop-less-6
     loop-again-6
-    returns-6
-    returns-7)
+    returns-4
+    returns-5)

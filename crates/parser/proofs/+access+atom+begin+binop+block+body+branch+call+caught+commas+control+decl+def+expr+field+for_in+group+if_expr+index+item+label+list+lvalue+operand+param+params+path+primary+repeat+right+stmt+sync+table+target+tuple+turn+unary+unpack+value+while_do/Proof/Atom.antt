@@ -8,7 +8,7 @@ use Rattle.parser.proofs.Laws.{way, here, did-not, taken, not-taken, bl
 use Rattle.parser.proofs.Writing.{settled, before}
 use Rattle.parser.proofs.Shapes.{given}
 use Rattle.parser.proofs.PathsExpr.{left}
-use Rattle.parser.proofs.PathsAtom.{atom-looks, atom-group, atom-literal}
+use Rattle.parser.proofs.PathsPrimary.{atom-looks, atom-group, atom-literal}
 use Rattle.parser.proofs.atom.Reads as reads
 use Rattle.parser.proofs.+access+atom+begin+binop+block+body+branch+call+caught+commas+control+decl+def+expr+field+for_in+group+if_expr+index+item+label+list+lvalue+operand+param+params+path+primary+repeat+right+stmt+sync+table+target+tuple+turn+unary+unpack+value+while_do.Lts-atom as lts
 use Rattle.parser.proofs.+access+atom+begin+binop+block+body+branch+call+caught+commas+control+decl+def+expr+field+for_in+group+if_expr+index+item+label+list+lvalue+operand+param+params+path+primary+repeat+right+stmt+sync+table+target+tuple+turn+unary+unpack+value+while_do.Proof.Base.{atom-calls, atom-at}

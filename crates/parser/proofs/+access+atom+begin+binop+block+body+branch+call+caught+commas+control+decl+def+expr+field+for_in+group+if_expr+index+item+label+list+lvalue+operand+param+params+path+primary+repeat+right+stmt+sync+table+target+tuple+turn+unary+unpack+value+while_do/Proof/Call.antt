@@ -11,7 +11,7 @@ use Rattle.parser.proofs.Laws.{way, here, goes, done, undone, did-not, 
 use Rattle.parser.proofs.Writing.{taller, made-added, before}
 use Rattle.parser.proofs.Shapes.{given, expr-shape}
 use Rattle.parser.proofs.PathsExpr.{left}
-use Rattle.parser.proofs.PathsAtom.{call-looks, call-empty, call-more}
+use Rattle.parser.proofs.PathsPrimary.{call-looks, call-empty, call-more}
 use Rattle.parser.proofs.call.Reads as reads
 use Rattle.parser.proofs.+access+atom+begin+binop+block+body+branch+call+caught+commas+control+decl+def+expr+field+for_in+group+if_expr+index+item+label+list+lvalue+operand+param+params+path+primary+repeat+right+stmt+sync+table+target+tuple+turn+unary+unpack+value+while_do.Lts-call as lts
 use Rattle.parser.proofs.+access+atom+begin+binop+block+body+branch+call+caught+commas+control+decl+def+expr+field+for_in+group+if_expr+index+item+label+list+lvalue+operand+param+params+path+primary+repeat+right+stmt+sync+table+target+tuple+turn+unary+unpack+value+while_do.Proof.Base.{call-calls, call-at}

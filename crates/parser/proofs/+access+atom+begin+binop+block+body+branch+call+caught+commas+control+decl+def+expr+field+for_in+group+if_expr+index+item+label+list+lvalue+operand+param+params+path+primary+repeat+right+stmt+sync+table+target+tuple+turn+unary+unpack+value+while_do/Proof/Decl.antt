@@ -6,7 +6,9 @@ use native.Mathlib.Omega.{arith}
 use lib.ListN.{take}
 use Rattle.parser.proofs.Laws.{way, here, link, goes, done, undone, did-not, taken, not-taken, fails, blind, prefix, made-two, later}
 use Rattle.parser.proofs.Tokens.{name-small}
-use Rattle.parser.proofs.PathsFunction.{target-small, target-named, kind-stands, tree-long, decl-looks, decl-open, decl-target, decl-name}
+use Rattle.parser.proofs.Writing.{taller}
+use Rattle.parser.proofs.Ends.{kind-read}
+use Rattle.parser.proofs.PathsFunction.{target-small, target-named, decl-looks, decl-open, decl-target, decl-name}
 use Rattle.parser.proofs.decl.Reads as reads
 use Rattle.parser.proofs.+access+atom+begin+binop+block+body+branch+call+caught+commas+control+decl+def+expr+field+for_in+group+if_expr+index+item+label+list+lvalue+operand+param+params+path+primary+repeat+right+stmt+sync+table+target+tuple+turn+unary+unpack+value+while_do.Lts-decl as lts
 use Rattle.parser.proofs.+access+atom+begin+binop+block+body+branch+call+caught+commas+control+decl+def+expr+field+for_in+group+if_expr+index+item+label+list+lvalue+operand+param+params+path+primary+repeat+right+stmt+sync+table+target+tuple+turn+unary+unpack+value+while_do.Proof.Base.{decl-calls, decl-at}
@@ -47,8 +49,8 @@ target-name-requires t c κs = let tk = taken (c .before .before .before .before
     let g = done (c .before .before .t .given .1) (c .before .before .before .before .before .before .target .ensures) in
     let small = given (target-small (c .before .before .before .before .before .before .before .before .before .before .before .before .before .before .before .before .args .depth) _ _) (g .same) in
     let names = given (target-named _ _ tk (c .before .before .before .before .before .before .before .before .before .if1 .left)) (g .same) in
-    let l = tree-long g (omega (arith, c .before .before .before .before .before .before .before .before .before .before .before .before .before .before .before .before .pre)) in
-    (omega (arith, l), omega (arith, c .before .before .before .before .before .before .before .before .before .before .before .before .before .before .before .before .pre, g .moved, g .room, c .before .before .before .before .before .before .target .kept .1 .0), λ e. name-small (tk .fits) (names (sym (kind-stands (c .before .before .before .before .before .before .target .last .1 .0) (take (c .before .before .before .before .before .before .before .before .before .before .before .before .before .before .before .before .args .at) (c .before .before .before .before .before .before .before .before .before .before .before .before .before .before .before .before .args .store .now)) (c .before .before .t .given .0 .1 .0) (g .what) small (g .text) (omega (arith, c .before .before .before .before .before .before .before .before .before .before .before .before .before .before .before .before .pre, g .moved, g .room, c .before .before .before .before .before .before .target .kept .1 .0))) ∙ e) .0))
+    let l = taller g (omega (arith, c .before .before .before .before .before .before .before .before .before .before .before .before .before .before .before .before .pre)) in
+    (omega (arith, l), omega (arith, c .before .before .before .before .before .before .before .before .before .before .before .before .before .before .before .before .pre, g .moved, g .room, c .before .before .before .before .before .before .target .kept .1 .0), λ e. name-small (tk .fits) (names (sym (kind-read (c .before .before .before .before .before .before .target .last .1 .0) (take (c .before .before .before .before .before .before .before .before .before .before .before .before .before .before .before .before .args .at) (c .before .before .before .before .before .before .before .before .before .before .before .before .before .before .before .before .args .store .now)) (c .before .before .t .given .0 .1 .0) (g .what) small (g .text) (omega (arith, c .before .before .before .before .before .before .before .before .before .before .before .before .before .before .before .before .pre, g .moved, g .room, c .before .before .before .before .before .before .target .kept .1 .0))) ∙ e) .0))
 
 pub def-requires-2 : (t : ℕ) → lts.Need-def-requires-2 (decl-calls t) (decl-at t) reads.Post
 def-requires-2 t c κs = let g = done (c .before .before .before .before .before .t .given .1) (c .before .before .before .before .before .before .before .before .before .target .ensures) in

@@ -9,7 +9,7 @@ use Rattle.parser.proofs.Laws.{way, here, goes, done, undone, did-not, 
 use Rattle.parser.proofs.Writing.{told, taller, before}
 use Rattle.parser.proofs.Shapes.{given, shape-small, expr-shape}
 use Rattle.parser.proofs.PathsExpr.{left}
-use Rattle.parser.proofs.PathsAtom.{group-looks, group-empty, group-more}
+use Rattle.parser.proofs.PathsPrimary.{group-looks, group-empty, group-more}
 use Rattle.parser.proofs.group.Reads as reads
 use Rattle.parser.proofs.+access+atom+begin+binop+block+body+branch+call+caught+commas+control+decl+def+expr+field+for_in+group+if_expr+index+item+label+list+lvalue+operand+param+params+path+primary+repeat+right+stmt+sync+table+target+tuple+turn+unary+unpack+value+while_do.Lts-group as lts
 use Rattle.parser.proofs.+access+atom+begin+binop+block+body+branch+call+caught+commas+control+decl+def+expr+field+for_in+group+if_expr+index+item+label+list+lvalue+operand+param+params+path+primary+repeat+right+stmt+sync+table+target+tuple+turn+unary+unpack+value+while_do.Proof.Base.{group-calls, group-at}

@@ -8,7 +8,7 @@ use Rattle.grammar.specs.Reading.Expr.{expr}
 use Rattle.parser.proofs.Laws.{way, goes, done, undone, did-not, fails}
 use Rattle.parser.proofs.Writing.{closed-by, before}
 use Rattle.parser.proofs.Shapes.{given}
-use Rattle.parser.proofs.PathsAtom.{index-step}
+use Rattle.parser.proofs.PathsPrimary.{index-step}
 use Rattle.parser.proofs.index.Reads as reads
 use Rattle.parser.proofs.+access+atom+begin+binop+block+body+branch+call+caught+commas+control+decl+def+expr+field+for_in+group+if_expr+index+item+label+list+lvalue+operand+param+params+path+primary+repeat+right+stmt+sync+table+target+tuple+turn+unary+unpack+value+while_do.Lts-index as lts
 use Rattle.parser.proofs.+access+atom+begin+binop+block+body+branch+call+caught+commas+control+decl+def+expr+field+for_in+group+if_expr+index+item+label+list+lvalue+operand+param+params+path+primary+repeat+right+stmt+sync+table+target+tuple+turn+unary+unpack+value+while_do.Proof.Base.{index-calls, index-at}

@@ -7,8 +7,9 @@ use lib.ListN.{take}
 use Rattle.tree.specs.Node
 use Rattle.parser.specs.Parts.{unpack-end}
 use Rattle.parser.proofs.Laws.{way, here, link, goes, done, undone, did-not, taken, not-taken, fails, blind, prefix, relabel}
+use Rattle.parser.proofs.Writing.{taller}
 use Rattle.grammar.specs.Laws.Kinds.{level-small, primary-small}
-use Rattle.parser.proofs.PathsPrimary.{tree-ends, writing, unpack-looks, dots-looks, unpack-lone, unpack-some, dots-more, dots-none}
+use Rattle.parser.proofs.PathsPrimary.{writing, unpack-looks, dots-looks, unpack-lone, unpack-some, dots-more, dots-none}
 use Rattle.parser.proofs.unpack.Reads as reads
 use Rattle.parser.proofs.+access+atom+begin+binop+block+body+branch+call+caught+commas+control+decl+def+expr+field+for_in+group+if_expr+index+item+label+list+lvalue+operand+param+params+path+primary+repeat+right+stmt+sync+table+target+tuple+turn+unary+unpack+value+while_do.Lts-unpack as lts
 use Rattle.parser.proofs.+access+atom+begin+binop+block+body+branch+call+caught+commas+control+decl+def+expr+field+for_in+group+if_expr+index+item+label+list+lvalue+operand+param+params+path+primary+repeat+right+stmt+sync+table+target+tuple+turn+unary+unpack+value+while_do.Proof.Base.{unpack-calls, unpack-at}
@@ -64,7 +65,7 @@ add-unpack-end t c = let tk2 = taken (c .before .before .before .next .given .1)
 pub unpack-end-requires : (t : ℕ) → lts.Need-unpack-end-requires (unpack-calls t) (unpack-at t) reads.Post
 unpack-end-requires t c κs = let w = done (c .before .before .before .before .before .before .before .r .given .1) (c .before .before .before .before .before .before .before .before .before .before .before .primary .ensures) in
     let tk2 = taken (c .before .before .before .next .given .1) (c .before .before .before .before .before .look2 .ensures) in
-    let l = tree-ends w (omega (arith, c .before .before .before .before .before .before .before .before .before .before .before .before .before .before .before .before .before .before .before .before .before .pre)) (omega (arith, c .before .before .before .before .before .before .before .before .before .before .before .before .before .before .before .before .before .before .before .before .before .pre, w .moved, w .room, c .before .before .before .before .before .before .before .before .before .before .before .primary .kept .1 .0)) in
+    let l = taller w (omega (arith, c .before .before .before .before .before .before .before .before .before .before .before .before .before .before .before .before .before .before .before .before .before .pre)) in
     (omega arith, omega (arith, c .before .before .before .before .before .before .before .before .before .before .before .before .before .before .before .before .before .before .before .before .before .pre, w .moved, w .room, tk2 .within, c .before .before .before .before .before .before .before .before .before .before .before .primary .kept .1 .0))
 
 pub same-length-3 : (t : ℕ) → lts.Need-same-length-3 (unpack-calls t) (unpack-at t) reads.Post

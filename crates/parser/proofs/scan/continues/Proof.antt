@@ -1,14 +1,10 @@
 -- `parser::scan::continues` meets its contract. Assumes nothing.
-use mathlib.Core.Path.{_≡_, refl}
-use mathlib.Core.Bool.{Bool, true, false, _&&_}
+use mathlib.Core.Path.{_≡_, refl, sym}
+use mathlib.Core.Bool.{Bool, true, false, _&&_, and-true}
 use lib.Dec.{eqb}
 use borrow.Author.Tests.{ne-eqb}
 use Rattle.parser.proofs.scan.continues.Statement.{statement}
 use Rattle.parser.proofs.scan.continues.Tie as tie
-
-and-true : (b : Bool) → b ≡ (b && true)
-and-true true = refl
-and-true false = refl
 
 none-goes : (c b : Bool) → false ≡ (c && b && false)
 none-goes true true = refl
@@ -23,13 +19,13 @@ returns-2 : tie.Need-returns-2
 returns-2 c = rw (c .match .keys2)
 
 returns-3 : tie.Need-returns-3
-returns-3 c = rw (c .before .match .keys3, c .if1 .taken) (and-true _)
+returns-3 c = rw (c .before .match .keys3, c .if1 .taken) (sym (and-true _))
 
 returns-4 : tie.Need-returns-4
 returns-4 c = rw (c .before .match .keys3, c .if1 .left)
 
 returns-5 : tie.Need-returns-5
-returns-5 c = rw (c .before .match .keys4, c .if2 .taken) (and-true _)
+returns-5 c = rw (c .before .match .keys4, c .if2 .taken) (sym (and-true _))
 
 returns-6 : tie.Need-returns-6
 returns-6 c = rw (c .before .match .keys4, c .if2 .left)

@@ -1,15 +1,11 @@
 -- `parser::scan::halts` meets its contract. Assumes nothing.
 use Rattle.grammar.specs.Reading.Stmt.{is-control}
-use mathlib.Core.Path.{_≡_, refl, _∙_}
-use mathlib.Core.Bool.{Bool, true, false, _&&_, _||_}
+use mathlib.Core.Path.{_≡_, refl, sym, _∙_}
+use mathlib.Core.Bool.{Bool, true, false, _&&_, _||_, and-true}
 use borrow.Author.Needs.{needs}
 use borrow.Author.Tests.{ne-eqb}
 use Rattle.parser.proofs.scan.halts.Statement.{statement}
 use Rattle.parser.proofs.scan.halts.Tie as tie
-
-inside-only : (b : Bool) → b ≡ (b && true)
-inside-only true = refl
-inside-only false = refl
 
 control-only : (c b : Bool) → c ≡ (((c || false) || false) || (b && false))
 control-only true b = refl
@@ -41,7 +37,7 @@ returns-7 : tie.Need-returns-7
 returns-7 c = rw (c .match .keys7)
 
 returns-8 : tie.Need-returns-8
-returns-8 c = rw (c .match .keys8) (inside-only _)
+returns-8 c = rw (c .match .keys8) (sym (and-true _))
 
 returns-9 : tie.Need-returns-9
 returns-9 c = let r = c .before .match .rest in
