@@ -1,0 +1,4 @@
+-- What several proofs share.
+mod Scans
+mod Texts
+mod Calls

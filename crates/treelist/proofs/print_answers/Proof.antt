@@ -1,0 +1,52 @@
+-- `print_answers`: each answer's tree stands in the store, whose length stays, and the calls come to an end. Assumes nothing.
+use borrow.Author.Needs.{needs}
+use borrow.Author.Tests.{not-false}
+use mathlib.Core.Path.{_≡_, sym, _∙_}
+use lib.ListN.{length}
+use Rattle.grammar.specs.Laws.Returned.{Fits}
+use Rattle.treelist.proofs.Calls.{held, left, nearer, fits, fresh-fits}
+use Rattle.treelist.proofs.print_answers.Statement.{statement}
+use Rattle.treelist.proofs.print_answers.Tie as tie
+
+abbrev Inv-loop : tie.InvT-loop
+Inv-loop tokens store₀ reader₀ store reader = (length store ≡ length store₀) × Fits tokens reader
+
+abbrev μ-loop : tie.MeasureT-loop
+μ-loop tokens store₀ reader₀ store reader = left tokens reader
+
+loop-holds : tie.Need-loop-holds Inv-loop μ-loop
+loop-holds c = (search needs, fresh-fits _)
+
+next-stmt-requires : tie.Need-next-stmt-requires Inv-loop μ-loop
+next-stmt-requires c κs = search needs
+
+print-requires : tie.Need-print-requires Inv-loop μ-loop
+print-requires c κs = held _ _ _ (c .before .before .before .next-stmt .ensures)
+
+same-length : tie.Need-same-length Inv-loop μ-loop
+same-length c = search needs
+
+returns : tie.Need-returns Inv-loop μ-loop
+returns c = search needs
+
+loop-less : tie.Need-loop-less Inv-loop μ-loop
+loop-less c =
+    nearer _ _ _ (c .before .before .before .before .before .before .next-stmt .ensures) (c .before .before .before .before .before .before .before .before .loop .inv .1)
+    (sym (c .before .before .print .ensures) ∙ not-false _ (c .before .if1 .left))
+
+loop-again : tie.Need-loop-again Inv-loop μ-loop
+loop-again c = (search needs, fits _ _ _ (c .before .before .before .before .before .before .next-stmt .ensures) (c .before .before .before .before .before .before .before .before .loop .inv .1))
+
+pub print-answers-spec : {M : Type 1} → statement M
+print-answers-spec =
+    tie.close
+    (tie.spec
+    Inv-loop
+    μ-loop
+    loop-holds
+    next-stmt-requires
+    print-requires
+    same-length
+    returns
+    loop-less
+    loop-again)

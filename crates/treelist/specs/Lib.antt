@@ -1,0 +1,5 @@
+-- What the contracts of treelist cite.
+pub mod Text
+pub mod Lines
+pub mod Listing
+pub mod Printing

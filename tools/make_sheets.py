@@ -1,0 +1,375 @@
+#!/usr/bin/env python3
+"""Makes the input of the program `sheets`: fixed sheets with the answers of the published parser, and what the writer makes of their trees.
+
+    make_sheets.py --oracle DIR --build DIR [--seeds 1,2] > crates/sheets/stdin
+
+DIR of --oracle holds gen.py, tokens.py and canonical.txt; DIR of --build holds oracle and oracle01, as build.sh makes them.
+The same arguments give the same file. Needs Python 3.
+
+Each sheet is run through both programs. Where they agree, the answers are those of the published parser unchanged. Where the
+published parser panics, or goes past a limit of document 01, they are those of oracle01, and the sheet stands in the group that says so.
+
+The canonical tokens of the sheets in canonical.txt are the supplied ones. Those of any other records are judged: a model of the
+definition (canonical.py) writes a tree, whatever it is, and the published parser reads that back. If this gives another tree or an
+error, no clean reading gives the tree: 65. If oracle01 stops with 62, so does the writer. Else the model's tokens are written.
+"""
+import argparse
+import os
+import random
+import subprocess
+import sys
+
+sys.dont_write_bytecode = True  # no compiled files beside the sources
+import canonical
+
+HEADER = """# Sheets with the answers that the published parser gave for them, and what the writer makes of their trees. Made by
+#   tools/make_sheets.py --oracle DIR --build DIR --seeds %(seeds)s
+# from the sheets of document 01, gen.py's families a to f with these seeds, such sheets joined to nearly 500 tokens, sheets with a
+# lexer error in the place of each token in turn and before it, the sheets of canonical.txt, and trees of those, altered.
+#
+# s WORDS            a sheet: two words for each token, kind + 256 x newline, then the value; the line above it has its text
+# t WORDS = READER   the next answer is a tree with these records, two words each
+# e N = READER       an error with this number
+# . = READER         the end
+# x N = READER       a stop with this number
+# READER is the reader behind the answer: its position in tokens, how many errors wait, and their numbers, the oldest first.
+# a WORDS            records that the writer gets, in the place of a tree's
+# w WORDS            the writer writes the records before this as these tokens, two words each
+# n N                the writer writes nothing for the records before this, and answers this number
+# >NAME              ends a group, whose counts are printed behind NAME
+# Groups named `oracle01` have sheets at which the published parser panics or that go past a limit of document 01; the answers
+# there are those of the parser patched with document 01's own.
+"""
+
+# document 01, "Sheets tried", the starred ones included
+TRIED = [
+    "",
+    "EOF",
+    "^n7 + 1 ^EOF",
+    "a",
+    ") a b EOF",
+    ") assert a EOF",
+    "begin 1 ; continue ; end EOF",
+    "begin continue x",
+    "::5 begin end EOF",
+    "class a EOF",
+    "a , EOF",
+    "begin LEXERR a end EOF",
+    "if c then continue x y d then 2 end EOF",
+    "a ( b ) EOF",
+    "a ^( b ) EOF",
+    "- " * 63 + "a EOF",
+    "- " * 64 + "a EOF",
+    "a = " * 63 + "a EOF",
+    "a = " * 64 + "a EOF",
+    "a ; b EOF",
+    "a b EOF",
+    "local a = 1 EOF",
+    "( a ) = 1 EOF",
+    "( a ) EOF",
+]
+
+# family, sheets for each seed, options of gen.py, tokens at least
+FAMILIES = [
+    ("a", 60, [], 0),
+    ("b", 45, [], 0),
+    ("b", 4, ["--depth", "6", "--max-tokens", "500"], 250),
+    ("c", 45, [], 0),
+    ("c", 4, ["--depth", "6", "--max-tokens", "500"], 250),
+    ("d", 45, [], 0),
+    ("e", 45, [], 0),
+    ("f", 25, [], 0),
+]
+
+# every place of these is replaced by a lexer error in turn
+DAMAGED = [
+    "a + b ; c EOF",
+    "begin a ; continue end b EOF",
+    "loop begin ) ; a end ; break end EOF",
+    "if a then b elif c then d else f end EOF",
+    "fun f ( a , b = 1 , ... c ) a end EOF",
+    "let ( a , ... b ) = f ( 1 , x . y [ 2 ] ) EOF",
+    "for a , b in c do ::1 while d do continue ::1 end end EOF",
+    "{ a = 1 , [ b ] = 2 , let c = 3 } ; assert not a EOF",
+]
+
+# values that an altered record gets: operators' and modifiers' numbers and one more, the ends of the names' range, the greatest word
+VALUES = [0, 1, 2, 3, 4, 5, 17, 18, 39, 40, 43, 44, 4294967295, 4294967296, 8589934591, 8589934592, 18446744073709551615]
+
+# how many trees are altered in each way, and how many words they have at most
+ALTERED = 120
+SMALL = 100
+
+
+def listing(binary, sheets, lines):
+    """The answers of every sheet, as lines of the input; None for a sheet at which the program panicked."""
+    text = "".join("sheet %d\n" % i + lines(toks) for i, toks in enumerate(sheets))
+    out = subprocess.run([binary, "--state"], input=text.encode(), stdout=subprocess.PIPE, check=True).stdout.decode()
+    kinds = subprocess.run([binary, "--kinds"], stdout=subprocess.PIPE, check=True).stdout.decode()
+    number = {row.split()[1]: int(row.split()[0]) for row in kinds.splitlines() if row.strip()}
+    return [answers(part.splitlines()[1:], number) for part in ("\n" + out).split("\nsheet ")[1:]]
+
+
+def answers(rows, number):
+    """The rows of one sheet as lines of the input, or None if the program panicked."""
+    lines = []
+    for row in rows:
+        if row.startswith("answer="):
+            word = row[len("answer="):].split(" ")[0]
+            if word in ("panic", "stuck"):
+                return None
+            letter = {"tree": "t", "error": "e", "end": ".", "stopped": "x"}[word]
+            words = [letter] if letter in "t." else [letter, row.split("number=")[1]]
+        elif row.startswith("kind="):
+            kind, kids, value = (field.split("=")[1] for field in row.split(" "))
+            words += [str(number[kind] + 256 * int(kids)), value]
+        elif row.startswith("state "):
+            position, rest = row[len("state position="):].split(" waiting=")
+            lines.append(" ".join(words + ["=", position, rest]))
+    return lines
+
+
+def judged(sheets, build, lines):
+    """Every sheet with its answers, and whether they are the published parser's."""
+    published = listing(os.path.join(build, "oracle"), sheets, lines)
+    patched = listing(os.path.join(build, "oracle01"), sheets, lines)
+    for toks, one, two in zip(sheets, published, patched):
+        if two is None:
+            sys.exit("make_sheets.py: oracle01 has no answer for a sheet")
+        yield toks, two, one == two
+
+
+def generated(oracle, family, seed, count, options, least):
+    """Sheets of gen.py: the first `count` that have at least `least` tokens."""
+    command = [os.path.join(oracle, "gen.py"), "--family", family, "--seed", str(seed), "--count", str(40 * count if least else count)]
+    out = subprocess.run(command + options, stdout=subprocess.PIPE, check=True).stdout.decode()
+    sheets = []
+    for part in ("\n" + out).split("\nsheet ")[1:]:
+        rows = [dict(field.split("=") for field in row.split(" ")) for row in part.splitlines()[1:]]
+        sheets.append([(int(row["token"]), int(row["newline"]), int(row["value"])) for row in rows])
+    return [toks for toks in sheets if least <= len(toks) <= 500][:count]
+
+
+def joined(sheets, last):
+    """The sheets one behind the other, each without its `EOF`, as many in each as 500 tokens hold."""
+    found, now = [], []
+    for toks in sheets:
+        part = toks[:-1] if toks and toks[-1] == last else toks
+        if 499 < len(now) + len(part):
+            found.append(now + [last])
+            now = []
+        now = now + part
+    return found
+
+
+def damaged(toks, lexer_error):
+    """The sheet with a lexer error in the place of each token in turn, and before each token."""
+    for place in range(len(toks)):
+        yield toks[:place] + [lexer_error] + toks[place + 1:]
+        yield toks[:place] + [lexer_error] + toks[place:]
+
+
+def records_of(row):
+    """The records of a line `t`."""
+    return tuple(int(word) for word in row.split(" = ")[0].split()[1:])
+
+
+def written(trees, args, lines):
+    """What the writer makes of each of these records, as a line of the input."""
+    decoded = {words: canonical.decode(words) for words in trees}
+    texts = {words: canonical.statement(tree) for words, tree in decoded.items() if tree}
+    sheets = [[(kind, 0, value) for kind, value in text] for text in texts.values()]
+    published = listing(os.path.join(args.build, "oracle"), sheets, lines)
+    patched = listing(os.path.join(args.build, "oracle01"), sheets, lines)
+    found = {words: "n 65" for words in trees}
+    for (words, text), one, two in zip(texts.items(), published, patched):
+        if one and len(one) == 2 and one[0].startswith("t ") and records_of(one[0]) == words and one[1].startswith(". "):
+            found[words] = "n 62" if two[0].startswith("x 62") else text_row(text)
+    return found
+
+
+def text_row(text):
+    return " ".join(["w"] + ["%d %d" % token for token in text])
+
+
+def write_sheet(toks, rows, tokens, write):
+    words = ["%d %d" % (kind + 256 * newline, value) for kind, newline, value in toks]
+    write("# %s\n" % tokens.text(toks))
+    write(" ".join(["s"] + words) + "\n")
+    write("".join(row + "\n" for row in rows))
+
+
+def group(name, sheets, args, tokens, write):
+    """A group of sheets, or two: by the published parser, and by oracle01. Gives the trees."""
+    found = list(judged(sheets, args.build, tokens.lines))
+    trees = [records_of(row) for toks, rows, same in found for row in rows if row.startswith("t ")]
+    texts = written(trees, args, tokens.lines)
+    for ours, title in ((True, "published parser"), (False, "oracle01")):
+        part = [(toks, rows) for toks, rows, same in found if same == ours]
+        for toks, rows in part:
+            both = [[row, texts[records_of(row)]] if row.startswith("t ") else [row] for row in rows]
+            write_sheet(toks, sum(both, []), tokens, write)
+        if part:
+            write(">%s, %s\n" % (name, title))
+    return trees
+
+
+def supplied(oracle):
+    """The sheets of canonical.txt and their canonical tokens."""
+    sheets, runs = [], []
+    with open(os.path.join(oracle, "canonical.txt")) as rows:
+        for row in rows:
+            if row.startswith("sheet"):
+                sheets.append([])
+                now = sheets[-1]
+            elif row.startswith("canonical"):
+                runs.append([])
+                now = runs[-1]
+            elif row.startswith("token="):
+                now.append(tuple(int(field.split("=")[1]) for field in row.split()))
+    return sheets, runs
+
+
+def texts_of(run, rows, last):
+    """The tokens of each statement of a run: as the published parser reads it, up to the semicolon where a tree ends."""
+    begin, texts = 0, []
+    for row in rows[:-1]:
+        end = int(row.split(" = ")[1].split()[0]) + 1
+        texts.append([(kind, value) for kind, newline, value in run[begin:end]])
+        begin = end
+    if run[begin:] != [last]:
+        sys.exit("make_sheets.py: a run of canonical.txt does not end in EOF alone")
+    return texts
+
+
+def supplied_group(args, tokens, write):
+    """The sheets of canonical.txt, each tree with its supplied tokens. Gives the trees."""
+    sheets, runs = supplied(args.oracle)
+    trees = []
+    oracle = os.path.join(args.build, "oracle")
+    for toks, run, rows, again in zip(sheets, runs, listing(oracle, sheets, tokens.lines), listing(oracle, runs, tokens.lines)):
+        if [records_of(row) for row in rows] != [records_of(row) for row in again]:
+            sys.exit("make_sheets.py: a run of canonical.txt reads to other trees than its sheet")
+        texts = texts_of(run, again, (tokens.EOF, 0, 0))
+        both = [[row, text_row(text)] for row, text in zip(rows, texts)]
+        write_sheet(toks, sum(both, []) + rows[-1:], tokens, write)
+        trees += [records_of(row) for row in rows[:-1]]
+    write(">canonical tokens, supplied\n")
+    return trees
+
+
+def with_kind(records, at, kinds, draw):
+    """Another kind, of every second record one that stands with as many children elsewhere."""
+    count = records[at][0] // 256
+    kind = draw.choice(kinds[count]) if draw.randrange(2) else draw.choice(list(range(60)) + [255])
+    return records[:at] + [(kind + 256 * count, records[at][1])] + records[at + 1:]
+
+
+def with_value(records, at, kinds, draw):
+    """Another value, of every second record a low one."""
+    value = draw.choice(VALUES if draw.randrange(2) else VALUES[:5])
+    return records[:at] + [(records[at][0], value)] + records[at + 1:]
+
+
+def with_count(records, at, kinds, draw):
+    kind, count = records[at][0] % 256, records[at][0] // 256
+    other = draw.choice([max(count - 1, 0), count + 1, count + 2, 2 ** 56 - 1])
+    return records[:at] + [(kind + 256 * other, records[at][1])] + records[at + 1:]
+
+
+def dropped(records, at, kinds, draw):
+    return records[:at] + records[at + 1:]
+
+
+def doubled(records, at, kinds, draw):
+    return records[:at] + records[at:at + 1] + records[at:]
+
+
+def swapped(records, at, kinds, draw):
+    """Two records, each in the other's place."""
+    other = draw.randrange(len(records))
+    found = list(records)
+    found[at], found[other] = found[other], found[at]
+    return found
+
+
+def deepened(records, at, kinds, draw):
+    """Parentheses around a statement's last part, and about as many signs before them as may be."""
+    group = (canonical.NODE["Group"] + 256, 0)
+    sign = (canonical.NODE["UnaryOp"] + 256, draw.randrange(4))
+    return records[:-1] + [group] + [sign] * draw.randrange(56, 65) + records[-1:]
+
+
+WAYS = [
+    ("a kind", with_kind),
+    ("a value", with_value),
+    ("a count", with_count),
+    ("a record dropped", dropped),
+    ("a record doubled", doubled),
+    ("two records swapped", swapped),
+    ("deep in signs", deepened),
+]
+
+
+def kinds_by_count(trees):
+    """The kinds that stand with so many children in these trees."""
+    found = {}
+    for words in trees:
+        for word in words[::2]:
+            found.setdefault(word // 256, set()).add(word % 256)
+    return {count: sorted(kinds) for count, kinds in found.items()}
+
+
+def altered_groups(trees, args, tokens, write):
+    """Trees with one thing altered, each way a group; and words that are no records."""
+    draw = random.Random(1)
+    kinds = kinds_by_count(trees)
+    small = [words for words in dict.fromkeys(trees) if len(words) <= SMALL]
+    for name, way in WAYS:
+        found = []
+        while len(found) < ALTERED:
+            words = draw.choice(small)
+            records = list(zip(words[::2], words[1::2]))
+            other = tuple(word for record in way(records, draw.randrange(len(records)), kinds, draw) for word in record)
+            if other != words and other not in found:
+                found.append(other)
+        records_group("altered, " + name, found, args, tokens, write)
+    first, second = small[:2]
+    records_group("no records", [(), (31,), first[:-1], first + (0,), first + second], args, tokens, write)
+
+
+def records_group(name, found, args, tokens, write):
+    for words, row in written(found, args, tokens.lines).items():
+        write(" ".join(["a"] + [str(word) for word in words]) + "\n")
+        write(row + "\n")
+    write(">%s\n" % name)
+
+
+def main():
+    parser = argparse.ArgumentParser(description=__doc__, formatter_class=argparse.RawDescriptionHelpFormatter)
+    parser.add_argument("--oracle", required=True)
+    parser.add_argument("--build", required=True)
+    parser.add_argument("--seeds", default="1,2")
+    args = parser.parse_args()
+    sys.path.insert(0, args.oracle)
+    import tokens
+    write = sys.stdout.write
+    write(HEADER % {"seeds": args.seeds})
+    trees = group("document 01", [tokens.sheet(row) for row in TRIED], args, tokens, write)
+    for family in "abcdef":
+        sheets = []
+        for seed in args.seeds.split(","):
+            for name, count, options, least in FAMILIES:
+                if name == family:
+                    sheets += generated(args.oracle, family, int(seed), count, options, least)
+        trees += group("family " + family, sheets, args, tokens, write)
+    sheets = [toks for seed in args.seeds.split(",") for toks in generated(args.oracle, "mix", int(seed), 100, ["--max-tokens", "120"], 0)]
+    group("joined to 500 tokens", joined(sheets, (tokens.EOF, 0, 0)), args, tokens, write)
+    broken = [toks for row in DAMAGED for toks in damaged(tokens.sheet(row), (tokens.LEXERR, 0, 0))]
+    trees += group("lexer errors everywhere", broken, args, tokens, write)
+    trees += supplied_group(args, tokens, write)
+    altered_groups(trees, args, tokens, write)
+
+
+if __name__ == "__main__":
+    main()
