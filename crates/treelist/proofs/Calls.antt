@@ -13,9 +13,9 @@ use Rattle.tree.specs.Tree.{Tree, records}
 use Rattle.grammar.specs.Reading.Limit.{depth-limit, queue-limit}
 use Rattle.grammar.specs.Reading.Level.{next}
 use Rattle.grammar.specs.Reading.Result.{Error, Res, ok, bad, fail, stop, ifb}
-use Rattle.grammar.specs.Reading.Next.{error-answer, error-kind, queue-fits, fresh, Called, bare, halted, called, answered, next-stmt}
+use Rattle.grammar.specs.Reading.Next.{error-answer, error-kind, queue-fits, fresh, Accepted, Called, bare, halted, called, answered, next-stmt}
 use Rattle.grammar.specs.Laws.Progress.{Keep, k-ok, k-bad, k-fail, k-stop, Taken, Ended, next-takes}
-use Rattle.grammar.specs.Laws.Returned.{Fits, returned-fits}
+use Rattle.grammar.specs.Laws.Returned.{returned-accepted}
 use Rattle.grammar.specs.declared.Answer.the-variants.{Error as AError, End, Stopped, Refused}
 use Rattle.grammar.specs.declared.Reader.{Reader}
 use Rattle.treelist.specs.Printing.{Holds, goes-on}
@@ -103,13 +103,13 @@ module _ (T : List ℕ) (R : Reader) where
       (answered-nearer m (take (R .waiting) (R .errors)) (simp length-take (omega arith)))
       (called-nearer m ts (length-drop (2 * R .position) T) (next-takes depth-limit [] ts))
 
-  module _ (m : ℕ) {c : Called} (e : c ≡ next-stmt R T m) (f : Fits T R) where
+  module _ (m : ℕ) {c : Called} (e : c ≡ next-stmt R T m) (f : Accepted T R) where
     pub nearer : goes-on (c .step .answer) ≡ true → left T (c .step .reader) < left T R
-    nearer g = rw e (next-nearer m (returned-fits R T m f .few) (rw e at g))
+    nearer g = rw e (next-nearer m (returned-accepted R T m f .few) (rw e at g))
 
-    pub fits : Fits T (c .step .reader)
-    fits = rw e (returned-fits R T m f)
+    pub accepted : Accepted T (c .step .reader)
+    accepted = rw e (returned-accepted R T m f)
 
-pub fresh-fits : (T : List ℕ) → Fits T fresh
+pub fresh-accepted : (T : List ℕ) → Accepted T fresh
 unfolding queue-fits ifb
-fresh-fits T = record { within = omega arith; few = omega arith; stops = refl; queue = refl }
+fresh-accepted T = record { within = omega arith; few = omega arith; stops = refl; queue = refl }

@@ -3,19 +3,19 @@ use borrow.Author.Needs.{needs}
 use borrow.Author.Tests.{not-false}
 use mathlib.Core.Path.{_≡_, sym, _∙_}
 use lib.ListN.{length}
-use Rattle.grammar.specs.Laws.Returned.{Fits}
-use Rattle.treelist.proofs.Calls.{held, left, nearer, fits, fresh-fits}
+use Rattle.grammar.specs.Reading.Next.{Accepted}
+use Rattle.treelist.proofs.Calls.{held, left, nearer, accepted, fresh-accepted}
 use Rattle.treelist.proofs.print_answers.Statement.{statement}
 use Rattle.treelist.proofs.print_answers.Tie as tie
 
 abbrev Inv-loop : tie.InvT-loop
-Inv-loop tokens store₀ reader₀ store reader = (length store ≡ length store₀) × Fits tokens reader
+Inv-loop tokens store₀ reader₀ store reader = (length store ≡ length store₀) × Accepted tokens reader
 
 abbrev μ-loop : tie.MeasureT-loop
 μ-loop tokens store₀ reader₀ store reader = left tokens reader
 
 loop-holds : tie.Need-loop-holds Inv-loop μ-loop
-loop-holds c = (search needs, fresh-fits _)
+loop-holds c = (search needs, fresh-accepted _)
 
 next-stmt-requires : tie.Need-next-stmt-requires Inv-loop μ-loop
 next-stmt-requires c κs = search needs
@@ -35,7 +35,7 @@ loop-less c =
     (sym (c .before .before .print .ensures) ∙ not-false _ (c .before .if1 .left))
 
 loop-again : tie.Need-loop-again Inv-loop μ-loop
-loop-again c = (search needs, fits _ _ _ (c .before .before .before .before .before .before .next-stmt .ensures) (c .before .before .before .before .before .before .before .before .loop .inv .1))
+loop-again c = (search needs, accepted _ _ _ (c .before .before .before .before .before .before .next-stmt .ensures) (c .before .before .before .before .before .before .before .before .loop .inv .1))
 
 pub print-answers-spec : {M : Type 1} → statement M
 print-answers-spec =
