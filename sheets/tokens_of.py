@@ -9,19 +9,19 @@ The small language of these sheets: the words, signs and numbers of Sphinx, name
 from 0, in the order in which they first stand. A character that starts no token is a lexer error, token 76. A
 token's newline is 1 where it is the first one of its line. Token numbers are the places in the Rust's enum `Token`.
 """
+import os
 import re
 import struct
 import sys
 
-TEXTS = """( ) { } [ ] , : ; ... @
-+ - * / % ** ~ & | ^ << >>
-+= -= *= /= %= &= |= ^= <<= >>=
-< <= > >= == != = .
-and or not true false nil let var local nonlocal del
-if then elif else begin loop while for in do
-continue break return fun class assert end""".split()
+sys.dont_write_bytecode = True  # no compiled files beside the sources
+sys.path.insert(0, os.path.join(os.path.dirname(os.path.abspath(__file__)), "..", "compare", "oracle"))
+from tokens import EOF, FLOAT, INT, LABEL, LEXERR, NAME, STRING
+import tokens as table
+
+# the table has the signs of xor as ^^ and ^^=
+TEXTS = [text.replace("^^", "^") for text in table.TEXTS[:NAME]]
 KIND = {text: kind for kind, text in enumerate(TEXTS)}
-NAME, STRING, INT, FLOAT, LABEL, COMMENT, EOF, LEXER_ERROR = range(69, 77)
 SIGNS = sorted((t for t in TEXTS if not t.isalpha()), key=len, reverse=True)
 TOKEN = re.compile(r"""(?P<float>\d+\.\d+)|(?P<int>\d+)|(?P<label>::[A-Za-z_]\w*)|(?P<word>[A-Za-z_]\w*)
     |"(?P<string>[^"\n]*)"|(?P<sign>%s)|(?P<other>\S)""" % "|".join(map(re.escape, SIGNS)), re.X)
@@ -42,7 +42,7 @@ def tokens(text, names):
                 token = (FLOAT, struct.unpack("<Q", struct.pack("<d", float(piece)))[0])
             else:
                 token = {"label": lambda: (LABEL, number(piece[2:])), "string": lambda: (STRING, number(piece)),
-                         "sign": lambda: (KIND[piece], 0), "other": lambda: (LEXER_ERROR, 0)}[what]()
+                         "sign": lambda: (KIND[piece], 0), "other": lambda: (LEXERR, 0)}[what]()
             found.append((token[0], newline, token[1]))
             newline = 0
     return found + [(EOF, 1, 0)]

@@ -20,6 +20,9 @@ import subprocess
 import sys
 import tempfile
 
+sys.dont_write_bytecode = True  # no compiled files beside the sources
+import supplied
+
 HEADER = """-- Scratch: sheets and what they come to.
 use mathlib.Core.Path.{_≡_, refl}
 use mathlib.Core.Bool.{Bool, true}
@@ -46,13 +49,13 @@ always ts = just true
 """
 
 
-def word_list(line_rows):
-    """the words of a sheet's lines"""
-    words = []
-    for row in line_rows:
-        kind, newline, value = map(int, re.match(r"token=(\d+) newline=(\d+) value=(\d+)$", row).groups())
-        words += [kind + 256 * newline, value]
-    return words
+def words(toks):
+    """two for each token"""
+    return [word for kind, newline, value in toks for word in (kind + 256 * newline, value)]
+
+
+def token(row):
+    return map(int, re.match(r"token=(\d+) newline=(\d+) value=(\d+)$", row).groups())
 
 
 def sheets_of(text):
@@ -66,15 +69,6 @@ def sheets_of(text):
     return found
 
 
-def supplied(path):
-    """the sheets of canonical.txt with their canonical tokens"""
-    pairs = []
-    for rows in sheets_of(open(path).read()):
-        cut = rows.index("canonical")
-        pairs.append((word_list(rows[:cut]), word_list(rows[cut + 1:])))
-    return pairs
-
-
 def clean_sheets(oracle, build, seeds, count, most):
     """generated sheets that oracle01 reads without an error"""
     found = []
@@ -84,7 +78,7 @@ def clean_sheets(oracle, build, seeds, count, most):
         for rows, answers in zip(sheets_of(made), sheets_of(said)):
             kinds = [row.split()[0] for row in answers if row.startswith("answer=")]
             if len(rows) <= most and len(kinds) > 1 and kinds[-1] == "answer=end" and set(kinds[:-1]) == {"answer=tree"}:
-                found.append(word_list(rows))
+                found.append(words(map(token, rows)))
     return found
 
 
@@ -142,7 +136,7 @@ def main():
     parser.add_argument("--max-tokens", type=int, default=40)
     parser.add_argument("--chunk", type=int, default=40)
     given = parser.parse_args()
-    pairs = supplied(os.path.join(given.oracle, "canonical.txt"))
+    pairs = [tuple(words(toks) for toks in pair) for pair in supplied.pairs(os.path.join(given.oracle, "canonical.txt"))]
     clean = clean_sheets(given.oracle, given.build, given.seeds.split(","), given.count, given.max_tokens)
     result = prove(given.repo, scratch_module(pairs, clean, given.chunk))
     refused = sorted(set(re.findall(r"error: `((?:written|rewritten|again)-\d+)`", result.stdout + result.stderr)))

@@ -21,6 +21,7 @@ import sys
 
 sys.dont_write_bytecode = True  # no compiled files beside the sources
 import canonical
+import supplied
 
 HEADER = """# Sheets with the answers that the published parser gave for them, and what the writer makes of their trees. Made by
 #   tools/make_sheets.py --oracle DIR --build DIR --seeds %(seeds)s
@@ -214,22 +215,6 @@ def group(name, sheets, args, tokens, write):
     return trees
 
 
-def supplied(oracle):
-    """The sheets of canonical.txt and their canonical tokens."""
-    sheets, runs = [], []
-    with open(os.path.join(oracle, "canonical.txt")) as rows:
-        for row in rows:
-            if row.startswith("sheet"):
-                sheets.append([])
-                now = sheets[-1]
-            elif row.startswith("canonical"):
-                runs.append([])
-                now = runs[-1]
-            elif row.startswith("token="):
-                now.append(tuple(int(field.split("=")[1]) for field in row.split()))
-    return sheets, runs
-
-
 def texts_of(run, rows, last):
     """The tokens of each statement of a run: as the published parser reads it, up to the semicolon where a tree ends."""
     begin, texts = 0, []
@@ -244,7 +229,7 @@ def texts_of(run, rows, last):
 
 def supplied_group(args, tokens, write):
     """The sheets of canonical.txt, each tree with its supplied tokens. Gives the trees."""
-    sheets, runs = supplied(args.oracle)
+    sheets, runs = zip(*supplied.pairs(os.path.join(args.oracle, "canonical.txt")))
     trees = []
     oracle = os.path.join(args.build, "oracle")
     for toks, run, rows, again in zip(sheets, runs, listing(oracle, sheets, tokens.lines), listing(oracle, runs, tokens.lines)):
