@@ -1,6 +1,7 @@
 -- Sheets that meet all that the theorem supposes, and one that does not: so it speaks of something, and not of everything. Assumes nothing.
 -- `a; b` and `a b` have the same canonical tokens, and so the same remaining answers; `c; a b` behind two calls, of which one was refused, has the same again.
--- `(a)` and `a` have other canonical tokens, and other remaining answers. Of `)` nothing is supposed: it is not clean.
+-- `(a)` and `a` have other canonical tokens, and other remaining answers. Of `)` nothing is supposed: it is not clean. And of an entry that answers rightly and
+-- leaves its reader where it was the contract does not hold: `not-moved`.
 use mathlib.Core.Path.{_≡_, refl, sym, ap, subst}
 use mathlib.Core.Logic.{_≢_}
 use mathlib.Core.Bool.{Bool, true, false}
@@ -25,6 +26,7 @@ use Rattle.grammar.specs.Canonical.Writing.{clean-from, clean-reading}
 use Rattle.grammar.specs.Laws.Back.Levels.{run-length}
 use Rattle.grammar.specs.Sheets as Sheets
 use Rattle.grammar.specs.Theorems.{sound, decoded}
+use Rattle.grammar.specs.declared.Answer.{Answer}
 use Rattle.grammar.specs.declared.Reader.{Reader}
 use Rattle.agreement.specs.Calls.{Entry, by-value, kept, Call, Gave, Gives, Run, no-call, a-call, defined, Calm, unread}
 use Rattle.agreement.specs.Answers.{Seen, tree, end, stopped, Afresh, Remaining, Shows, the-end, a-tree, Lacks62, lacks-none, lacks-more}
@@ -33,7 +35,7 @@ use Rattle.agreement.specs.Theorem.{two-sheets}
 use Rattle.agreement.specs.Laws.Step.{fresh-accepted, before-fresh}
 use Rattle.agreement.specs.Laws.Clean.{answers, case-of, clean-reads, clean-only, shown-clean}
 use Rattle.agreement.specs.Laws.Whole.{clean-is, clean-of, run-clean}
-use Rattle.agreement.specs.Laws.Calls.{gave-of}
+use Rattle.agreement.specs.Laws.Calls.{gave-of, given-is}
 
 -- the definition's own calls are a run of the entries
 gives-own : (entry : Entry) (R : Reader) (T S : List ℕ) → Gives entry R T S (gave-of (next-stmt R T (length S)))
@@ -162,3 +164,10 @@ other-grouped xs ys h i e =
 pub not-clean : (xs : List Seen) (f : Forest) → Afresh (symbol Kind.CloseParen eof) xs → Shows xs f → ⊥
 unfolding Sheets.canonical
 not-clean xs f r s = nothing-just (clean-is refl (shown-clean r s (before-fresh refl (omega arith))))
+
+-- an entry that answers the first statement of `a b` rightly, and leaves the reader where it was, does not meet its contract
+pub not-moved : (entry : Entry) (answer : Answer) (store : List ℕ) → Gives entry fresh (name 0 (name 1 eof)) (replicate 48 7) (record { answer = answer; reader = fresh; store = store }) → ⊥
+unfolding Sheets.canonical
+not-moved entry answer store h =
+    let z : _≡_ {A = ℕ} 0 1 = ap (λ g. g .reader .position) (given-is entry fresh (name 0 (name 1 eof)) (replicate 48 7) (record { answer = answer; reader = fresh; store = store }) h) in
+    omega arith

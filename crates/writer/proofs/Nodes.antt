@@ -1,20 +1,18 @@
 -- A node from its end: the children from the last, each with the token behind it, and what stands around them. Holds for any tree. Assumes nothing.
 use mathlib.Core.Path.{_≡_, refl, sym, ap, _∙_, subst}
-use mathlib.Core.Bool.{Bool, true, false, cond, _&&_}
+use mathlib.Core.Bool.{Bool, true, false, _&&_}
 use mathlib.Core.List.{List, [], _∷_, _++_}
 use Prim.Native.Nat.{ℕ, suc, _+_, _-_, _/_, _%_, _≤_, _<_}
 use native.Mathlib.Omega.{arith}
-use lib.Dec.{leb, eqb}
+use lib.Dec.{leb}
 use lib.ListN.{length, getD}
-use borrow.Author.Tests.{le-leb, lt-leb, eqb-true}
-use Rattle.operator.specs.Below.{most-below}
-use Rattle.tree.specs.NodeKind
+use borrow.Author.Tests.{le-leb, lt-leb}
 use Rattle.tree.specs.Tree.{Tree, Forest, node, none, more, count}
 use Rattle.tree.specs.Maybe.{just}
 use Rattle.tree.specs.Records.{back}
-use Rattle.writer.specs.Choice.{where-is}
-use Rattle.writer.specs.Form.{Fun, place-of, base, first-deeper, second-deeper, deeper}
+use Rattle.writer.specs.Form.{place-of, base, deeper}
 use Rattle.writer.specs.Layout.{form-of, text, texts, within, withins}
+use Rattle.writer.specs.Same.Depth.{deeper-base}
 use Rattle.writer.specs.Post.{StepAs, Wrote-tree}
 use Rattle.writer.specs.Stack.{At, Says, kind-in, value-in, children-in}
 use Rattle.writer.specs.Text.{emit, opened, closed, Holds, Put, Opened}
@@ -25,35 +23,9 @@ use Rattle.writer.proofs.Laws.{pop, back-append, length-back}
 use Rattle.writer.proofs.Kids.{from-first, from-last, test-back}
 use Rattle.writer.proofs.Writing.{under-top}
 
--- ---------------------------------------------------------------- a child is never deeper than its node's base
-first-base : (k m : ℕ) → k < 256 → first-deeper k m ≤ base k
-unfolding first-deeper where-is base
-first-base k m h = go (eqb m NodeKind.Pack) refl
-  where
-    go : (b : Bool) → eqb m NodeKind.Pack ≡ b → first-deeper k m ≤ base k
-    go true e = rw (eqb-true m NodeKind.Pack e) (most-below (λ (n : ℕ). first-deeper n NodeKind.Pack) base 256 tt k h)
-    go false e = rw e (most-below (λ (n : ℕ). first-deeper n 0) base 256 tt k h)
-
-second-base : (k m : ℕ) → k < 256 → second-deeper k m ≤ base k
-unfolding second-deeper where-is base
-second-base k m h = go (eqb m Fun) refl
-  where
-    go : (b : Bool) → eqb m Fun ≡ b → second-deeper k m ≤ base k
-    go true e = rw (eqb-true m Fun e) (most-below (λ (n : ℕ). second-deeper n Fun) base 256 tt k h)
-    go false e = rw e (most-below (λ (n : ℕ). second-deeper n 0) base 256 tt k h)
-
-deeper-base : (k m j : ℕ) → k < 256 → deeper k m j ≤ base k
-unfolding deeper
-deeper-base k m j h = go (eqb j 1) (eqb j 2)
-  where
-    go : (b c : Bool) → cond b (first-deeper k m) (cond c (second-deeper k m) 0) ≤ base k
-    go true c = first-base k m h
-    go false true = second-base k m h
-    go false false = omega arith
-
--- so that a depth which is enough for the node has room for its child
+-- a depth that is enough for the node has room for its child, which is never deeper than the node's base
 pub below-base : {b c d : ℕ} (w m j : ℕ) → c ≡ deeper (w % 256) m j → b ≡ base (w % 256) → b ≤ d → c ≤ d
-below-base w m j e g h = omega (arith, deeper-base (w % 256) m j (omega arith))
+below-base w m j e g h = omega (arith, deeper-base (w % 256) m j)
 
 -- ---------------------------------------------------------------- from the last child as from the first
 -- the words of some children of a node, the last one on top, before the words r

@@ -6,7 +6,7 @@ use mathlib.Core.List.{List, [], _∷_}
 use Prim.Native.Nat.{ℕ, _-_, _*_, _/_}
 use native.Mathlib.Omega.{arith}
 use lib.Dec.{eqb}
-use lib.ListN.{length, take, drop, replicate, length-replicate}
+use lib.ListN.{length, take, replicate, length-replicate}
 use Rattle.tree.specs.Tree.{Tree, Forest, records}
 use Rattle.grammar.specs.Reading.Limit.{depth-limit, store-share}
 use Rattle.grammar.specs.Reading.Result.{Error, Res, ok, bad, fail, stop, ifb}
@@ -16,8 +16,9 @@ use Rattle.grammar.specs.Laws.Returned.{returned-accepted}
 use Rattle.grammar.specs.declared.Answer.{Answer}
 use Rattle.grammar.specs.declared.Answer.the-variants.{Tree as ATree, Error as AError, End, Stopped, Refused}
 use Rattle.grammar.specs.declared.Reader.{Reader}
-use Rattle.agreement.specs.Calls.{Entry, by-value, kept, Call, Gave, Gives, Run, no-call, a-call, defined}
+use Rattle.agreement.specs.Calls.{Entry, by-value, kept, Call, Gave, Gives, Run, no-call, a-call, defined, unread}
 use Rattle.agreement.specs.Answers.{Seen, tree, seen, seen-of, Remaining, ended, answered as goes-on, passed}
+use Rattle.agreement.specs.Laws.Ways.{on-call}
 use Rattle.agreement.specs.Laws.Step.{Before, before-next}
 use Rattle.agreement.specs.Laws.Clean.{Clean, c-end, c-tree, answers, seen-tree, step-is}
 
@@ -67,11 +68,6 @@ pub record Same (m : ℕ) (R : Reader) (c : Called) : Type 0 where
 not-refused : {m : ℕ} {R : Reader} {c : Called} → is-refused (c .step .answer) ≡ false → Same m R c
 not-refused h = record { how = λ e. absurd (true≢false (sym e ∙ h)) }
 
-same-if : {m : ℕ} {R : Reader} (b : Bool) {x y : Unit {0} → Called} → ((u : Unit {0}) → Same m R (x u)) → ((u : Unit {0}) → Same m R (y u)) → Same m R (ifb b x y)
-unfolding ifb
-same-if true f g = f tt
-same-if false f g = g tt
-
 same-answered : {m : ℕ} {R : Reader} (q : List Error) → Same m R (answered m R q)
 same-answered [] = not-refused refl
 same-answered (x ∷ q) = not-refused refl
@@ -88,15 +84,10 @@ same-called n (fail x q r) = not-refused (go (eqb x 0))
 same-called n (stop k) = not-refused refl
 
 pub refused-same : (R : Reader) (T : List ℕ) (m : ℕ) → Same m R (next-stmt R T m)
-unfolding next-stmt
 refused-same R T m =
-    same-if _ (λ u. not-refused refl) λ u.
-    same-if _ (λ u. record { how = λ e. refl }) λ u. same-if _
-    (λ u. same-if _ (λ u. not-refused refl) λ u.
-    same-if _ (λ u. same-answered (take (R .waiting) (R .errors))) λ u.
-    same-if _ (λ u. record { how = λ e. refl }) λ u.
-    same-called _ (next depth-limit [] (drop (2 * R .position) T)))
-    (λ u. record { how = λ e. refl })
+    let unchanged : (n : ℕ) → Same m R (bare m (Refused n) R) = λ n. record { how = λ e. refl } in
+    on-call (Same m R) R T m (not-refused refl) (λ x. unchanged _) (not-refused refl) (λ x. same-answered (take (R .waiting) (R .errors))) (λ x. unchanged _) λ x y.
+    same-called _ (next depth-limit [] (unread T R))
 
 module _ {T : List ℕ} where
   -- the remaining answers on a sheet before words that read cleanly: the trees, and then the end

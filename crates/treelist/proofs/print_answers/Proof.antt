@@ -4,7 +4,9 @@ use borrow.Author.Tests.{not-false}
 use mathlib.Core.Path.{_≡_, sym, _∙_}
 use lib.ListN.{length}
 use Rattle.grammar.specs.Reading.Next.{Accepted}
-use Rattle.treelist.proofs.Calls.{held, left, nearer, accepted, fresh-accepted}
+use Rattle.agreement.specs.Corollaries.{left-over}
+use Rattle.agreement.specs.Laws.Step.{fresh-accepted}
+use Rattle.treelist.proofs.Calls.{held, nearer, accepted}
 use Rattle.treelist.proofs.print_answers.Statement.{statement}
 use Rattle.treelist.proofs.print_answers.Tie as tie
 
@@ -12,7 +14,7 @@ abbrev Inv-loop : tie.InvT-loop
 Inv-loop tokens store₀ reader₀ store reader = (length store ≡ length store₀) × Accepted tokens reader
 
 abbrev μ-loop : tie.MeasureT-loop
-μ-loop tokens store₀ reader₀ store reader = left tokens reader
+μ-loop tokens store₀ reader₀ store reader = left-over tokens reader
 
 loop-holds : tie.Need-loop-holds Inv-loop μ-loop
 loop-holds c = (search needs, fresh-accepted _)

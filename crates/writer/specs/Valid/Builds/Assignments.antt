@@ -25,7 +25,7 @@ use Rattle.writer.specs.Check.{class-of, function-form, name-given, grou
 use Rattle.writer.specs.Valid.Meets.Demands.{by-fits}
 use Rattle.writer.specs.Valid.Builds.Classes.{Ends, bound, as-atom, as-tight, as-plain, as-any, Expression, Any, Means, Kid, Rule, value-of, Named, tables}
 use Rattle.writer.specs.Valid.Builds.Ladder.{any-of}
-use Rattle.writer.specs.Valid.Builds.Places.{same-kind, in-range, no-kid, any-class, at-class, expression, any-in, plain-in, simple, exactly}
+use Rattle.writer.specs.Valid.Builds.Places.{same-kind, in-range, no-kid, any-class, at-class, any-in, plain-in, simple, exactly}
 
 -- an assignment's operator, 0 or 1 + it, has a token
 assign-codes : (n : ℕ) → n < 11 → assign-code (assign-token n) ≡ suc n
