@@ -5,6 +5,7 @@ mod Texts
 mod Memory
 mod Places
 mod Kids
+mod Fitted
 mod Targets
 mod Chains
 mod Validity

@@ -2,11 +2,10 @@
 use mathlib.Core.Path.{_≡_, refl}
 use mathlib.Core.List.{List, _∷_}
 use Prim.Native.Nat.{ℕ}
-use native.Mathlib.Omega.{arith}
 use Rattle.tree.specs.Tree.{Tree, node, count}
 use Rattle.tree.specs.Maybe.{Maybe, nothing, just}
-use Rattle.writer.specs.Stack.{At, Known, SpotAs, Spot, Somewhere, Reach, Says, Last-of, Kid-of, count-in, children-in, last-in, kid-in}
-use Rattle.writer.proofs.Laws.{at-many}
+use Rattle.writer.specs.Stack.{At, SpotAs, Spot, Somewhere, Says, Last-of, Kid-of, count-in, children-in, last-in, kid-in}
+use Rattle.writer.specs.Memory.{Known, Reach}
 
 -- a tree ends there
 pub stands : {L : List ℕ} {p : ℕ} {t : Tree} {s : List Tree} → At L p (t ∷ s) → Spot L p (just t) s
@@ -45,14 +44,6 @@ pub count-kids : (m : Maybe Tree) → count-in m ≡ count (children-in m)
 unfolding count
 count-kids nothing = refl
 count-kids (just (node k v f)) = refl
-
--- what is said of the tree that ends at a place, where one does
-pub of-tree : {A : Type 0} {L K S : List ℕ} {p : ℕ} {what : Maybe Tree → A} {r : A} → Known L K S p → ((t : Tree) (s : List Tree) → At L p (t ∷ s) → r ≡ what (just t)) → Says L p what r
-of-tree {L = L} {p = p} {what = what} {r = r} y e = record { how = λ m s h. go m s (h .how) }
-  where
-    go : (m : Maybe Tree) (s : List Tree) → SpotAs L p m s → r ≡ what m
-    go nothing s z = absurd (omega (arith, at-many (y .here)))
-    go (just t) s a = e t s a
 
 -- a place that is not 0 is the end of a tree
 pub a-tree : {L K S : List ℕ} {p : ℕ} → Reach L K S p → (p ≡ 0 → ⊥) → Known L K S p

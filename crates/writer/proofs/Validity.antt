@@ -6,21 +6,15 @@ use Prim.Native.Nat.{ℕ, zero, suc, _+_, _-_, _≤_, _<_}
 use native.Mathlib.Omega.{arith}
 use lib.Dec.{eqb}
 use lib.ListN.{length}
-use types.Run.{OneOf}
-use denote.Enum.Declared.{tagOf}
 use Rattle.tree.specs.Tree.{Tree, Forest, node, none, more}
 use Rattle.tree.specs.Maybe.{just}
 use Rattle.tree.specs.Records.{stack-records, back}
-use Rattle.writer.specs.declared.legal.Fitting.{Fitting}
-use Rattle.writer.specs.declared.legal.Fitting.the-variants.{From, Not}
 use Rattle.writer.specs.Demand.{demand, fits}
 use Rattle.writer.specs.Kinds.{unlabelled, closed}
 use Rattle.writer.specs.Sound.{sound}
 use Rattle.writer.specs.Class as Class
 use Rattle.writer.specs.Stack.{At, kind-in, count-in, value-in, children-in, maybe}
 use Rattle.writer.specs.Check.{class-of, class-in, mode-of, begins-labelled, ends-single, banned, kids-fit, node-fits, all-fit, all-fits, legal-tree}
-use Rattle.writer.specs.Verdict.{Fit}
-use Rattle.writer.proofs.legal.Fitting.{the-type}
 use Rattle.writer.proofs.Laws.{pop, at-many, at-length}
 use Rattle.writer.proofs.Kids.{from-first}
 
@@ -147,14 +141,3 @@ unfolding legal-tree stack-fits
 whole-good t e ce =
     let a : all-fit t ≡ true = sym (and-true (all-fit t)) ∙ e in
     rw (a, ce, class-same t)
-
--- what a node's check says
-pub fit-done : {L : List ℕ} {p q : ℕ} {r : Fitting} → r ≡ From q → Fit L p r → (t : Tree) (s : List Tree) → At L p (t ∷ s) → (node-fits t ≡ true) × At L q s
-fit-done e w t s a = rw e at (w .how t s a)
-
-pub fit-not : {L : List ℕ} {p : ℕ} {r : Fitting} → r ≡ Not → Fit L p r → (t : Tree) (s : List Tree) → At L p (t ∷ s) → node-fits t ≡ false
-fit-not e w t s a = rw e at (w .how t s a)
-
-pub not-from : (r : Fitting) → OneOf (1 ∷ []) (tagOf the-type r) → r ≡ Not
-not-from (From q) o = absurd (omega arith)
-not-from Not o = refl

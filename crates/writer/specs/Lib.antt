@@ -9,6 +9,7 @@ pub mod Tokens
 pub mod Stack
 pub mod Text
 pub mod Check
+pub mod Memory
 pub mod Valid
 pub mod Layout
 pub mod Same

@@ -3,7 +3,7 @@ use mathlib.Core.Path.{_≡_}
 use mathlib.Core.Bool.{Bool, true, false}
 use mathlib.Core.List.{List, [], _∷_}
 use Prim.Native.Nat.{ℕ, zero, suc, _-_, _≤_}
-use lib.ListN.{length, take, getD}
+use lib.ListN.{length, take}
 use Rattle.tree.specs.Tree.{Tree, Forest, node, none, more, count}
 use Rattle.tree.specs.Maybe.{Maybe, nothing, just}
 use Rattle.tree.specs.Decode.{decode}
@@ -33,16 +33,6 @@ pub record Shape (L : List ℕ) (r : Bool) : Type 0 where
 -- the tree that ends at p begins at r
 pub record Skipped (L : List ℕ) (p r : ℕ) : Type 0 where
   pub how : (t : Tree) (s : List Tree) → At L p (t ∷ s) → At L r s
-
--- what is remembered of where trees begin is right, at every place
-pub record Memo (L K S : List ℕ) : Type 0 where
-  pub how : (i : ℕ) → Skipped L (getD K i 0) (getD S i 0)
-
-pub record Known (L K S : List ℕ) (p : ℕ) : Type 0 where
-  pub top : Tree
-  pub rest : List Tree
-  pub here : At L p (top ∷ rest)
-  pub memo : Memo L K S
 
 -- a place that is 0 and no tree's end, or the end of a tree
 abbrev pub SpotAs : List ℕ → ℕ → Maybe Tree → List Tree → Type 0
@@ -78,11 +68,6 @@ children-in (just (node k v f)) = f
 abbrev pub maybe : {A : Type 0} → A → (Tree → A) → Maybe Tree → A
 maybe a g nothing = a
 maybe a g (just t) = g t
-
--- a place, and what is remembered of where trees begin
-pub record Reach (L K S : List ℕ) (p : ℕ) : Type 0 where
-  pub place : Somewhere L p
-  pub memo : Memo L K S
 
 -- the answer r is what is to be said of the tree at p
 pub record Says {A : Type 0} (L : List ℕ) (p : ℕ) (what : Maybe Tree → A) (r : A) : Type 0 where

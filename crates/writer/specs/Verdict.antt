@@ -5,31 +5,30 @@ use mathlib.Core.List.{List, [], _∷_}
 use Prim.Native.Nat.{ℕ}
 use lib.ListN.{length}
 use Rattle.tree.specs.Tree.{Tree}
-use Rattle.writer.specs.declared.legal.Fitting.{Fitting}
-use Rattle.writer.specs.declared.legal.Fitting.the-variants.{From, Not}
+use Rattle.writer.specs.declared.records.Fitting.{Fitting}
+use Rattle.writer.specs.declared.records.Fitting.the-variants.{From, Not}
 use Rattle.writer.specs.Demand.{fits}
-use Rattle.writer.specs.Stack.{At, Memo}
-use Rattle.writer.specs.Check.{class-of, banned, node-fits, legal-tree}
+use Rattle.writer.specs.Stack.{At}
+use Rattle.writer.specs.Memory.{Memo, Table}
+use Rattle.writer.specs.Check.{class-of, banned, legal-tree}
 
 -- the tree at q can be a child of a node
 pub record Kid-fits (L : List ℕ) (kind value asked q : ℕ) (r : Bool) : Type 0 where
   pub how : (t : Tree) (s : List Tree) → At L q (t ∷ s) → r ≡ fits asked (class-of t) && not (banned kind value t)
 
--- a node's record and its children fit, and its tree begins at q; or they don't
+-- a tree passes a test of its children and begins at q; or it doesn't pass
 abbrev pub FitAs : Bool → List ℕ → List Tree → Fitting → Type 0
 FitAs b L s (From q) = (b ≡ true) × At L q s
 FitAs b L s Not = b ≡ false
 
-pub record Fit (L : List ℕ) (p : ℕ) (r : Fitting) : Type 0 where
-  pub how : (t : Tree) (s : List Tree) → At L p (t ∷ s) → FitAs (node-fits t) L s r
+pub record Fit (L : List ℕ) (p : ℕ) (test : Tree → Bool) (r : Fitting) : Type 0 where
+  pub how : (t : Tree) (s : List Tree) → At L p (t ∷ s) → FitAs (test t) L s r
 
--- the words are those of one tree; what is remembered of where trees begin is right, and has a place for each of 49,152 ends
+-- the words are those of one tree, and what is remembered is right
 pub record Whole (L K S : List ℕ) : Type 0 where
   pub top : Tree
   pub here : At L (length L) (top ∷ [])
-  pub memo : Memo L K S
-  pub keys : length K ≡ 49152
-  pub starts : length S ≡ 49152
+  pub table : Table L K S
 
 -- the whole is a statement that a clean reading, limits aside, can give; what is remembered is right
 pub record Legal (L K S : List ℕ) (r : Bool) : Type 0 where

@@ -2,7 +2,7 @@
 ghost use lib.ListN.{length};
 ghost use Rattle.grammar.specs.Contract.{Writes};
 ghost use Rattle.writer.specs.Post.{Held, Wrote-tree, Fronted, Ran-out};
-ghost use Rattle.writer.specs.Stack.{Known};
+ghost use Rattle.writer.specs.Memory.{Known};
 
 mod choice;
 mod class;
@@ -12,6 +12,7 @@ mod kinds;
 mod legal;
 mod mode;
 mod node;
+mod noted;
 mod operators;
 mod records;
 mod sound;
@@ -60,14 +61,14 @@ pub enum Step {
 fn write_tree(
     records: &[u64],
     keys: &Places,
-    starts: &Places,
+    facts: &Places,
     output: &mut [u64],
     depth: u64,
     place: u64,
     from: usize,
     end: usize,
 ) -> Step
-    requires { ⌜ Known (now records) (now keys) (now starts) from × Held end (now output) ⌝ }
+    requires { ⌜ Known (now records) (now keys) (now facts) from × Held end (now output) ⌝ }
     ensures { λ r. ⌜ Wrote-tree (now (records .entry)) depth place from end (now (output .entry)) (now (output .exit)) r ⌝ }
 {
     let mut at = place;
@@ -75,7 +76,7 @@ fn write_tree(
     let mut a = end;
     while records[p - 2] == OPERATOR {
         let number = records[p - 1];
-        let r = write_tree(records, keys, starts, output, depth, OWN, p - 2, a);
+        let r = write_tree(records, keys, facts, output, depth, OWN, p - 2, a);
         let Step::Done(q, e) = r else {
             return r;
         };
@@ -83,7 +84,7 @@ fn write_tree(
         p = q;
         at = OWN;
     }
-    write_node(records, keys, starts, output, depth, at, p, a)
+    write_node(records, keys, facts, output, depth, at, p, a)
 }
 
 // The same, of a tree that is no operator with two sides: what stands behind the children, the children from the last to the first, each
@@ -91,14 +92,14 @@ fn write_tree(
 fn write_node(
     records: &[u64],
     keys: &Places,
-    starts: &Places,
+    facts: &Places,
     output: &mut [u64],
     depth: u64,
     place: u64,
     p: usize,
     end: usize,
 ) -> Step
-    requires { ⌜ Known (now records) (now keys) (now starts) p × Held end (now output) ⌝ }
+    requires { ⌜ Known (now records) (now keys) (now facts) p × Held end (now output) ⌝ }
     ensures { λ r. ⌜ Wrote-tree (now (records .entry)) depth place p end (now (output .entry)) (now (output .exit)) r ⌝ }
 {
     let word = records[p - 2];
@@ -107,7 +108,7 @@ fn write_node(
     if depth < base(kind) {
         return Step::Deep;
     }
-    let form = form_at(records, keys, starts, p, place);
+    let form = form_at(records, keys, facts, p, place);
     let n = word / 256;
     let mut j = n;
     let mut q = p - 2;
@@ -116,7 +117,7 @@ fn write_node(
         let b = put(output, a, after_token(kind, value, form, n, j), 0);
         let below = depth - deeper(kind, form, j);
         let its = place_of(kind, value, form, j);
-        let r = write_tree(records, keys, starts, output, below, its, q, b);
+        let r = write_tree(records, keys, facts, output, below, its, q, b);
         let Step::Done(q2, e) = r else {
             return r;
         };
@@ -143,13 +144,13 @@ fn written(output: &mut [u64], b: usize) -> Written
 }
 
 // The tree whose records these are and its semicolon, at the output's front, and zeros behind them.
-fn run_out(records: &[u64], keys: &Places, starts: &Places, output: &mut [u64]) -> Written
-    requires { ⌜ Known (now records) (now keys) (now starts) (length (now records)) ⌝ }
+fn run_out(records: &[u64], keys: &Places, facts: &Places, output: &mut [u64]) -> Written
+    requires { ⌜ Known (now records) (now keys) (now facts) (length (now records)) ⌝ }
     ensures { λ r. ⌜ Ran-out (now (records .entry)) (now (output .entry)) (now (output .exit)) r ⌝ }
 {
     let a = put(output, output.len() + 2, kind::SEMICOLON, 0);
     let n = records.len();
-    let r = write_tree(records, keys, starts, output, DEPTH_LIMIT, OWN, n, a);
+    let r = write_tree(records, keys, facts, output, DEPTH_LIMIT, OWN, n, a);
     match r {
         Step::Done(_, b) => written(output, b),
         Step::Deep => {
@@ -168,11 +169,11 @@ pub fn write_stmt(records: &[u64], output: &mut [u64]) -> Written
         clear(output, 0);
         return Written::Refused(NO_STATEMENT);
     }
-    let mut keys = [0usize; 49152];
-    let mut starts = [0usize; 49152];
-    if !legal(records, &mut keys, &mut starts) {
+    let mut keys = [0usize; 48000];
+    let mut facts = [0usize; 48000];
+    if !legal(records, &mut keys, &mut facts) {
         clear(output, 0);
         return Written::Refused(NO_STATEMENT);
     }
-    run_out(records, &keys, &starts, output)
+    run_out(records, &keys, &facts, output)
 }

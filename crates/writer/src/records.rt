@@ -2,10 +2,22 @@
 // ends two words before the node, and a child's next older sibling ends where the child's records begin. 0 is the end of no tree, and
 // stands for a child that is not there: its kind, the count of its children and its value are 0.
 ghost use Prim.Native.Nat.{_≤_};
-ghost use Rattle.writer.specs.Stack.{Here, Known, Somewhere, Reach, Shape, Skipped, Says, Last-of, Kid-of, kind-in, count-in, value-in};
+ghost use Rattle.writer.specs.Stack.{Here, Somewhere, Shape, Skipped, Says, Last-of, Kid-of, kind-in, count-in, value-in};
+ghost use Rattle.writer.specs.Memory.{Known, Reach};
 
-// What is remembered of trees, each at the place of its end: p / 2 % 49152.
-pub type Places = [usize; 49152];
+// What is remembered of trees. keys[i] is the end of a tree, or 0. facts[i], for i below TREES: where the tree begins, if it ends at p and i is
+// p / 2 % TREES; from TREES on: what seek_form says of the tree, which is an assignment of a function (noted.rt).
+pub type Places = [usize; 48000];
+
+pub const TREES: usize = 24576;
+
+pub const ALL: usize = 48000;
+
+// Whether a tree passed a test of its children, one by one from the last, and where it begins.
+pub enum Fitting {
+    From(usize),
+    Not,
+}
 
 // Whether the words are those of one tree: from the first to the last, by the number of trees that stand so far.
 pub fn shape(records: &[u64]) -> bool
@@ -74,14 +86,14 @@ fn skip(records: &[u64], p: usize) -> usize
     q
 }
 
-// The same, by what is known of some trees: keys[i] is the end of a tree (or 0), starts[i] where it begins.
-pub fn begin(records: &[u64], keys: &Places, starts: &Places, p: usize) -> usize
-    requires { ⌜ Known (now records) (now keys) (now starts) p ⌝ }
+// The same, looked up where it is remembered.
+pub fn begin(records: &[u64], keys: &Places, facts: &Places, p: usize) -> usize
+    requires { ⌜ Known (now records) (now keys) (now facts) p ⌝ }
     ensures { λ r. ⌜ Skipped (now (records .entry)) p r ⌝ }
 {
-    let i = p / 2 % 49152;
+    let i = p / 2 % TREES;
     if keys[i] == p {
-        return starts[i];
+        return facts[i];
     }
     skip(records, p)
 }
@@ -98,8 +110,8 @@ pub fn last_of(records: &[u64], p: usize) -> usize
 }
 
 // The child number j, from 1, of the tree that ends at p, or 0.
-pub fn kid_of(records: &[u64], keys: &Places, starts: &Places, p: usize, j: u64) -> usize
-    requires { ⌜ Reach (now records) (now keys) (now starts) p ⌝ }
+pub fn kid_of(records: &[u64], keys: &Places, facts: &Places, p: usize, j: u64) -> usize
+    requires { ⌜ Reach (now records) (now keys) (now facts) p ⌝ }
     requires { ⌜ 1 ≤ j ⌝ }
     ensures { λ r. ⌜ Kid-of (now (records .entry)) p j r ⌝ }
 {
@@ -110,7 +122,7 @@ pub fn kid_of(records: &[u64], keys: &Places, starts: &Places, p: usize, j: u64)
     let mut i = n;
     let mut q = p - 2;
     while j < i {
-        q = begin(records, keys, starts, q);
+        q = begin(records, keys, facts, q);
         i -= 1;
     }
     q

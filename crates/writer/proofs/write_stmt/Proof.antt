@@ -3,9 +3,7 @@ use mathlib.Core.Path.{refl, sym, _∙_}
 use mathlib.Core.List.{[]}
 use borrow.Author.Needs.{needs}
 use borrow.Author.Tests.{not-true, not-false}
-use Prim.Native.Nat.{ℕ}
-use lib.ListN.{length-replicate}
-use Rattle.writer.proofs.Memory.{memo-start}
+use Rattle.writer.proofs.Memory.{table-start}
 use Rattle.writer.proofs.Ending.{cleared}
 use Rattle.writer.proofs.Entry.{no-shape, a-shape, no-tree, illegal, legal}
 use Rattle.writer.proofs.write_stmt.Statement.{statement}
@@ -25,7 +23,7 @@ returns c = cleared (c .before .before .before .before .before .before .before .
 
 legal-requires : tie.Need-legal-requires
 legal-requires c κs = let z = a-shape (c .before .before .before .shape .ensures) (not-false _ (c .before .before .if1 .left)) in
-    record { top = z .0; here = z .2; memo = memo-start _ 49152 49152; keys = length-replicate {A = ℕ} 49152 0; starts = length-replicate {A = ℕ} 49152 0 }
+    record { top = z .0; here = z .2; table = table-start _ }
 
 clear-requires-2 : tie.Need-clear-requires-2
 clear-requires-2 c κs = search needs

@@ -24,10 +24,10 @@ pub record Going (L O₀ : List ℕ) (d place p k v m n a₀ : ℕ) (O : List �
   pub kept : length O ≡ length O₀
 
 abbrev pub Inv-loop : lts.InvT-loop
-Inv-loop records keys starts output₀ depth place p end word value kind form n j₀ q₀ a₀ output j q a = Going records output₀ depth place p kind value form n a₀ output j q a
+Inv-loop records keys facts output₀ depth place p end word value kind form n j₀ q₀ a₀ output j q a = Going records output₀ depth place p kind value form n a₀ output j q a
 
 abbrev pub μ-loop : lts.MeasureT-loop
-μ-loop records keys starts output₀ depth place p end word value kind form n j₀ q₀ a₀ output j q a = j
+μ-loop records keys facts output₀ depth place p end word value kind form n j₀ q₀ a₀ output j q a = j
 
 pub sub-word : (t : ℕ) → lts.Need-sub-word (write-node-calls t) (write-node-at t) reads.Post Inv-loop μ-loop
 sub-word t c = let y = c .before .before .pre .1 in

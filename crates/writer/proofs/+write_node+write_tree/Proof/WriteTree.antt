@@ -23,10 +23,10 @@ pub record Going (L O₀ : List ℕ) (d place from end : ℕ) (O : List ℕ) (at
   pub kept : length O ≡ length O₀
 
 abbrev pub Inv-loop : lts.InvT-loop
-Inv-loop records keys starts output₀ depth place from end at₀ p₀ a₀ output at p a = Going records output₀ depth place from end output at p a
+Inv-loop records keys facts output₀ depth place from end at₀ p₀ a₀ output at p a = Going records output₀ depth place from end output at p a
 
 abbrev pub μ-loop : lts.MeasureT-loop
-μ-loop records keys starts output₀ depth place from end at₀ p₀ a₀ output at p a = p
+μ-loop records keys facts output₀ depth place from end at₀ p₀ a₀ output at p a = p
 
 pub loop-holds : (t : ℕ) → lts.Need-loop-holds (write-tree-calls t) (write-tree-at t) reads.Post Inv-loop μ-loop
 loop-holds t c = record { go = λ t s X a h. record { top = t; words = X; here = a; holds = h; same = refl; deep = refl; below = omega arith }; kept = refl }

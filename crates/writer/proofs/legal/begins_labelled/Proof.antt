@@ -11,10 +11,10 @@ use Rattle.writer.proofs.legal.begins_labelled.Statement.{statement}
 use Rattle.writer.proofs.legal.begins_labelled.Tie as tie
 
 abbrev Inv-loop : tie.InvT-loop
-Inv-loop records keys starts p q₀ q = Down records p q (maybe false begins-labelled)
+Inv-loop records keys facts p q₀ q = Down records p q (maybe false begins-labelled)
 
 abbrev μ-loop : tie.MeasureT-loop
-μ-loop records keys starts p q₀ q = q
+μ-loop records keys facts p q₀ q = q
 
 loop-holds : tie.Need-loop-holds Inv-loop μ-loop
 loop-holds c = down-start

@@ -19,10 +19,10 @@ pub record Going (L : List ℕ) (p k v m q j : ℕ) : Type 0 where
   pub go : (t : Tree) (s : List Tree) → At L p (t ∷ s) → Part L q j s (kid-test k v m) (node-fits t)
 
 abbrev Inv-loop : tie.InvT-loop
-Inv-loop records keys starts p kind value n m q₀ j₀ q j = Going records p kind value m q j
+Inv-loop records keys facts p kind value n m q₀ j₀ q j = Going records p kind value m q j
 
 abbrev μ-loop : tie.MeasureT-loop
-μ-loop records keys starts p kind value n m q₀ j₀ q j = j
+μ-loop records keys facts p kind value n m q₀ j₀ q j = j
 
 kind-at-requires : tie.Need-kind-at-requires Inv-loop μ-loop
 kind-at-requires c κs = some-place (c .before .pre)

@@ -1,7 +1,8 @@
 -- `writer::records::begin` meets its contract. Assumes nothing.
 use borrow.Author.Needs.{needs}
 use Prim.Native.Nat.{_/_, _%_}
-use Rattle.writer.proofs.Memory.{memo-hit}
+use native.Mathlib.Omega.{arith}
+use Rattle.writer.proofs.Memory.{begin-hit}
 use Rattle.writer.proofs.records.begin.Statement.{statement}
 use Rattle.writer.proofs.records.begin.Tie as tie
 
@@ -18,7 +19,7 @@ element-copy-out-result : tie.Need-element-copy-out-result
 element-copy-out-result c = search needs
 
 returns : tie.Need-returns
-returns c = memo-hit (c .before .before .before .before .args .p / 2 % 49152) (c .before .before .before .before .pre .memo) (c .before .if1 .taken)
+returns c = begin-hit (c .before .before .before .before .args .p / 2 % 24576) (omega arith) (c .before .before .before .before .pre .memo) (c .before .if1 .taken)
 
 skip-requires : tie.Need-skip-requires
 skip-requires c κs = record { top = c .before .before .before .pre .top; rest = c .before .before .before .pre .rest; here = c .before .before .before .pre .here }

@@ -9,10 +9,10 @@ use Rattle.writer.proofs.records.kid_of.Statement.{statement}
 use Rattle.writer.proofs.records.kid_of.Tie as tie
 
 abbrev Inv-loop : tie.InvT-loop
-Inv-loop records keys starts p j n i₀ q₀ i q = Kids records p q i × (j ≤ i)
+Inv-loop records keys facts p j n i₀ q₀ i q = Kids records p q i × (j ≤ i)
 
 abbrev μ-loop : tie.MeasureT-loop
-μ-loop records keys starts p j n i₀ q₀ i q = i
+μ-loop records keys facts p j n i₀ q₀ i q = i
 
 count-at-requires : tie.Need-count-at-requires Inv-loop μ-loop
 count-at-requires c κs = c .before .pre .0 .place

@@ -9,7 +9,7 @@ use Rattle.tree.specs.Tree.{Tree}
 use Rattle.tree.specs.Maybe.{just}
 use Rattle.grammar.specs.Canonical.Write.{target-items}
 use Rattle.writer.specs.Stack.{At, children-in}
-use Rattle.writer.proofs.Places.{stands, some-place, of-tree}
+use Rattle.writer.proofs.Places.{stands, some-place}
 use Rattle.writer.proofs.Kids.{Part, part-start, part-look, part-end, sees-bad, sees-good}
 use Rattle.writer.proofs.Laws.{at-many}
 use Rattle.writer.proofs.Targets.{item, items-all}
@@ -20,10 +20,10 @@ pub record Going (L : List ℕ) (p q j : ℕ) : Type 0 where
   pub go : (t : Tree) (s : List Tree) → At L p (t ∷ s) → Part L q j s item (target-items (children-in (just t)))
 
 abbrev Inv-loop : tie.InvT-loop
-Inv-loop records keys starts p j₀ q₀ j q = Going records p q j
+Inv-loop records keys facts p j₀ q₀ j q = Going records p q j
 
 abbrev μ-loop : tie.MeasureT-loop
-μ-loop records keys starts p j₀ q₀ j q = j
+μ-loop records keys facts p j₀ q₀ j q = j
 
 count-at-requires : tie.Need-count-at-requires Inv-loop μ-loop
 count-at-requires c κs = some-place (c .before .pre)
@@ -43,10 +43,12 @@ target-item-requires : tie.Need-target-item-requires Inv-loop μ-loop
 target-item-requires c κs = search needs
 
 returns : tie.Need-returns Inv-loop μ-loop
-returns c = of-tree (c .before .before .before .before .before .before .before .pre) (λ t s a.
-    let o = part-look (c .before .before .before .before .loop .inv .go t s a) (c .before .before .before .loop-test .taken) in
-    let k = c .before .before .kind-at .ensures .how (just (o .top)) _ (stands (o .at)) in
-    sym (sees-bad o (rw (← k) (sym (c .before .target-item .ensures) ∙ not-true _ (c .if1 .taken)))))
+returns c = record {
+  how = λ t s a.
+      let o = part-look (c .before .before .before .before .loop .inv .go t s a) (c .before .before .before .loop-test .taken) in
+      let k = c .before .before .kind-at .ensures .how (just (o .top)) _ (stands (o .at)) in
+      sees-bad o (rw (← k) (sym (c .before .target-item .ensures) ∙ not-true _ (c .if1 .taken)));
+}
 
 begin-requires : tie.Need-begin-requires Inv-loop μ-loop
 begin-requires c κs = let y = c .before .before .before .before .before .before .before .pre in
@@ -68,7 +70,7 @@ loop-again c = record {
 }
 
 returns-2 : tie.Need-returns-2 Inv-loop μ-loop
-returns-2 c = of-tree (c .before .before .before .before .pre) (λ t s a. sym (part-end (c .before .loop .inv .go t s a) (omega arith) .0))
+returns-2 c = record { how = λ t s a. part-end (c .before .loop .inv .go t s a) (omega arith) }
 
 pub target-items-spec : {M : Type 1} → statement M
 target-items-spec =

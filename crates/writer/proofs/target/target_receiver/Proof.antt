@@ -1,66 +1,64 @@
 -- `writer::target::target_receiver` meets its contract. Assumes nothing.
 use mathlib.Core.Path.{sym, _∙_}
+use mathlib.Core.Bool.{and-true, and-false}
 use native.Mathlib.Omega.{arith}
 use borrow.Author.Needs.{needs}
-use borrow.Author.Tests.{not-true, not-false}
-use Rattle.grammar.specs.Canonical.Write.{tail-of, target-items}
-use Rattle.writer.specs.Stack.{children-in}
-use Rattle.writer.proofs.Places.{kid-place, of-kid, reach-kid, a-tree}
-use Rattle.writer.proofs.Memory.{spot-none, spot-zero}
-use Rattle.writer.proofs.Targets.{head-is, no-path, a-path}
+use Rattle.tree.specs.Tree.{head-kind}
+use Rattle.grammar.specs.Canonical.Write.{tail-of, target-atom}
+use Rattle.writer.specs.Stack.{children-in, kid-in}
+use Rattle.writer.proofs.Places.{reach-kid, a-tree}
+use Rattle.writer.proofs.Memory.{spot-none}
+use Rattle.writer.proofs.Fitted.{not-from}
+use Rattle.writer.proofs.Targets.{head-is, no-path, bad-path, good-path}
 use Rattle.writer.proofs.target.target_receiver.Statement.{statement}
 use Rattle.writer.proofs.target.target_receiver.Tie as tie
 
 kid-of-requires : tie.Need-kid-of-requires
 kid-of-requires c κs = search needs
 
+returns : tie.Need-returns
+returns c = record { how = λ m s h. rw (no-path (tail-of (children-in m)) (spot-none _ _ (omega arith) (c .before .kid-of .ensures .how m s h))) (sym (and-false (target-atom (head-kind (children-in m))))) }
+
+target-items-requires : tie.Need-target-items-requires
+target-items-requires c κs = a-tree (reach-kid (c .before .kid-of .ensures) (c .before .before .before .pre)) (c .if1 .left)
+
+enum-known-r : tie.Need-enum-known-r
+enum-known-r c = search needs
+
+enum-told : tie.Need-enum-told
+enum-told c = search needs
+
+returns-2 : tie.Need-returns-2
+returns-2 c = record {
+  how = λ m s h. rw (bad-path (c .before .before .before .before .kid-of .ensures) (c .before .before .before .if1 .left) (c .before .before .target-items .ensures) (not-from _ (c .before .match .keys2)) m s h) (sym (and-false (target-atom (head-kind (children-in m)))));
+}
+
 kind-at-requires : tie.Need-kind-at-requires
-kind-at-requires c κs = kid-place (c .kid-of .ensures) (c .before .before .pre .place)
+kind-at-requires c κs = let y = c .before .before .before .before .before .before .before .pre .place in
+    let x = good-path (c .before .before .before .before .before .kid-of .ensures) (c .before .before .before .before .if1 .left) (c .before .before .before .target-items .ensures) (c .before .r .given .1) (y .tree) (y .rest) (y .spot) in
+    record { tree = kid-in 1 (y .tree); rest = y .rest; spot = x .1 }
 
 target-atom-requires : tie.Need-target-atom-requires
 target-atom-requires c κs = search needs
 
-returns : tie.Need-returns
-returns c = let k = of-kid (c .before .before .before .kid-of .ensures) (c .before .before .kind-at .ensures) in
-    record {
-      how = λ m s h.
-          let e = sym (c .before .target-atom .ensures) ∙ not-true _ (c .if1 .taken) in
-          rw (← head-is (children-in m), ← k .how m s h, e);
-    }
-
-kid-of-requires-2 : tie.Need-kid-of-requires-2
-kid-of-requires-2 c κs = search needs
-
-returns-2 : tie.Need-returns-2
-returns-2 c = let k = of-kid (c .before .before .before .before .before .kid-of .ensures) (c .before .before .before .before .kind-at .ensures) in
-    record {
-      how = λ m s h.
-          let e = sym (c .before .before .before .target-atom .ensures) ∙ not-false _ (c .before .before .if1 .left) in
-          let n = spot-none _ _ (omega arith) (c .before .kid-of2 .ensures .how m s h) in
-          rw (← head-is (children-in m), ← k .how m s h, e) (sym (no-path (tail-of (children-in m)) n));
-    }
-
-target-items-requires : tie.Need-target-items-requires
-target-items-requires c κs = a-tree (reach-kid (c .before .kid-of2 .ensures) (c .before .before .before .before .before .before .before .pre)) (c .if2 .left)
-
 returns-3 : tie.Need-returns-3
-returns-3 c = let k = of-kid (c .before .before .before .before .before .before .kid-of .ensures) (c .before .before .before .before .before .kind-at .ensures) in
-    record {
-      how = λ m s h.
-          let e = sym (c .before .before .before .before .target-atom .ensures) ∙ not-false _ (c .before .before .before .if1 .left) in
-          let x = of-kid (c .before .before .kid-of2 .ensures) (c .target-items .ensures) .how m s h in
-          rw (← head-is (children-in m), ← k .how m s h, e) (x ∙ sym (a-path (tail-of (children-in m)) (λ n. c .before .if2 .left (spot-zero n (c .before .before .kid-of2 .ensures .how m s h)))));
-    }
+returns-3 c = record {
+  how = λ m s h.
+      let x = good-path (c .before .before .before .before .before .before .before .kid-of .ensures) (c .before .before .before .before .before .before .if1 .left) (c .before .before .before .before .before .target-items .ensures) (c .before .before .before .r .given .1) m s h in
+      let k = c .before .kind-at .ensures .how _ _ (x .1) in
+      rw (x .0, ← head-is (children-in m), ← k) (c .target-atom .ensures ∙ sym (and-true _));
+}
 
 pub target-receiver-spec : {M : Type 1} → statement M
 target-receiver-spec =
     tie.close
     (tie.spec
     kid-of-requires
+    returns
+    target-items-requires
+    enum-known-r
+    enum-told
+    returns-2
     kind-at-requires
     target-atom-requires
-    returns
-    kid-of-requires-2
-    returns-2
-    target-items-requires
     returns-3)

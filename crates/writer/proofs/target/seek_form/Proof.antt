@@ -1,4 +1,4 @@
--- `writer::target::function_form` meets its contract. Assumes nothing.
+-- `writer::target::seek_form` meets its contract. Assumes nothing.
 use mathlib.Core.Path.{refl, sym, _∙_}
 use native.Mathlib.Omega.{arith}
 use borrow.Author.Needs.{needs}
@@ -8,8 +8,8 @@ use Rattle.writer.specs.Check.{function-form}
 use Rattle.writer.proofs.Places.{kid-place, of-kid, reach-kid, a-tree}
 use Rattle.writer.proofs.Memory.{spot-none}
 use Rattle.writer.proofs.Targets.{no-function, no-signature, behind, target-place, unnamed, named}
-use Rattle.writer.proofs.target.function_form.Statement.{statement}
-use Rattle.writer.proofs.target.function_form.Tie as tie
+use Rattle.writer.proofs.target.seek_form.Statement.{statement}
+use Rattle.writer.proofs.target.seek_form.Tie as tie
 
 kid-of-requires : tie.Need-kid-of-requires
 kid-of-requires c κs = search needs
@@ -66,8 +66,8 @@ returns-6 : tie.Need-returns-6
 returns-6 c = let w = behind (c .before .before .before .before .before .before .before .before .before .before .before .before .before .kid-of .ensures) (c .before .before .before .before .before .before .before .before .before .before .kid-of2 .ensures) (c .before .before .before .before .before .before .before .before .before .before .before .before .kind-at .ensures) (c .before .before .before .before .before .before .before .before .before .before .before .if1 .left) (c .before .before .before .before .before .before .before .before .before .if2 .left) (c .before .before .before .before .before .before .before .before .begin .ensures) (c .before .before .before .before .before .before .before .value-at .ensures) in
     named w (c .before .before .before .before .before .before .kind-at2 .ensures) (c .before .before .before .before .before .value-at2 .ensures) (sym (c .before .before .before .before .gives-name .ensures) ∙ not-false _ (c .before .before .before .if3 .left)) (c .before .before .is-target .ensures) (sym (not-false _ (c .before .if4 .left))) (sym (ne-eqb _ _ (c .if5 .left)))
 
-pub function-form-spec : {M : Type 1} → statement M
-function-form-spec =
+pub seek-form-spec : {M : Type 1} → statement M
+seek-form-spec =
     tie.close
     (tie.spec
     kid-of-requires
