@@ -1,8 +1,9 @@
-/* The proved statement reader, for C. Link target/staticlib/libparser.a, which `rt staticlib parser` writes.
+/* The proved statement reader and the proved writer of canonical tokens, for C. Link target/staticlib/libparser.a for the reader and
+ * target/staticlib/libwriter.a for the writer: `rt staticlib parser` and `rt staticlib writer` write them.
  *
- * What the host owes, and nothing checks: every pointer is valid, aligned and not null; tokens_n and store_n are the words behind
- * tokens and store; reader, tokens and store do not overlap; nobody else writes them during a call. Beyond that every input has an
- * answer: a reader that no call leaves, a sheet of odd length or a short store is answered, not forbidden. */
+ * What the host owes, and nothing checks: every pointer is valid, aligned and not null; a count is that of the words behind its
+ * pointer; what a call is lent does not overlap; nobody else writes it during a call. Beyond that every input has an answer: a reader
+ * that no call leaves, a sheet of odd length, a short store or records of no tree are answered, not forbidden. */
 #ifndef LEATHERLAVA_H
 #define LEATHERLAVA_H
 
@@ -22,18 +23,23 @@ enum leatherlava_variant {
     LEATHERLAVA_ERROR,
     LEATHERLAVA_END,
     LEATHERLAVA_STOPPED,
-    LEATHERLAVA_REFUSED
+    LEATHERLAVA_REFUSED,
+    LEATHERLAVA_TOKENS
 };
 
-/* An answer: its variant, and a tree's nodes, 0 for the end, else the number of the error, the stop or the refusal. */
+/* An answer: its variant, and a tree's nodes or the tokens written, 0 for the end, else the number of the error, the stop or the refusal. */
 struct leatherlava_answer {
     uint64_t variant;
     uint64_t number;
 };
 
-/* The exported function. A slice is two arguments, the pointer and the count of its words. */
+/* The exported functions. A slice is two arguments, the pointer and the count of its words. */
 struct leatherlava_answer leatherlava_next_stmt(size_t *position, size_t *waiting, uint64_t *errors, uint64_t *stopped,
                                                 const uint64_t *tokens, size_t tokens_n, uint64_t *store, size_t store_n);
+
+/* Writes the canonical tokens of the statement whose records these are, two words for each, and zeros behind them. A refusal or a stop leaves
+ * zeros alone. It takes up to 1,536 KiB of stack: docs/WRITER.md. */
+struct leatherlava_answer leatherlava_write_stmt(const uint64_t *records, size_t records_n, uint64_t *output, size_t output_n);
 
 /* Reads the next statement of a sheet: two words for each token, and a store of 16 words for each unread token. */
 static inline struct leatherlava_answer leatherlava_next(struct leatherlava_reader *reader, const uint64_t *tokens, size_t tokens_n,

@@ -1,10 +1,25 @@
 // The types of the calls: the reader that goes in and out, what a reading call answers, what the writer answers.
+ghost use mathlib.Core.Path.{_≡_};
+ghost use Rattle.grammar.specs.Reading.Next.{kind-number as kind-number-def};
+
+pub mod limit;
 
 // Why a statement failed: a lexer error, no token left, or a syntax error by its number.
 pub enum ErrorKind {
     LexerError,
     EndofTokenStream,
     SyntaxError(u64),
+}
+
+// Its number, as document 01 has it.
+pub fn kind_number(kind: ErrorKind) -> u64
+    ensures { λ r. ⌜ r ≡ kind-number-def kind ⌝ }
+{
+    match kind {
+        ErrorKind::LexerError => 1,
+        ErrorKind::EndofTokenStream => 2,
+        ErrorKind::SyntaxError(n) => n,
+    }
 }
 
 // What a call answers: a tree of so many nodes in the store, an error, the end, a stop or a refusal by its number.
@@ -36,4 +51,12 @@ pub enum Written {
     Tokens(usize),
     Stopped(u64),
     Refused(u64),
+}
+
+// An answer for C, which has no enums with values: its variant (0 tree, 1 error, 2 end, 3 stopped, 4 refused, 5 tokens) and its number: how many nodes
+// or tokens, 0 for the end, else document 01's number.
+#[repr(C)]
+pub struct Flat {
+    pub variant: u64,
+    pub number: u64,
 }

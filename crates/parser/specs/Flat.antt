@@ -5,7 +5,7 @@ use Rattle.grammar.specs.Reading.Next.{Called, kind-number}
 use Rattle.grammar.specs.declared.Answer.{Answer}
 use Rattle.grammar.specs.declared.Answer.the-variants.{Tree, Error, End, Stopped, Refused}
 use Rattle.grammar.specs.declared.Reader.{Reader}
-use Rattle.parser.specs.declared.host.Flat.{Flat}
+use Rattle.grammar.specs.declared.Flat.{Flat}
 
 -- the variant of an answer, in the order of the enum, and its number: a tree's nodes, 0 for the end, else document 01's number
 abbrev pub flat-of : Answer → Flat

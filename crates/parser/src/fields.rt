@@ -24,9 +24,9 @@ use crate::records::list_end;
 use crate::scan::expect;
 use crate::scan::expect_name;
 use crate::scan::look;
-use crate::words;
 use token::kind;
 use tree::emit;
+use tree::word;
 
 // `parse_member_access`, behind `.`.
 pub fn member(tokens: &[u64], store: &mut [u64], pos: usize, at: usize, waiting: usize) -> Step
@@ -34,7 +34,7 @@ pub fn member(tokens: &[u64], store: &mut [u64], pos: usize, at: usize, waiting:
     ensures { λ r. ⌜ Writes records (λ q. member-access q (drop pos (now (tokens .entry)))) (now (tokens .entry)) pos (pos + 2) 2 at waiting (take at (now (store .entry))) (now (store .entry)) (now (store .exit)) r ⌝ }
 {
     match expect_name(tokens, number::MEMBER_NAME, pos, waiting) {
-        Found::At(p, name) => Step::Done(p, emit(store, at, words::ATTRIBUTE, name), waiting),
+        Found::At(p, name) => Step::Done(p, emit(store, at, word::ATTRIBUTE, name), waiting),
         Found::Not(s) => s,
     }
 }
@@ -54,7 +54,7 @@ fn field_name(
 {
     match expect_name(tokens, e, pos, waiting) {
         Found::At(p, name) => {
-            let a = emit(store, at, words::FIELD_ATTRIBUTE, name * 2 + access);
+            let a = emit(store, at, word::FIELD_ATTRIBUTE, name * 2 + access);
             Step::Done(p, a, waiting)
         }
         Found::Not(s) => s,
@@ -79,7 +79,7 @@ pub fn named_field(
         kind::LET => field_name(tokens, store, 0, number::NAME_AFTER_LET, pos, at, waiting),
         kind::IDENTIFIER => Step::Done(
             pos,
-            emit(store, at, words::FIELD_ATTRIBUTE, value * 2),
+            emit(store, at, word::FIELD_ATTRIBUTE, value * 2),
             waiting,
         ),
         _ => Step::Fail(number::INVALID_FIELD, pos, waiting),
@@ -191,9 +191,9 @@ fn variadic_end(store: &mut [u64], a: usize, variadic: u64) -> usize
     ensures { λ r. ⌜ Added a 2 (records (variadic-of variadic)) r (now (store .entry)) (now (store .exit)) ⌝ }
 {
     if variadic == 0 {
-        return emit(store, a, words::ABSENT, 0);
+        return emit(store, a, word::ABSENT, 0);
     }
-    emit(store, a, words::PARAM_DEF, variadic - 1)
+    emit(store, a, word::PARAM_DEF, variadic - 1)
 }
 
 // The children of a signature, behind its parameters.
@@ -229,7 +229,7 @@ pub fn signature_end(
     let Step::Done(p, _, _) = c else {
         return c;
     };
-    Step::Done(p, emit(store, at, words::SIGNATURE_DEF, name), waiting)
+    Step::Done(p, emit(store, at, word::SIGNATURE_DEF, name), waiting)
 }
 
 // What must stand behind a parameter: a comma, which is taken, 1; or `)`, 0.
@@ -266,7 +266,7 @@ fn join_required(
             if 0 < default {
                 return Joined::Not(Step::Fail(number::PARAM_ORDER, pos, waiting));
             }
-            let a = emit(store, at, words::PARAM_DEF, v);
+            let a = emit(store, at, word::PARAM_DEF, v);
             Joined::To(p, a, waiting, required + 1, default, variadic)
         }
         Found::Not(s) => Joined::Not(s),

@@ -2,29 +2,13 @@
 // fields one by one; an exported function can give back no enum, so an answer is two numbers.
 ghost use mathlib.Core.Path.{_≡_};
 ghost use lib.ListN.{length};
-ghost use Rattle.grammar.specs.Reading.Next.{kind-number as kind-number-def, next-stmt};
+ghost use Rattle.grammar.specs.Reading.Next.{next-stmt};
 ghost use Rattle.parser.specs.Flat.{flat-of, reader-of, left-by};
 use crate::next_stmt;
 use grammar::Answer;
-use grammar::ErrorKind;
+use grammar::Flat;
 use grammar::Reader;
-
-// An answer: its variant (0 tree, 1 error, 2 end, 3 stopped, 4 refused) and its number: a tree's nodes, 0 for the end, else document 01's number.
-#[repr(C)]
-pub struct Flat {
-    pub variant: u64,
-    pub number: u64,
-}
-
-fn kind_number(kind: ErrorKind) -> u64
-    ensures { λ r. ⌜ r ≡ kind-number-def kind ⌝ }
-{
-    match kind {
-        ErrorKind::LexerError => 1,
-        ErrorKind::EndofTokenStream => 2,
-        ErrorKind::SyntaxError(n) => n,
-    }
-}
+use grammar::kind_number;
 
 fn flatten(answer: Answer) -> Flat
     ensures { λ r. ⌜ r ≡ flat-of answer ⌝ }

@@ -23,12 +23,10 @@ ghost use Rattle.parser.specs.Parameters.{Params-read};
 mod fields;
 pub mod host;
 pub mod kept;
-mod limit;
 mod number;
 mod queue;
 mod records;
 mod scan;
-mod words;
 
 use crate::fields::item_end;
 use crate::fields::joined;
@@ -80,17 +78,17 @@ use crate::scan::start;
 use crate::scan::try_label;
 use crate::scan::unary_code;
 use crate::scan::unassigned;
-use crate::words::FOR_LOOP;
-use crate::words::WHILE_LOOP;
 use grammar::Answer;
 use grammar::ErrorKind;
 use grammar::Reader;
 use grammar::Stepped;
+use grammar::limit;
 use operator::PRECEDENCE_END;
 use operator::PRECEDENCE_START;
 use token::kind;
 use tree::clear;
 use tree::emit;
+use tree::word;
 
 // How a reading ended: past the word of the tokens and of the store that it names, and how many errors wait;
 // an error, past which word of the tokens, and how many wait; a stop.
@@ -200,7 +198,7 @@ fn unary(
             let Step::Done(p, a, w) = r else {
                 return r;
             };
-            Step::Done(p, emit(store, a, words::UNARY_OP, code - 1), w)
+            Step::Done(p, emit(store, a, word::UNARY_OP, code - 1), w)
         }
         Seen::Not(s) => s,
     }
@@ -230,7 +228,7 @@ fn operand(
                 let Step::Done(p, a, w) = r else {
                     return r;
                 };
-                Step::Done(p, emit(store, a, words::TABLE, 0), w)
+                Step::Done(p, emit(store, a, word::TABLE, 0), w)
             }
             kind::LABEL => begin(tokens, store, queue, depth, value + 1, pos + 2, at, waiting),
             _ => unpack(tokens, store, queue, depth, pos, at, waiting),
@@ -356,7 +354,7 @@ fn access(
             let Step::Done(p, a, w) = r else {
                 return r;
             };
-            Step::Done(p, emit(store, a, words::INDEX, 0), w)
+            Step::Done(p, emit(store, a, word::INDEX, 0), w)
         }
         kind::OPEN_PAREN => call(tokens, store, queue, depth, pos, at, waiting),
         _ => {
@@ -364,7 +362,7 @@ fn access(
             let Step::Done(p, a, w) = r else {
                 return r;
             };
-            Step::Done(p, emit(store, a, words::INVOKE_TABLE, 0), w)
+            Step::Done(p, emit(store, a, word::INVOKE_TABLE, 0), w)
         }
     }
 }
@@ -409,7 +407,7 @@ fn group(
     match look(tokens, pos, waiting) {
         Seen::Token(kind, _, _) => {
             if kind == kind::CLOSE_PAREN {
-                return Step::Done(pos + 2, emit(store, at, words::EMPTY_TUPLE, 0), waiting);
+                return Step::Done(pos + 2, emit(store, at, word::EMPTY_TUPLE, 0), waiting);
             }
             match assign_keyword(tokens, pos, waiting) {
                 Found::At(p, m) => {
@@ -559,7 +557,7 @@ fn item(
     let Step::Done(p3, a3, w3) = r else {
         return r;
     };
-    Step::Done(p3, emit(store, a3, words::TABLE_ITEM, 0), w3)
+    Step::Done(p3, emit(store, a3, word::TABLE_ITEM, 0), w3)
 }
 
 // `parse_table_field`.
@@ -584,7 +582,7 @@ fn field(
             let Step::Done(p, a, w) = r else {
                 return r;
             };
-            Step::Done(p, emit(store, a, words::FIELD_INDEX, 0), w)
+            Step::Done(p, emit(store, a, word::FIELD_INDEX, 0), w)
         }
         Seen::Not(s) => s,
     }
@@ -623,7 +621,7 @@ fn binop(
                 let r = binop(tokens, store, queue, depth, level - 1, p + 2, a, w);
                 match r {
                     Step::Done(p2, a2, w2) => {
-                        a = emit(store, a2, words::BINARY_OP, op_number(kind));
+                        a = emit(store, a2, word::BINARY_OP, op_number(kind));
                         p = p2;
                         w = w2;
                     }
@@ -752,7 +750,7 @@ fn expr(
                     };
                     Step::Done(
                         p3,
-                        emit(store, a3, words::ASSIGNMENT, action(m) + 4 * (code - 1)),
+                        emit(store, a3, word::ASSIGNMENT, action(m) + 4 * (code - 1)),
                         w3,
                     )
                 }
@@ -814,7 +812,7 @@ fn block(
     ensures { λ r. ⌜ Agrees records (block-expr (at-depth depth) label (take waiting (now (queue .entry))) (drop pos (now (tokens .entry)))) (now (tokens .entry)) pos pos 8 at waiting (now (store .entry)) (now (queue .entry)) (now (store .exit)) (now (queue .exit)) r ⌝ }
 {
     let b = body(tokens, store, queue, depth, pos, at, waiting);
-    block_under(store, b, words::BLOCK, label)
+    block_under(store, b, word::BLOCK, label)
 }
 
 // `parse_expr_label`, behind the label.
@@ -870,7 +868,7 @@ fn if_expr(
                 kind::ELSE => {
                     let b = list_end(store, a1, n + 1);
                     let e = body(tokens, store, queue, depth, p1 + 2, b, w1);
-                    return block_under(store, e, words::IF_EXPR, 0);
+                    return block_under(store, e, word::IF_EXPR, 0);
                 }
                 _ => {
                     p = p1 + 2;
@@ -906,7 +904,7 @@ fn branch(
         return s;
     };
     let l = list(tokens, store, queue, depth, 1, p2, a1, w1);
-    block_under(store, l, words::CONDITIONAL_BRANCH, 0)
+    block_under(store, l, word::CONDITIONAL_BRANCH, 0)
 }
 
 // `parse_function_decl_expr`, behind `fun`: with a target it is an assignment, as after `let`.
@@ -936,7 +934,7 @@ fn decl(
             let Step::Done(p2, a2, w2) = r else {
                 return r;
             };
-            Step::Done(p2, emit(store, a2, words::ASSIGNMENT, 2), w2)
+            Step::Done(p2, emit(store, a2, word::ASSIGNMENT, 2), w2)
         }
         Seen::Not(s) => s,
     }
@@ -1000,7 +998,7 @@ fn def(
         return c;
     };
     let b = body(tokens, store, queue, depth, p3, a3, w2);
-    block_under(store, b, words::FUNCTION_DEF, 0)
+    block_under(store, b, word::FUNCTION_DEF, 0)
 }
 
 // `parse_function_param_list`: the children of the signature.
@@ -1070,7 +1068,7 @@ fn param(
             match r {
                 Step::Done(p2, a2, w2) => Parameter::Default(
                     p2,
-                    emit(store, a2, words::DEFAULT_DEF, v),
+                    emit(store, a2, word::DEFAULT_DEF, v),
                     w2,
                 ),
                 _ => Parameter::Not(r),
@@ -1101,7 +1099,7 @@ fn stmt(
                 store,
                 queue,
                 depth,
-                WHILE_LOOP,
+                word::WHILE_LOOP,
                 0,
                 pos + 2,
                 at,
@@ -1114,7 +1112,7 @@ fn stmt(
                 let Step::Done(p, a, w) = r else {
                     return r;
                 };
-                Step::Done(p, emit(store, a, words::ASSERT, 0), w)
+                Step::Done(p, emit(store, a, word::ASSERT, 0), w)
             }
             _ => {
                 if is_control(kind) {
@@ -1153,7 +1151,7 @@ fn label(
                 store,
                 queue,
                 depth,
-                WHILE_LOOP,
+                word::WHILE_LOOP,
                 label,
                 pos + 2,
                 at,
@@ -1181,7 +1179,7 @@ fn repeat(
     ensures { λ r. ⌜ Agrees records (loop-def (at-depth depth) label (take waiting (now (queue .entry))) (drop pos (now (tokens .entry)))) (now (tokens .entry)) pos pos 8 at waiting (now (store .entry)) (now (queue .entry)) (now (store .exit)) (now (queue .exit)) r ⌝ }
 {
     let b = body(tokens, store, queue, depth, pos, at, waiting);
-    list_under(store, b, words::LOOP, label)
+    list_under(store, b, word::LOOP, label)
 }
 
 // `parse_while_loop`, behind `while`; and the same behind `in` of a for loop, whose record has another word.
@@ -1238,7 +1236,7 @@ fn for_in(
         store,
         queue,
         depth,
-        words::FOR_LOOP,
+        word::FOR_LOOP,
         label,
         p2,
         a1,
@@ -1291,7 +1289,7 @@ fn value(
     match look(tokens, pos, waiting) {
         Seen::Token(kind, _, _) => {
             if ends_control(kind) {
-                return Step::Done(pos, emit(store, at, words::ABSENT, 0), waiting);
+                return Step::Done(pos, emit(store, at, word::ABSENT, 0), waiting);
             }
             expr(tokens, store, queue, depth, pos, at, waiting)
         }
@@ -1318,18 +1316,18 @@ fn control(
         let Step::Done(p, a, w) = r else {
             return r;
         };
-        return Step::Done(p, emit(store, a, words::RETURN, 0), w);
+        return Step::Done(p, emit(store, a, word::RETURN, 0), w);
     }
     match try_label(tokens, pos, waiting) {
         Found::At(p1, l) => {
             if k == kind::CONTINUE {
-                return Step::Done(p1, emit(store, at, words::CONTINUE, l), waiting);
+                return Step::Done(p1, emit(store, at, word::CONTINUE, l), waiting);
             }
             let r = value(tokens, store, queue, depth, p1, at, waiting);
             let Step::Done(p, a, w) = r else {
                 return r;
             };
-            Step::Done(p, emit(store, a, words::BREAK, l), w)
+            Step::Done(p, emit(store, a, word::BREAK, l), w)
         }
         Found::Not(s) => s,
     }

@@ -8,11 +8,11 @@ ghost use Rattle.parser.specs.Post.{Pushed, Popped, Queues, Resumes};
 ghost use Rattle.parser.specs.Parts.{holds-errors as holds-errors-def};
 use crate::Seen;
 use crate::Step;
-use crate::limit;
 use crate::number;
 use crate::scan::ends;
 use crate::scan::look;
 use crate::scan::not_last;
+use grammar::limit;
 use token::kind;
 
 // An error joins the queue's back, where there is a place.

@@ -23,19 +23,20 @@ use crate::Listed;
 use crate::Step;
 use crate::number;
 use crate::scan::atom_error;
-use crate::words;
 use pattern::Converted;
 use pattern::to_pattern;
 use token::kind;
 use tree::block_result;
 use tree::emit;
+use tree::node;
+use tree::word;
 
 // The kind of the node whose record ends at a.
 fn kind_of(store: &[u64], a: usize) -> u64
     requires { ⌜ (2 ≤ a) × (a ≤ length (now store)) ⌝ }
     ensures { λ r. ⌜ r ≡ getD (now (store .entry)) (a - 2) 0 % 256 ⌝ }
 {
-    store[a - 2] % 256
+    store[a - 2] % word::CHILD
 }
 
 // The list of the n trees before a.
@@ -43,7 +44,7 @@ pub fn list_end(store: &mut [u64], a: usize, n: u64) -> usize
     requires { ⌜ (a + 2 ≤ length (now store)) × (n ≤ 65537) ⌝ }
     ensures { λ r. ⌜ Emitted a (1 + 256 * n) 0 r (now (store .entry)) (now (store .exit)) ⌝ }
 {
-    emit(store, a, words::LIST + 256 * n, 0)
+    emit(store, a, word::LIST + word::CHILD * n, 0)
 }
 
 pub fn tuple_end(store: &mut [u64], a: usize, n: u64) -> usize
@@ -51,7 +52,7 @@ pub fn tuple_end(store: &mut [u64], a: usize, n: u64) -> usize
     ensures { λ r. ⌜ Ended all-records (Counts-after n) tuple-words as-it-is a 4 r (now (store .entry)) (now (store .exit)) ⌝ }
 {
     let b = list_end(store, a, n);
-    emit(store, b, words::TUPLE, 0)
+    emit(store, b, word::TUPLE, 0)
 }
 
 // An identifier or a literal, from the token behind which pos stands.
@@ -67,23 +68,23 @@ pub fn literal(
     ensures { λ r. ⌜ ((T : List ℕ) → pos ≤ length T → Writes records (λ q. literal-def (record { kind = kind; newline = 0; value = value }) q (drop pos T)) T pos pos 2 at waiting (take at (now (store .entry))) (now (store .entry)) (now (store .exit)) r) ⌝ }
 {
     match kind {
-        kind::IDENTIFIER => Step::Done(pos, emit(store, at, words::IDENTIFIER, value), waiting),
-        kind::NIL => Step::Done(pos, emit(store, at, words::NIL, 0), waiting),
-        kind::TRUE => Step::Done(pos, emit(store, at, words::BOOLEAN_LITERAL, 1), waiting),
-        kind::FALSE => Step::Done(pos, emit(store, at, words::BOOLEAN_LITERAL, 0), waiting),
+        kind::IDENTIFIER => Step::Done(pos, emit(store, at, word::IDENTIFIER, value), waiting),
+        kind::NIL => Step::Done(pos, emit(store, at, word::NIL, 0), waiting),
+        kind::TRUE => Step::Done(pos, emit(store, at, word::BOOLEAN_LITERAL, 1), waiting),
+        kind::FALSE => Step::Done(pos, emit(store, at, word::BOOLEAN_LITERAL, 0), waiting),
         kind::INTEGER_LITERAL => Step::Done(
             pos,
-            emit(store, at, words::INTEGER_LITERAL, value),
+            emit(store, at, word::INTEGER_LITERAL, value),
             waiting,
         ),
         kind::FLOAT_LITERAL => Step::Done(
             pos,
-            emit(store, at, words::FLOAT_LITERAL, value),
+            emit(store, at, word::FLOAT_LITERAL, value),
             waiting,
         ),
         kind::STRING_LITERAL => Step::Done(
             pos,
-            emit(store, at, words::STRING_LITERAL, value),
+            emit(store, at, word::STRING_LITERAL, value),
             waiting,
         ),
         _ => Step::Fail(atom_error(kind), pos, waiting),
@@ -98,7 +99,7 @@ fn with_action(store: &mut [u64], a: usize, m: u64)
     if m == 0 {
         return;
     }
-    if kind_of(store, a) == words::ASSIGNMENT_KIND {
+    if kind_of(store, a) == node::ASSIGNMENT {
         let value = store[a - 1];
         store[a - 1] = m - 1 + 4 * (value / 4);
     }
@@ -109,7 +110,7 @@ pub fn group_end(store: &mut [u64], a: usize, m: u64) -> usize
     ensures { λ r. ⌜ Ended records Small records (λ t. Node.group m (with-action-def m t)) a 2 r (now (store .entry)) (now (store .exit)) ⌝ }
 {
     with_action(store, a, m);
-    emit(store, a, words::GROUP, m)
+    emit(store, a, word::GROUP, m)
 }
 
 // `...` alone.
@@ -117,8 +118,8 @@ pub fn lone_unpack(store: &mut [u64], a: usize) -> usize
     requires { ⌜ a + 4 ≤ length (now store) ⌝ }
     ensures { λ r. ⌜ Added a 4 (records (Node.unpack Node.absent)) r (now (store .entry)) (now (store .exit)) ⌝ }
 {
-    let b = emit(store, a, words::ABSENT, 0);
-    emit(store, b, words::UNPACK, 0)
+    let b = emit(store, a, word::ABSENT, 0);
+    emit(store, b, word::UNPACK, 0)
 }
 
 // `...` behind what was read.
@@ -126,10 +127,10 @@ pub fn unpack_end(store: &mut [u64], pos: usize, a: usize, waiting: usize) -> St
     requires { ⌜ (2 ≤ a) × (a + 2 ≤ length (now store)) ⌝ }
     ensures { λ r. ⌜ ((X : List ℕ) (t : Tree) (T : List ℕ) → Small t → take a (now (store .entry)) ≡ X ++ records t → pos ≤ length T → Writes records (λ q. unpack-end-def t q (drop pos T)) T pos pos 2 a waiting X (now (store .entry)) (now (store .exit)) r) ⌝ }
 {
-    if kind_of(store, a) == words::UNPACK_KIND {
+    if kind_of(store, a) == node::UNPACK {
         return Step::Fail(number::NESTED_ELLIPSIS, pos, waiting);
     }
-    Step::Done(pos, emit(store, a, words::UNPACK, 0), waiting)
+    Step::Done(pos, emit(store, a, word::UNPACK, 0), waiting)
 }
 
 // A call without arguments.
@@ -138,7 +139,7 @@ pub fn bare_call(store: &mut [u64], a: usize) -> usize
     ensures { λ r. ⌜ Added a 4 (records (Node.invoke none)) r (now (store .entry)) (now (store .exit)) ⌝ }
 {
     let b = list_end(store, a, 0);
-    emit(store, b, words::INVOKE, 0)
+    emit(store, b, word::INVOKE, 0)
 }
 
 // A call: a tuple's members are the arguments, and its list stays; anything else is one argument.
@@ -146,11 +147,11 @@ pub fn call_end(store: &mut [u64], a: usize) -> usize
     requires { ⌜ (2 ≤ a) × (a + 4 ≤ length (now store)) ⌝ }
     ensures { λ r. ⌜ Ended records Shape records (λ t. Node.invoke (arguments t)) a 4 r (now (store .entry)) (now (store .exit)) ⌝ }
 {
-    if kind_of(store, a) == words::TUPLE_KIND {
-        return emit(store, a - 2, words::INVOKE, 0);
+    if kind_of(store, a) == node::TUPLE {
+        return emit(store, a - 2, word::INVOKE, 0);
     }
     let b = list_end(store, a, 1);
-    emit(store, b, words::INVOKE, 0)
+    emit(store, b, word::INVOKE, 0)
 }
 
 // Behind an atom and n access items: an atom without a path is itself.
@@ -162,7 +163,7 @@ pub fn path_end(store: &mut [u64], a: usize, n: u64) -> usize
         return a;
     }
     let b = list_end(store, a, n);
-    emit(store, b, words::PRIMARY, 0)
+    emit(store, b, word::PRIMARY, 0)
 }
 
 // The expression from `from` to a becomes a pattern; else the error e.
@@ -191,7 +192,7 @@ pub fn modified(store: &mut [u64], a: usize, m: u64) -> usize
     if m == 0 {
         return a;
     }
-    emit(store, a, words::MODIFIER, m - 1)
+    emit(store, a, word::MODIFIER, m - 1)
 }
 
 // The name that a function's target gives to the signature, 0 or 1 + it: a name alone is the target's first token, which carries `value`.
@@ -199,7 +200,7 @@ pub fn target_name(store: &[u64], a: usize, value: u64) -> u64
     requires { ⌜ (2 ≤ a) × (a ≤ length (now store)) × (getD (now store) (a - 2) 0 % 256 ≡ NodeKind.IdentifierPattern → value < 4294967296) ⌝ }
     ensures { λ r. ⌜ ((X : List ℕ) (t : Tree) → Small t → take a (now (store .entry)) ≡ X ++ records t → Carries value t → r ≡ target-name-def t) ⌝ }
 {
-    if kind_of(store, a) == words::IDENTIFIER_PATTERN_KIND {
+    if kind_of(store, a) == node::IDENTIFIER_PATTERN {
         return value + 1;
     }
     0
@@ -210,10 +211,10 @@ fn lone_ellipsis(store: &[u64], a: usize) -> bool
     requires { ⌜ A-shape (now store) a ⌝ }
     ensures { λ r. ⌜ ((X : List ℕ) (t : Tree) → Shape t → take a (now (store .entry)) ≡ X ++ records t → r ≡ lone-ellipsis-def t) ⌝ }
 {
-    if kind_of(store, a) != words::UNPACK_KIND {
+    if kind_of(store, a) != node::UNPACK {
         return false;
     }
-    store[a - 4] == words::ABSENT
+    store[a - 4] == word::ABSENT
 }
 
 // An expression as a statement.
@@ -224,7 +225,7 @@ pub fn expression_end(store: &mut [u64], pos: usize, a: usize, waiting: usize) -
     if lone_ellipsis(store, a) {
         return Step::Fail(number::ELLIPSIS_NOT_ALLOWED, pos, waiting);
     }
-    Step::Done(pos, emit(store, a, words::EXPRESSION, 0), waiting)
+    Step::Done(pos, emit(store, a, word::EXPRESSION, 0), waiting)
 }
 
 // Where the words of the last expression statement start, after a statement that was written from a to b: b for any other.
@@ -232,7 +233,7 @@ pub fn mark(store: &[u64], a: usize, b: usize) -> usize
     requires { ⌜ (2 ≤ b) × (b ≤ length (now store)) ⌝ }
     ensures { λ r. ⌜ ((X : List ℕ) (t : Tree) → Small t → take b (now (store .entry)) ≡ X ++ records t → Marked t a b r) ⌝ }
 {
-    if store[b - 2] == words::EXPRESSION {
+    if store[b - 2] == word::EXPRESSION {
         return a;
     }
     b
@@ -244,8 +245,8 @@ fn suite_end(store: &mut [u64], a: usize, n: u64) -> usize
     ensures { λ r. ⌜ Added a 6 ((1 + 256 * n) ∷ 0 ∷ 0 ∷ 0 ∷ 519 ∷ 0 ∷ []) r (now (store .entry)) (now (store .exit)) ⌝ }
 {
     let b = list_end(store, a, n);
-    let d = emit(store, b, words::ABSENT, 0);
-    emit(store, d, words::STMT_LIST, 0)
+    let d = emit(store, b, word::ABSENT, 0);
+    emit(store, d, word::STMT_LIST, 0)
 }
 
 // A block without result, behind its statement list.
@@ -253,8 +254,8 @@ fn resultless(store: &mut [u64], a: usize) -> usize
     requires { ⌜ a + 4 ≤ length (now store) ⌝ }
     ensures { λ r. ⌜ Added a 4 (0 ∷ 0 ∷ 534 ∷ 0 ∷ []) r (now (store .entry)) (now (store .exit)) ⌝ }
 {
-    let b = emit(store, a, words::ABSENT, 0);
-    emit(store, b, words::EXPR_BLOCK, 0)
+    let b = emit(store, a, word::ABSENT, 0);
+    emit(store, b, word::EXPR_BLOCK, 0)
 }
 
 // A block of n statements without control (`ExprBlock::from`): the last one is the result, if it is an expression statement, which then begins at `last`.
@@ -267,7 +268,7 @@ fn block_end(store: &mut [u64], a: usize, n: u64, last: usize) -> usize
         return resultless(store, b);
     }
     block_result(store, last, a - 2, n - 1);
-    emit(store, a + 4, words::EXPR_BLOCK, 0)
+    emit(store, a + 4, word::EXPR_BLOCK, 0)
 }
 
 // A list that was read as a block, and the node over it.
@@ -281,7 +282,7 @@ pub fn block_under(store: &mut [u64], list: Listed, word: u64, value: u64) -> St
             Step::Done(p, emit(store, b, word, value), w)
         }
         Listed::Control(p, a, w) => {
-            let b = emit(store, a, words::STMT_LIST, 0);
+            let b = emit(store, a, word::STMT_LIST, 0);
             let d = resultless(store, b);
             Step::Done(p, emit(store, d, word, value), w)
         }
@@ -300,7 +301,7 @@ pub fn list_under(store: &mut [u64], list: Listed, word: u64, value: u64) -> Ste
             Step::Done(p, emit(store, b, word, value), w)
         }
         Listed::Control(p, a, w) => {
-            let b = emit(store, a, words::STMT_LIST, 0);
+            let b = emit(store, a, word::STMT_LIST, 0);
             Step::Done(p, emit(store, b, word, value), w)
         }
         Listed::Not(s) => s,
@@ -313,6 +314,6 @@ pub fn if_end(store: &mut [u64], a: usize, n: u64) -> usize
     ensures { λ r. ⌜ Added a 6 ((1 + 256 * n) ∷ 0 ∷ 0 ∷ 0 ∷ 530 ∷ 0 ∷ []) r (now (store .entry)) (now (store .exit)) ⌝ }
 {
     let b = list_end(store, a, n);
-    let d = emit(store, b, words::ABSENT, 0);
-    emit(store, d, words::IF_EXPR, 0)
+    let d = emit(store, b, word::ABSENT, 0);
+    emit(store, d, word::IF_EXPR, 0)
 }

@@ -9,42 +9,7 @@ ghost use Rattle.tree.specs.Tree.{Tree};
 ghost use Rattle.tree.specs.Rows.{Trees, Starts};
 ghost use Rattle.grammar.specs.Reading.Pattern.{to-pattern};
 ghost use Rattle.pattern.specs.Contract.{Put, Right, Left, Ended, Whole, A-tree, Settled, Access, An-access, Placed, Fit, A-fit, Stands, Answers, Over, over-words, has-members as has-members-def};
-
-// What each child adds to the first word of a record: that word is the kind + 256 × the count of the children.
-const CHILD: u64 = 256;
-
-// The kind of a list, whose children may be any number.
-const LIST: u64 = 1;
-
-// First words of an expression's records: 0, 31 and 37 with no child; 15 + 256, 16 + 256, 36 + 256 and 38 + 256 with one; 11 + 512 with two.
-const ABSENT: u64 = 0;
-
-const IDENTIFIER: u64 = 31;
-
-const ATTRIBUTE: u64 = 37;
-
-const UNPACK: u64 = 271;
-
-const TUPLE: u64 = 272;
-
-const GROUP: u64 = 292;
-
-const INDEX: u64 = 294;
-
-const PRIMARY: u64 = 523;
-
-// First words of a pattern's records: 41 with no child; 42 + 256, 44 + 256, 45 + 256 and 46 + 256 with one; 43 + 512 with two.
-const IDENTIFIER_PATTERN: u64 = 41;
-
-const ATTRIBUTE_PATTERN: u64 = 298;
-
-const TUPLE_PATTERN: u64 = 300;
-
-const PACK: u64 = 301;
-
-const MODIFIER: u64 = 302;
-
-const INDEX_PATTERN: u64 = 555;
+use tree::word;
 
 // The end of the pattern's records; or none, with the store as it was.
 pub enum Converted {
@@ -94,7 +59,7 @@ fn skip(store: &[u64], to: usize, n: usize) -> usize
     let mut need = n;
     while 0 < need {
         i -= 2;
-        let children = (store[i] / CHILD) as usize;
+        let children = (store[i] / word::CHILD) as usize;
         need = need - 1 + children;
     }
     i
@@ -104,10 +69,10 @@ fn skip(store: &[u64], to: usize, n: usize) -> usize
 fn has_members(word: u64) -> bool
     ensures { λ r. ⌜ r ≡ has-members-def word ⌝ }
 {
-    if word % CHILD != LIST {
+    if word % word::CHILD != word::LIST {
         return false;
     }
-    CHILD <= word
+    word::CHILD <= word
 }
 
 // Whether the expression from `from` to `to` is a pattern. The store is only read, so that a refusal leaves it as it was.
@@ -119,31 +84,31 @@ fn settles(store: &[u64], from: usize, to: usize) -> bool
     while from < i {
         let word = store[i - 2];
         match word {
-            IDENTIFIER | GROUP => i -= 2,
-            UNPACK => {
-                if store[i - 4] == ABSENT {
+            word::IDENTIFIER | word::GROUP => i -= 2,
+            word::UNPACK => {
+                if store[i - 4] == word::ABSENT {
                     i -= 4;
                 } else {
                     i -= 2;
                 }
             }
-            TUPLE => {
+            word::TUPLE => {
                 if !has_members(store[i - 4]) {
                     return false;
                 }
                 i -= 4;
             }
-            PRIMARY => {
+            word::PRIMARY => {
                 let list = store[i - 4];
                 if !has_members(list) {
                     return false;
                 }
-                let n = (list / CHILD) as usize;
+                let n = (list / word::CHILD) as usize;
                 let last = store[i - 6];
-                if last == ATTRIBUTE {
+                if last == word::ATTRIBUTE {
                     i = skip(store, i - 6, n);
                 } else {
-                    if last != INDEX {
+                    if last != word::INDEX {
                         return false;
                     }
                     i = skip(store, i - 6, n + 1);
@@ -165,22 +130,22 @@ fn place_access(store: &mut [u64], i: usize, w: usize) -> usize
     let primary = store[i - 1];
     let list = store[i - 4];
     let path = store[i - 3];
-    let n = (list / CHILD) as usize;
-    if store[i - 6] == ATTRIBUTE {
+    let n = (list / word::CHILD) as usize;
+    if store[i - 6] == word::ATTRIBUTE {
         let name = store[i - 5];
         let start = skip(store, i - 6, n);
-        put(store, w - 2, ATTRIBUTE_PATTERN, name);
-        put(store, w - 4, PRIMARY, primary);
-        put(store, w - 6, list - CHILD, path);
+        put(store, w - 2, word::ATTRIBUTE_PATTERN, name);
+        put(store, w - 4, word::PRIMARY, primary);
+        put(store, w - 6, list - word::CHILD, path);
         move_right(store, start, i - 6, by);
         start
     } else {
         let middle = skip(store, i - 6, 1);
         let start = skip(store, middle, n);
-        put(store, w - 2, INDEX_PATTERN, 0);
+        put(store, w - 2, word::INDEX_PATTERN, 0);
         move_right(store, middle, i - 6, by + 4);
-        put(store, middle + by + 2, PRIMARY, primary);
-        put(store, middle + by, list - CHILD, path);
+        put(store, middle + by + 2, word::PRIMARY, primary);
+        put(store, middle + by, list - word::CHILD, path);
         move_right(store, start, middle, by);
         start
     }
@@ -195,14 +160,14 @@ fn place_over(store: &mut [u64], i: usize, w: usize) -> usize
     let word = store[i - 2];
     let inner = store[i - 4];
     let value = store[i - 3];
-    if word != UNPACK {
-        put(store, w - 2, TUPLE_PATTERN, 0);
+    if word != word::UNPACK {
+        put(store, w - 2, word::TUPLE_PATTERN, 0);
         put(store, w - 4, inner, value);
         return 4;
     }
-    put(store, w - 2, PACK, 0);
-    if inner == ABSENT {
-        put(store, w - 4, ABSENT, value);
+    put(store, w - 2, word::PACK, 0);
+    if inner == word::ABSENT {
+        put(store, w - 4, word::ABSENT, value);
         return 4;
     }
     2
@@ -220,19 +185,19 @@ fn place(store: &mut [u64], from: usize, to: usize) -> usize
         let word = store[i - 2];
         let value = store[i - 1];
         match word {
-            IDENTIFIER => {
+            word::IDENTIFIER => {
                 w -= 2;
                 i -= 2;
-                put(store, w, IDENTIFIER_PATTERN, value);
+                put(store, w, word::IDENTIFIER_PATTERN, value);
             }
-            GROUP => {
+            word::GROUP => {
                 i -= 2;
                 if value != 0 {
                     w -= 2;
-                    put(store, w, MODIFIER, value - 1);
+                    put(store, w, word::MODIFIER, value - 1);
                 }
             }
-            PRIMARY => {
+            word::PRIMARY => {
                 let start = place_access(store, i, w);
                 w = start + (w - i);
                 i = start;

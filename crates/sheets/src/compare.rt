@@ -4,9 +4,9 @@ use crate::tally::Tally;
 use crate::tally::with_difference;
 use crate::words::word_at;
 use grammar::Answer;
-use grammar::ErrorKind;
 use grammar::Reader;
 use grammar::Written;
+use grammar::kind_number;
 
 // What a store or an output holds before a call: rubbish, so that a word that the call leaves as it was is seen.
 const RUBBISH: u64 = 11400714819323198485;
@@ -24,15 +24,6 @@ pub struct Want {
     pub reader: Reader,
 }
 
-// The number of an error kind.
-fn error_number(kind: ErrorKind) -> u64 {
-    match kind {
-        ErrorKind::LexerError => 1,
-        ErrorKind::EndofTokenStream => 2,
-        ErrorKind::SyntaxError(n) => n,
-    }
-}
-
 // An answer of the reader by its letter and its number.
 pub fn read(answer: Answer) -> Said {
     match answer {
@@ -42,7 +33,7 @@ pub fn read(answer: Answer) -> Said {
         },
         Answer::Error(kind) => Said {
             case: b'e',
-            number: error_number(kind),
+            number: kind_number(kind),
         },
         Answer::End => Said {
             case: b'.',

@@ -5,12 +5,10 @@ ghost use Prim.Native.Nat.{_+_, _-_, _≤_};
 ghost use lib.ListN.{length, take, replicate};
 ghost use Rattle.tree.specs.Store.{Emitted, Led, Result};
 
-// First words of records, the kind + 256 × the count of the children: a list with no element yet, no child, a statement list.
-const LIST: u64 = 1;
+pub mod node;
+pub mod word;
 
-const ABSENT: u64 = 0;
-
-const STMT_LIST: u64 = 519;
+use crate::word::CHILD;
 
 // Writes a record, and answers the place behind it.
 pub fn emit(store: &mut [u64], at: usize, word: u64, value: u64) -> usize
@@ -43,9 +41,9 @@ fn lead(part: &mut [u64], m: usize, n: u64)
         i -= 1;
         part[i + 6] = part[i];
     }
-    let a = emit(part, 0, LIST + 256 * n, 0);
-    let b = emit(part, a, ABSENT, 0);
-    emit(part, b, STMT_LIST, 0);
+    let a = emit(part, 0, word::LIST + CHILD * n, 0);
+    let b = emit(part, a, word::ABSENT, 0);
+    emit(part, b, word::STMT_LIST, 0);
 }
 
 // A block's last statement becomes its result: the words from `last` to `end` move behind the list of the n statements before it.

@@ -6,7 +6,6 @@ ghost use mathlib.Core.Path.{_≡_};
 ghost use mathlib.Core.List.{List};
 ghost use Prim.Native.Nat.{ℕ, _*_, _≤_};
 ghost use lib.ListN.{length};
-ghost use Rattle.grammar.specs.Reading.Next.{kind-number};
 ghost use Rattle.treelist.specs.Lines.{most-lines, progress, start, read, closed, Ready, Comes};
 ghost use Rattle.treelist.specs.Printing.{Holds, goes-on};
 use crate::lines::Scan;
@@ -16,8 +15,8 @@ use crate::lines::input_end;
 use crate::listing::answer_line;
 use crate::listing::node_line;
 use grammar::Answer;
-use grammar::ErrorKind;
 use grammar::Reader;
+use grammar::kind_number;
 use libc::STDIN_FILENO;
 use libc::STDOUT_FILENO;
 use parser::next_stmt;
@@ -79,17 +78,6 @@ fn print_answer(text: &[u8], number: u64)
     io::write_all(STDOUT_FILENO, &line[..n]);
 }
 
-// The number of an error kind.
-fn number(kind: ErrorKind) -> u64
-    ensures { λ r. ⌜ r ≡ kind-number kind ⌝ }
-{
-    match kind {
-        ErrorKind::LexerError => 1,
-        ErrorKind::EndofTokenStream => 2,
-        ErrorKind::SyntaxError(n) => n,
-    }
-}
-
 // Prints an answer, and says whether another may follow.
 fn print(answer: Answer, store: &[u64]) -> bool
     requires { ⌜ Holds answer (now store) ⌝ }
@@ -102,7 +90,7 @@ fn print(answer: Answer, store: &[u64]) -> bool
             true
         }
         Answer::Error(kind) => {
-            print_answer(b"answer=error number=", number(kind));
+            print_answer(b"answer=error number=", kind_number(kind));
             true
         }
         Answer::End => {

@@ -1,6 +1,6 @@
 -- A chain of operators from its root: the right side, the operator, and on with the left side. Holds for any tree. Assumes nothing.
 use mathlib.Core.Path.{_≡_, refl, ap, _∙_}
-use mathlib.Core.Bool.{Bool, true, false, _&&_, and-true}
+use mathlib.Core.Bool.{Bool, true, false, _&&_, and-true, and-false}
 use mathlib.Core.List.{List, _∷_}
 use Prim.Native.Nat.{ℕ, _-_, _≤_}
 use native.Mathlib.Omega.{arith}
@@ -10,7 +10,6 @@ use Rattle.operator.specs.Operator.{op-token}
 use Rattle.tree.specs.NodeKind
 use Rattle.tree.specs.Tree.{Tree, node, none, more, count}
 use Rattle.tree.specs.Records.{back}
-use Rattle.grammar.specs.Laws.Facts.{and-false}
 use Rattle.writer.specs.Choice.{where-zero, where-is}
 use Rattle.writer.specs.Form.{Own, first-place, second-place, place-of, base, first-deeper, second-deeper, deeper}
 use Rattle.writer.specs.Layout.{form-of, text, within}

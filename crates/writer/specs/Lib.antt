@@ -16,4 +16,5 @@ pub mod Same
 pub mod Verdict
 pub mod Post
 pub mod Promise
+pub mod Flat
 pub mod Examples

@@ -14,8 +14,8 @@ ghost use mathlib.Core.Path.{_≡_};
 ghost use Rattle.writer.specs.Class.{binary-class as binary-class-def, keyword-class as keyword-class-def, named-class as named-class-def, assignment-class as assignment-class-def, body-class as body-class-def, later-class as later-class-def, class as class-def, default-list as default-list-def, plain-list as plain-list-def, argument-list as argument-list-def, list-class as list-class-def};
 use crate::choice::where_is;
 use crate::choice::where_zero;
-use crate::node;
 use crate::operators::level;
+use tree::node;
 
 // `...` alone.
 const LONE: u64 = 1;

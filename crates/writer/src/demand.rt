@@ -7,8 +7,8 @@ use crate::class::ARGUMENT;
 use crate::class::LISTS;
 use crate::class::NOTHING;
 use crate::class::OPERANDS;
-use crate::node;
 use crate::operators::level;
+use tree::node;
 
 // Any expression, or Absent; the same but for `...` alone, as in a statement.
 const EXPR: u64 = 1801;

@@ -11,7 +11,7 @@ ghost use mathlib.Core.Path.{_≡_};
 ghost use Rattle.writer.specs.Form.{fun-gives as fun-gives-def, first-place as first-place-def, second-place as second-place-def, place-of as place-of-def, base as base-def, first-deeper as first-deeper-def, second-deeper as second-deeper-def, deeper as deeper-def};
 use crate::choice::where_is;
 use crate::choice::where_zero;
-use crate::node;
+use tree::node;
 
 pub const OWN: u64 = 0;
 

@@ -2,7 +2,7 @@
 ghost use mathlib.Core.Path.{_≡_};
 ghost use Rattle.grammar.specs.Canonical.Write.{target-atom as target-atom-def};
 ghost use Rattle.writer.specs.Kinds.{target-item as target-item-def, name-is as name-is-def, gives-name as gives-name-def, passes as passes-def, unlabelled as unlabelled-def, closed as closed-def};
-use crate::node;
+use tree::node;
 
 // An atom that is no group can begin a target.
 pub fn target_atom(kind: u64) -> bool

@@ -14,7 +14,6 @@ use crate::kinds::passes;
 use crate::kinds::unlabelled;
 use crate::mode::class_at;
 use crate::mode::mode;
-use crate::node;
 use crate::noted::note_form;
 use crate::records::Fitting;
 use crate::records::Places;
@@ -26,6 +25,7 @@ use crate::records::kind_at;
 use crate::records::last_of;
 use crate::records::value_at;
 use crate::sound::sound;
+use tree::node;
 
 // Whether the tree that ends at p begins with a label: down the first children to a labelled block.
 fn begins_labelled(records: &[u64], keys: &Places, facts: &Places, p: usize) -> bool

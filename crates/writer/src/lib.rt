@@ -8,10 +8,10 @@ mod choice;
 mod class;
 mod demand;
 mod form;
+pub mod host;
 mod kinds;
 mod legal;
 mod mode;
-mod node;
 mod noted;
 mod operators;
 mod records;
@@ -35,20 +35,13 @@ use crate::text::put;
 use crate::text::shift;
 use crate::tokens::after_token;
 use grammar::Written;
+use grammar::limit;
 use token::kind;
 use tree::clear;
+use tree::word::BINARY_OP;
+use tree::word::CHILD;
 
-// How deep the run may be. grammar's specs/Reading/Limit.antt has this and the numbers below.
-const DEPTH_LIMIT: u64 = 64;
-
-const TOO_DEEP: u64 = 62;
-
-const NO_STATEMENT: u64 = 65;
-
-const SHORT_OUTPUT: u64 = 66;
-
-// The first word of an operator's record: BinaryOp, with two children.
-const OPERATOR: u64 = 525;
+const DEPTH: u64 = limit::DEPTH as u64;
 
 // A tree was written: where its records begin, and 2 more than where its words begin (below 2: no room). Or it is too deep.
 pub enum Step {
@@ -74,7 +67,7 @@ fn write_tree(
     let mut at = place;
     let mut p = from;
     let mut a = end;
-    while records[p - 2] == OPERATOR {
+    while records[p - 2] == BINARY_OP {
         let number = records[p - 1];
         let r = write_tree(records, keys, facts, output, depth, OWN, p - 2, a);
         let Step::Done(q, e) = r else {
@@ -104,12 +97,12 @@ fn write_node(
 {
     let word = records[p - 2];
     let value = records[p - 1];
-    let kind = word % 256;
+    let kind = word % CHILD;
     if depth < base(kind) {
         return Step::Deep;
     }
     let form = form_at(records, keys, facts, p, place);
-    let n = word / 256;
+    let n = word / CHILD;
     let mut j = n;
     let mut q = p - 2;
     let mut a = closing(output, end, kind, value, form);
@@ -135,7 +128,7 @@ fn written(output: &mut [u64], b: usize) -> Written
 {
     if b < 2 {
         clear(output, 0);
-        return Written::Refused(SHORT_OUTPUT);
+        return Written::Refused(limit::SHORT_OUTPUT);
     }
     let m = output.len();
     let by = b - 2;
@@ -150,12 +143,12 @@ fn run_out(records: &[u64], keys: &Places, facts: &Places, output: &mut [u64]) -
 {
     let a = put(output, output.len() + 2, kind::SEMICOLON, 0);
     let n = records.len();
-    let r = write_tree(records, keys, facts, output, DEPTH_LIMIT, OWN, n, a);
+    let r = write_tree(records, keys, facts, output, DEPTH, OWN, n, a);
     match r {
         Step::Done(_, b) => written(output, b),
         Step::Deep => {
             clear(output, 0);
-            Written::Stopped(TOO_DEEP)
+            Written::Stopped(limit::TOO_DEEP)
         }
     }
 }
@@ -167,13 +160,13 @@ pub fn write_stmt(records: &[u64], output: &mut [u64]) -> Written
 {
     if !shape(records) {
         clear(output, 0);
-        return Written::Refused(NO_STATEMENT);
+        return Written::Refused(limit::NO_STATEMENT);
     }
     let mut keys = [0usize; 48000];
     let mut facts = [0usize; 48000];
     if !legal(records, &mut keys, &mut facts) {
         clear(output, 0);
-        return Written::Refused(NO_STATEMENT);
+        return Written::Refused(limit::NO_STATEMENT);
     }
     run_out(records, &keys, &facts, output)
 }

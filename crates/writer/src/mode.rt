@@ -8,7 +8,6 @@ use crate::class::class;
 use crate::class::list_class;
 use crate::form::FUN;
 use crate::form::fun_gives;
-use crate::node;
 use crate::noted::function_form;
 use crate::records::Places;
 use crate::records::count_at;
@@ -16,6 +15,7 @@ use crate::records::kid_of;
 use crate::records::kind_at;
 use crate::records::last_of;
 use crate::records::value_at;
+use tree::node;
 
 // A statement list. 0: no control, and the last statement is an expression; 1: no control, and it is none; 2: with control.
 fn body_mode(records: &[u64], keys: &Places, facts: &Places, p: usize) -> u64

@@ -3,13 +3,13 @@
 ghost use Rattle.writer.specs.Stack.{Here, Somewhere, Says, children-in};
 ghost use Rattle.writer.specs.Memory.{Reach, Table, Slot};
 ghost use Rattle.writer.specs.Check.{function-form as function-form-def};
-use crate::node;
 use crate::records::ALL;
 use crate::records::Places;
 use crate::records::TREES;
 use crate::records::kind_at;
 use crate::records::last_of;
 use crate::target::seek_form;
+use tree::node;
 
 // Whether the tree that ends at p is an assignment of a function. Only these are remembered: `fun` gives no other.
 fn of_function(records: &[u64], p: usize) -> bool

@@ -4,6 +4,7 @@
 ghost use Prim.Native.Nat.{_≤_};
 ghost use Rattle.writer.specs.Stack.{Here, Somewhere, Shape, Skipped, Says, Last-of, Kid-of, kind-in, count-in, value-in};
 ghost use Rattle.writer.specs.Memory.{Known, Reach};
+use tree::word::CHILD;
 
 // What is remembered of trees. keys[i] is the end of a tree, or 0. facts[i], for i below TREES: where the tree begins, if it ends at p and i is
 // p / 2 % TREES; from TREES on: what seek_form says of the tree, which is an assignment of a function (noted.rt).
@@ -29,7 +30,7 @@ pub fn shape(records: &[u64]) -> bool
         if records.len() - i < 2 {
             return false;
         }
-        let n = records[i] / 256;
+        let n = records[i] / CHILD;
         if h < n {
             return false;
         }
@@ -47,7 +48,7 @@ pub fn kind_at(records: &[u64], p: usize) -> u64
     if p < 2 {
         return 0;
     }
-    records[p - 2] % 256
+    records[p - 2] % CHILD
 }
 
 // The count of its children.
@@ -58,7 +59,7 @@ pub fn count_at(records: &[u64], p: usize) -> u64
     if p < 2 {
         return 0;
     }
-    records[p - 2] / 256
+    records[p - 2] / CHILD
 }
 
 pub fn value_at(records: &[u64], p: usize) -> u64
@@ -79,7 +80,7 @@ fn skip(records: &[u64], p: usize) -> usize
     let mut q = p;
     let mut left: u64 = 1;
     while 0 < left {
-        let n = records[q - 2] / 256;
+        let n = records[q - 2] / CHILD;
         q -= 2;
         left = left - 1 + n;
     }

@@ -1,7 +1,7 @@
 // Whether a record's own numbers are in the range of its kind.
 ghost use mathlib.Core.Path.{_≡_};
 ghost use Rattle.writer.specs.Sound.{top as top-def, exceeds as exceeds-def, arity as arity-def, sound as sound-def};
-use crate::node;
+use tree::node;
 
 // Names are numbered up to this.
 const NAME: u64 = 4294967295;

@@ -10,7 +10,6 @@ ghost use Rattle.writer.specs.Verdict.{Fit};
 use crate::kinds::gives_name;
 use crate::kinds::target_atom;
 use crate::kinds::target_item;
-use crate::node;
 use crate::records::Fitting;
 use crate::records::Places;
 use crate::records::begin;
@@ -18,6 +17,7 @@ use crate::records::count_at;
 use crate::records::kid_of;
 use crate::records::kind_at;
 use crate::records::value_at;
+use tree::node;
 
 // Whether the items of a path, the children of the list that ends at p, are members and indexes; and where the path begins.
 fn target_items(records: &[u64], keys: &Places, facts: &Places, p: usize) -> Fitting

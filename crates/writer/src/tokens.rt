@@ -11,13 +11,13 @@ use crate::form::MEMBERS;
 use crate::form::OWN;
 use crate::form::SUITE;
 use crate::form::TARGETED;
-use crate::node;
 use crate::operators::NO_TOKEN;
 use crate::operators::assign_token;
 use crate::operators::keyword_of;
 use crate::operators::op_token;
 use crate::operators::unary_token;
 use token::kind;
+use tree::node;
 
 fn label_token(value: u64) -> u64
     ensures { λ r. ⌜ r ≡ label-token-def value ⌝ }

@@ -2,9 +2,10 @@
 use mathlib.Core.Path.{_≡_, refl, ap, _∙_, sym}
 use mathlib.Core.Logic.{_≢_}
 use mathlib.Core.Bool.{Bool, true, false, _&&_, _||_, true≢false}
-use Prim.Native.Nat.{ℕ}
-use borrow.Author.Tests.{eqb-true, ne-eqb}
-use lib.Dec.{eqb}
+use Prim.Native.Nat.{ℕ, max}
+use native.Mathlib.Omega.{arith}
+use borrow.Author.Tests.{eqb-true, ne-eqb, leb-true, leb-false, le-leb, lt-leb}
+use lib.Dec.{eqb, leb}
 
 -- a test that fails and passes
 pub clash : {A : Type 0} {b : Bool} → b ≡ true → b ≡ false → A
@@ -30,10 +31,6 @@ pub and-r : (a b : Bool) → a && b ≡ true → b ≡ true
 and-r true b e = e
 and-r false b e = absurd (true≢false (sym e))
 
-pub and-false : (b : Bool) → b && false ≡ false
-and-false true = refl
-and-false false = refl
-
 -- a test by cases, with what it came to
 pub by-test : {P : Type 0} (b : Bool) → (b ≡ true → P) → (b ≡ false → P) → P
 by-test true f g = f refl
@@ -43,3 +40,15 @@ by-test false f g = g refl
 pub or-true : {P : Type 0} (a b : Bool) → a || b ≡ true → (a ≡ true → P) → (b ≡ true → P) → P
 or-true true b e f g = f refl
 or-true false b e f g = g e
+
+-- two tests that pass together
+pub same-test : (a b : Bool) → (a ≡ true → b ≡ true) → (b ≡ true → a ≡ true) → a ≡ b
+same-test true b f g = sym (f refl)
+same-test false b f g = by-test b (λ e. g e ∙ sym e) sym
+
+-- the more of two numbers is at most a third where both are
+pub leb-max : (m n d : ℕ) → leb m d && leb n d ≡ leb (max m n) d
+leb-max m n d =
+    by-test (leb m d)
+    (λ e. rw e (same-test (leb n d) (leb (max m n) d) (λ h. le-leb (max m n) d (omega (arith, leb-true))) (λ h. le-leb n d (omega (arith, leb-true)))))
+    (λ e. rw e (sym (lt-leb (max m n) d (omega (arith, leb-false)))))

@@ -14,27 +14,7 @@ use crate::words::stopped_at;
 use crate::writing::is_not_written;
 use crate::writing::is_written;
 use token::kind;
-
-// First words of records: kind + 256 × the count of the children.
-const ABSENT: u64 = 0;
-
-const LIST: u64 = 1;
-
-const LIST_OF_ONE: u64 = 257;
-
-pub const EXPRESSION: u64 = 258;
-
-const LOOP: u64 = 259;
-
-const STMT_LIST: u64 = 519;
-
-const UNARY_OP: u64 = 268;
-
-const ASSIGNMENT: u64 = 526;
-
-pub const IDENTIFIER: u64 = 31;
-
-const IDENTIFIER_PATTERN: u64 = 41;
+use tree::word;
 
 // A tree that is as deep as may be: its tokens are read to it, and it is written as them.
 fn both_ways(t: Tally, name: &[u8], at: u64, tokens: &[u64], tree: &[u64]) -> Tally {
@@ -72,9 +52,9 @@ fn signs(sheet: &mut [u64], times: u64) -> usize {
 
 // The records of signs before a name.
 pub fn signs_tree(tree: &mut [u64], times: u64) -> usize {
-    let name = [IDENTIFIER, 7];
-    let sign = [UNARY_OP, 0];
-    let end = [EXPRESSION, 0];
+    let name = [word::IDENTIFIER, 7];
+    let sign = [word::UNARY_OP, 0];
+    let end = [word::EXPRESSION, 0];
     let a = put(tree, 0, &name);
     let b = repeat(tree, a, &sign, times);
     put(tree, b, &end)
@@ -103,10 +83,10 @@ fn assignments(sheet: &mut [u64], times: u64) -> usize {
 
 // The records of assignments one in the other.
 fn assignments_tree(tree: &mut [u64], times: u64) -> usize {
-    let left = [IDENTIFIER_PATTERN, 7];
-    let name = [IDENTIFIER, 7];
-    let right = [ASSIGNMENT, 0];
-    let end = [EXPRESSION, 0];
+    let left = [word::IDENTIFIER_PATTERN, 7];
+    let name = [word::IDENTIFIER, 7];
+    let right = [word::ASSIGNMENT, 0];
+    let end = [word::EXPRESSION, 0];
     let a = repeat(tree, 0, &left, times);
     let b = put(tree, a, &name);
     let c = repeat(tree, b, &right, times);
@@ -136,8 +116,26 @@ fn loops(sheet: &mut [u64], times: u64) -> usize {
 
 // The records of an empty loop in so many others.
 fn loops_tree(tree: &mut [u64], times: u64) -> usize {
-    let inner = [LIST, 0, ABSENT, 0, STMT_LIST, 0, LOOP, 0];
-    let outer = [LIST_OF_ONE, 0, ABSENT, 0, STMT_LIST, 0, LOOP, 0];
+    let inner = [
+        word::LIST,
+        0,
+        word::ABSENT,
+        0,
+        word::STMT_LIST,
+        0,
+        word::LOOP,
+        0,
+    ];
+    let outer = [
+        word::LIST + word::CHILD,
+        0,
+        word::ABSENT,
+        0,
+        word::STMT_LIST,
+        0,
+        word::LOOP,
+        0,
+    ];
     let a = put(tree, 0, &inner);
     repeat(tree, a, &outer, times)
 }

@@ -1,6 +1,4 @@
 // Records of a size that no input of this program has: a sum of 30,000 terms, 200,000 signs one in the other.
-use crate::limits::depth::EXPRESSION;
-use crate::limits::depth::IDENTIFIER;
 use crate::limits::depth::signs_tree;
 use crate::tally::Tally;
 use crate::tally::no_tally;
@@ -10,17 +8,16 @@ use crate::words::repeat;
 use crate::writing::is_not_written;
 use crate::writing::is_written;
 use token::kind;
+use tree::word;
 
-// First word of the record of an operator with two sides, and the number of `+`.
-const BINARY_OP: u64 = 525;
-
+// The number of `+`.
 const ADD: u64 = 3;
 
 // The records of a sum: one term and so many more.
 fn sum_tree(held: &mut [u64], more: u64) -> usize {
-    let first = [IDENTIFIER, 7];
-    let next = [IDENTIFIER, 7, BINARY_OP, ADD];
-    let end = [EXPRESSION, 0];
+    let first = [word::IDENTIFIER, 7];
+    let next = [word::IDENTIFIER, 7, word::BINARY_OP, ADD];
+    let end = [word::EXPRESSION, 0];
     let a = put(held, 0, &first);
     let b = repeat(held, a, &next, more);
     put(held, b, &end)
@@ -60,7 +57,7 @@ fn too_many(t: Tally, tree: &[u64], output: &mut [u64], times: u64) -> Tally {
 
 // Nor are they one with another tree behind them, or with a number, at the word in the middle, that is no operator's.
 fn damaged(t: Tally, held: &mut [u64], output: &mut [u64], n: usize, middle: usize) -> Tally {
-    let name = [IDENTIFIER, 7];
+    let name = [word::IDENTIFIER, 7];
     let m = put(held, n, &name);
     let a = no_tree(t, 3, between(held, 0, m), output);
     let number = [4];

@@ -25,8 +25,8 @@ enum-known-answer-2 c = search needs
 slice-aggregate-print-answer-2 : tie.Need-slice-aggregate-print-answer-2
 slice-aggregate-print-answer-2 c = search needs
 
-number-requires : tie.Need-number-requires
-number-requires c κs = search needs
+kind-number-requires : tie.Need-kind-number-requires
+kind-number-requires c κs = search needs
 
 print-answer-requires-2 : tie.Need-print-answer-requires-2
 print-answer-requires-2 c κs = search needs
@@ -83,7 +83,7 @@ print-spec =
     print-nodes-requires
     enum-known-answer-2
     slice-aggregate-print-answer-2
-    number-requires
+    kind-number-requires
     print-answer-requires-2
     enum-told
     slice-aggregate-write-all

@@ -1,5 +1,5 @@
 -- The depth that a tree takes by the tables, as a number: a depth is enough where it is not below that one. Assumes nothing.
-use mathlib.Core.Path.{_≡_, refl, sym, _∙_}
+use mathlib.Core.Path.{_≡_, sym}
 use mathlib.Core.Bool.{Bool, true, false, cond, _&&_}
 use Prim.Native.Nat.{ℕ, suc, _+_, _-_, _≤_, _<_, max, zero-le}
 use native.Mathlib.Nat.{le-refl}
@@ -9,7 +9,7 @@ use lib.Dec.{eqb, ltb, leb}
 use Rattle.operator.specs.Below.{most-below}
 use Rattle.tree.specs.NodeKind
 use Rattle.tree.specs.Tree.{Tree, Forest, node, none, more}
-use Rattle.grammar.specs.Laws.Facts.{by-test}
+use Rattle.grammar.specs.Laws.Facts.{by-test, same-test, leb-max}
 use Rattle.writer.specs.Choice.{where-is}
 use Rattle.writer.specs.Form.{Own, place-of, base, first-deeper, second-deeper, deeper}
 use Rattle.writer.specs.Layout.{form-of, within, withins}
@@ -60,17 +60,7 @@ far-deeper k m j h =
 pub deeper-base : (k m j : ℕ) → deeper k m j ≤ base k
 deeper-base k m j = by-test (ltb k 47) (λ e. few-deeper k m j (ltb-true k 47 e)) (λ e. far-deeper k m j (ltb-false k 47 e))
 
--- tests of numbers
-same-test : (a b : Bool) → (a ≡ true → b ≡ true) → (b ≡ true → a ≡ true) → a ≡ b
-same-test true b f g = sym (f refl)
-same-test false b f g = by-test b (λ e. g e ∙ sym e) sym
-
-leb-max : (a b d : ℕ) → leb a d && leb b d ≡ leb (max a b) d
-leb-max a b d =
-    by-test (leb a d)
-    (λ e. rw e (same-test (leb b d) (leb (max a b) d) (λ h. le-leb (max a b) d (omega (arith, leb-true))) (λ h. le-leb b d (omega (arith, leb-true)))))
-    (λ e. rw e (sym (lt-leb (max a b) d (omega (arith, leb-false)))))
-
+-- a depth that is taken off on one side may be added on the other
 leb-minus : (a c d : ℕ) → c ≤ d → leb a (d - c) ≡ leb (a + c) d
 leb-minus a c d h = same-test (leb a (d - c)) (leb (a + c) d) (λ e. le-leb (a + c) d (omega (arith, leb-true))) (λ e. le-leb a (d - c) (omega (arith, leb-true)))
 

@@ -1,6 +1,6 @@
 -- What a reading comes to at a depth, and the equations of one step of a reading, each with what goes on as its last argument. Assumes nothing.
-use mathlib.Core.Path.{_≡_, refl, ap, _∙_, sym}
-use mathlib.Core.Bool.{Bool, true, false, cond, _&&_, _||_, true≢false}
+use mathlib.Core.Path.{_≡_, refl, ap, _∙_}
+use mathlib.Core.Bool.{Bool, true, false, cond, _&&_, _||_}
 use mathlib.Core.List.{List, _∷_}
 use Prim.Native.Nat.{ℕ, suc, _/_, _%_, _≤_, _<_, max}
 use native.Mathlib.Nat.{le-refl}
@@ -15,7 +15,7 @@ use Rattle.grammar.specs.Reading.Limit.{too-deep}
 use Rattle.grammar.specs.Reading.Result.{Error, Res, ok, stop, either, then, ifb}
 use Rattle.grammar.specs.Reading.Look.{looked, look, expect, expect-pattern}
 use borrow.Author.Tests.{ne-eqb, eq-eqb, le-leb, leb-true, lt-leb}
-use Rattle.grammar.specs.Laws.Facts.{not-true, and-l, and-r}
+use Rattle.grammar.specs.Laws.Facts.{and-l, and-r, leb-max}
 
 -- a reading that a depth may not reach
 unfoldable pub reach : {A : Type 0} → Bool → Res A → Res A
@@ -35,18 +35,10 @@ unfolding reach
 reach-both true b x = refl
 reach-both false b x = refl
 
-leb-max : (m n d : ℕ) → leb (max m n) d ≡ leb m d && leb n d
-leb-max m n d = go (leb m d) (leb n d) refl refl
-  where
-    go : (a b : Bool) → leb m d ≡ a → leb n d ≡ b → leb (max m n) d ≡ a && b
-    go true true e f = let h = leb-true m d e in let g = leb-true n d f in le-leb (max m n) d (omega arith)
-    go true false e f = not-true (leb (max m n) d) λ t. let h = leb-true (max m n) d t in true≢false (sym (le-leb n d (omega arith)) ∙ f)
-    go false b e f = not-true (leb (max m n) d) λ t. let h = leb-true (max m n) d t in true≢false (sym (le-leb m d (omega arith)) ∙ e)
-
 -- one after the other needs the more of both
 pub both : {A : Type 0} {m n d : ℕ} {x y z : Res A} → Needs m d x y → Needs n d y z → Needs (max m n) d x z
 both {m = m} {n = n} {d = d} {z = z} e h =
-    record { is = e .is ∙ ap (reach (leb m d)) (h .is) ∙ reach-both (leb m d) (leb n d) z ∙ ap (λ b. reach b z) (sym (leb-max m n d)) }
+    record { is = e .is ∙ ap (reach (leb m d)) (h .is) ∙ reach-both (leb m d) (leb n d) z ∙ ap (λ b. reach b z) (leb-max m n d) }
 
 -- nothing is needed where nothing is read
 pub done : {A : Type 0} {d : ℕ} {x : Res A} → Needs 0 d x x

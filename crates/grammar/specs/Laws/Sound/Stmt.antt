@@ -1,6 +1,6 @@
 -- Statements and statement lists that are read cleanly are valid, and so is every reading at every depth. Assumes nothing.
 use mathlib.Core.Path.{_≡_, refl, sym, ap, _∙_}
-use mathlib.Core.Bool.{Bool, true, false}
+use mathlib.Core.Bool.{Bool, true, false, and-false}
 use mathlib.Core.List.{List}
 use Prim.Native.Nat.{ℕ, zero, suc}
 use lib.Dec.{eqb}
@@ -20,7 +20,7 @@ use Rattle.grammar.specs.Reading.Stmt.{loop, while-loop, lvalue-list, fo
 use Rattle.grammar.specs.Reading.Level.{primary-expr, unary-expr, level}
 use Rattle.grammar.specs.Canonical.Valid.{IsName, IsLabel, no-label, a-label, tight, unary, ex, jump, control, body, stmt, Valid, Valids, Pattern, v-table, v-tight, v-unary-op, v-continue, v-break, v-break-value, v-break-label, v-return, v-return-value, v-no-control, v-control, v-body, v-expression, v-loop, v-while, v-for, v-assert, v-none, p-modifier}
 use borrow.Author.Tests.{eqb-true, ne-eqb}
-use Rattle.grammar.specs.Laws.Facts.{clash, apart, and-false}
+use Rattle.grammar.specs.Laws.Facts.{clash, apart}
 use Rattle.grammar.specs.Laws.Post.{Post, p-ok, p-fail, p-stop, post-then, post-either, post-if, post-push, post-map}
 use Rattle.grammar.specs.Laws.Convert.{none-sound}
 use Rattle.grammar.specs.Laws.Sound.Base.{Saw, look-saw, isnt, not-at, is-at, NotClose, NotLabel, expect-took, OperandOk, ListOk, Sound, anyhow, before, valids-snoc, Keyed, no-keyword, a-keyword, keyword-sound, pattern-sound}

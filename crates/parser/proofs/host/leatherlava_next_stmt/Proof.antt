@@ -5,7 +5,7 @@ use Prim.Native.Nat.{ℕ}
 use borrow.Author.Needs.{needs}
 use Rattle.parser.specs.Flat.{Left, left-by}
 use Rattle.grammar.specs.declared.Reader.{Reader}
-use Rattle.parser.specs.declared.host.Flat.{Flat}
+use Rattle.grammar.specs.declared.Flat.{Flat}
 use Rattle.parser.proofs.host.leatherlava_next_stmt.Statement.{statement}
 use Rattle.parser.proofs.host.leatherlava_next_stmt.Tie as tie
 

@@ -1,6 +1,6 @@
 -- Nodes of assignments and groups whose children meet their demands: what their class says. Assumes nothing.
 use mathlib.Core.Path.{_≡_, refl, sym, subst, _∙_}
-use mathlib.Core.Bool.{Bool, true, false, _&&_}
+use mathlib.Core.Bool.{Bool, true, false, _&&_, and-false}
 use Prim.Native.Nat.{ℕ, zero, suc, pred, _+_, _*_, _/_, _%_, _≤_, _<_}
 use native.Mathlib.Omega.{arith}
 use lib.Dec.{eqb, ltb}
@@ -13,7 +13,7 @@ use Rattle.tree.specs.Maybe.{just}
 use Rattle.grammar.specs.Reading.Function.{target-name}
 use Rattle.grammar.specs.Canonical.Write.{Place, own, modified, is-target, function-named, has-function, fun-gives}
 use Rattle.grammar.specs.Canonical.Valid.{assign, ex, given, function, Valid, Pattern, Target, v-function, v-target, v-assign, v-local, v-keyword, v-given, v-given-assign, v-given-target, v-group, v-modified}
-use Rattle.grammar.specs.Laws.Facts.{clash, by-test, and-l, and-r, and-false}
+use Rattle.grammar.specs.Laws.Facts.{clash, by-test, and-l, and-r}
 use Rattle.grammar.specs.Laws.Views.{target-of, Fun, fun-of}
 use Rattle.writer.specs.Choice.{where-zero, where-is}
 use Rattle.writer.specs.Class as Class

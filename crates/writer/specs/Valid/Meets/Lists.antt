@@ -1,6 +1,6 @@
 -- Lists whose members all meet one demand: their class, and that they fit. Assumes nothing.
 use mathlib.Core.Path.{_≡_, refl}
-use mathlib.Core.Bool.{Bool, true, false, not}
+use mathlib.Core.Bool.{Bool, true, false, not, and-false}
 use Prim.Native.Nat.{ℕ, suc, _+_, _-_, _*_, _≤_, _<_}
 use native.Mathlib.Omega.{arith}
 use lib.Dec.{eqb, eqb·suc-zero}
@@ -10,7 +10,7 @@ use Rattle.tree.specs.Tree.{Tree, Forest, node, none, more, count, kind-of}
 use Rattle.tree.specs.Node
 use Rattle.tree.specs.Maybe.{just}
 use Rattle.grammar.specs.Canonical.Valid.{item, table-item, param, branch, stmt}
-use Rattle.grammar.specs.Laws.Facts.{and-false, by-test}
+use Rattle.grammar.specs.Laws.Facts.{by-test}
 use Rattle.writer.specs.Class as Class
 use Rattle.writer.specs.Class.{class, default-list, plain-list, argument-list, list-class}
 use Rattle.writer.specs.Demand as Demand

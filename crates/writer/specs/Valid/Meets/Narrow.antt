@@ -1,6 +1,6 @@
 -- What a tree's kind takes from the classes that it can have, and what a demand says of its kind. Assumes nothing.
 use mathlib.Core.Path.{_≡_, refl}
-use mathlib.Core.Bool.{Bool, true, false, not}
+use mathlib.Core.Bool.{Bool, true, false, not, and-false}
 use Prim.Native.Nat.{ℕ}
 use native.Mathlib.Omega.{arith}
 use lib.Dec.{eqb, leb}
@@ -9,7 +9,7 @@ use Rattle.tree.specs.NodeKind
 use Rattle.tree.specs.Tree.{Tree, node, kind-of}
 use Rattle.tree.specs.Node
 use Rattle.grammar.specs.Reading.Stmt.{lone-ellipsis}
-use Rattle.grammar.specs.Laws.Facts.{clash, and-false, by-test}
+use Rattle.grammar.specs.Laws.Facts.{clash, by-test}
 use Rattle.writer.specs.Class as Class
 use Rattle.writer.specs.Class.{class}
 use Rattle.writer.specs.Demand as Demand

@@ -1,4 +1,4 @@
-// The limits of a reading, and the numbers of stops and refusals. grammar's specs/Reading/Limit.antt has the same.
+// The limits, and the numbers of stops and refusals. specs/Reading/Limit.antt has the same.
 
 // Operand readings, right sides of assignments and statement lists begun and unfinished.
 pub const DEPTH: usize = 64;
@@ -21,3 +21,7 @@ pub const TOO_DEEP: u64 = 62;
 pub const SHORT_STORE: u64 = 63;
 
 pub const QUEUE_FULL: u64 = 64;
+
+pub const NO_STATEMENT: u64 = 65;
+
+pub const SHORT_OUTPUT: u64 = 66;

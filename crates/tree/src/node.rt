@@ -1,4 +1,4 @@
-// The node kinds of a tree, as docs/TREE.md numbers them. The crate tree has the same numbers in specs/NodeKind.antt.
+// The node kinds of a tree, as docs/TREE.md numbers them. specs/NodeKind.antt has the same.
 pub const ABSENT: u64 = 0;
 
 pub const LIST: u64 = 1;
