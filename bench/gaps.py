@@ -1,0 +1,103 @@
+"""Statements in which the writer has forgotten what it asks for again. bench/passed counts what it passes over in them, bench/write times them.
+
+All are nests: levels around a core. A level has a gap: records that stand behind what is nested in it, so many that nothing of what stands
+before them is left in the writer's table.
+"""
+from shapes import (A, ADDED, ENDED, NAMED_SIGNATURE, NO_RESULT, NO_STATEMENTS, PATTERN, SIGNATURE, STATED, big, call, chain, count, functions, nest,
+                    rec)
+
+# The places of the table: for trees, and for assignments of functions.
+TREES, FORMS = 24576, 23424
+# Functions can be nested so many times in targets, until the depth runs out.
+DEEPEST = 64
+# A target's last index and the function's signature: `].b()`.
+TARGET = rec("Index", 1) + rec("List", 1) + rec("Primary", 2) + rec("AttributePattern", 1, 1) + SIGNATURE
+CALLED = rec("List", 1) + rec("Invoke", 1) + rec("List", 1) + rec("Primary", 2)
+
+
+def sums(core, levels, gap):
+    """.. + gap"""
+    return nest(core, levels, b"", gap + ADDED)
+
+
+def bodies(core, levels, gap):
+    """fun f() .. end + gap"""
+    return nest(core, levels, PATTERN + NAMED_SIGNATURE + NO_STATEMENTS, ENDED + gap + ADDED)
+
+
+def targets(core, levels, gap=b""):
+    """fun a[..].b() end + gap"""
+    return nest(core, levels, A, TARGET + NO_RESULT + ENDED + (gap and gap + ADDED))
+
+
+def arguments(core, levels, gap):
+    """a(fun a[..].b() gap end)"""
+    return nest(core, levels, A + A, TARGET + NO_STATEMENTS + gap + ENDED + CALLED)
+
+
+def members(core, levels, gap):
+    """1, fun() .. end, gap"""
+    return nest(core, levels, rec("IntegerLiteral") + SIGNATURE + NO_STATEMENTS,
+                rec("ExprBlock", 2) + rec("FunctionDef", 2) + gap + rec("List", 3) + rec("Tuple", 1))
+
+
+def plain(level, gap):
+    """levels with gaps of so many records, by the number of all records"""
+    return lambda n: level(A, round(n / count(level(b"", 1, big(gap)))), big(gap)) + STATED
+
+
+def assigning(least, deep):
+    """a gap with at least so many assignments of functions in few records: 11 for each, and one for so many that are nested"""
+    return call([functions(deep)] * -(-least // deep))
+
+
+def filled(around, n, core):
+    """what stands around a core, with a core that makes n records of it"""
+    return around(core(n - count(around(b"")))) + STATED
+
+
+def one_sum(n):
+    return chain(n // 2)
+
+
+def nested_members(n):
+    levels = (n - 2) // count(members(b"", 1, big(TREES)))
+    return members(chain(max(1, (n - count(members(b"", levels, big(TREES)))) // 2)), levels, big(TREES))
+
+
+def remembered(core):
+    return sums(targets(core, DEEPEST), 1, big(TREES))
+
+
+def argument(core):
+    return arguments(targets(core, DEEPEST - 1), 1, big(TREES))
+
+
+def forgotten(core):
+    return sums(targets(core, DEEPEST), 1, assigning(FORMS, 31))
+
+
+def forgotten_in_sums(core):
+    return sums(targets(core, DEEPEST), 10, assigning(FORMS // 10 + 1, 31))
+
+
+def forgotten_in_members(core):
+    """levels of members, the innermost without its function, since a function takes two of the depth"""
+    gap = assigning(FORMS // 10 + 1, 10)
+    inner = rec("IntegerLiteral") + targets(core, DEEPEST - 18) + gap + rec("List", 3) + rec("Tuple", 1)
+    return members(inner, 9, gap)
+
+
+LEVELS = (sums, bodies, targets, arguments, members)
+# Each shape's name, the statement by the number of its records, and from how many on there is one.
+SHAPES = (
+    *(("`%s`, gaps of %d" % (level.__doc__, gap), plain(level, gap), gap) for gap in (TREES, 8192) for level in LEVELS),
+    ("64 functions in targets, most records in the innermost; a gap behind", lambda n: filled(remembered, n, one_sum), 50000),
+    ("the same, the gap in the body of one more that is an argument", lambda n: filled(argument, n, one_sum), 50000),
+    ("64 functions in targets, most records in the innermost; more than 23,424 assigned functions behind",
+     lambda n: filled(forgotten, n, one_sum), 270000),
+    ("the same, those behind in ten sums, the records inside in levels of `1, fun() .. end, gap`",
+     lambda n: filled(forgotten_in_sums, n, nested_members), 270000),
+    ("46 functions in targets, the records inside in levels of `1, fun() .. end, gap`, those behind in ten more around all",
+     lambda n: filled(forgotten_in_members, n, nested_members), 270000),
+)
