@@ -7,7 +7,7 @@ from shapes import (A, ADDED, ENDED, NAMED_SIGNATURE, NO_RESULT, NO_STATEMENTS, 
                     rec)
 
 # The places of the table: for trees, and for assignments of functions.
-TREES, FORMS = 24576, 23424
+TREES, FORMS = 24576, 24424
 # Functions can be nested so many times in targets, until the depth runs out.
 DEEPEST = 64
 # A target's last index and the function's signature: `].b()`.
@@ -94,7 +94,7 @@ SHAPES = (
     *(("`%s`, gaps of %d" % (level.__doc__, gap), plain(level, gap), gap) for gap in (TREES, 8192) for level in LEVELS),
     ("64 functions in targets, most records in the innermost; a gap behind", lambda n: filled(remembered, n, one_sum), 50000),
     ("the same, the gap in the body of one more that is an argument", lambda n: filled(argument, n, one_sum), 50000),
-    ("64 functions in targets, most records in the innermost; more than 23,424 assigned functions behind",
+    ("64 functions in targets, most records in the innermost; more than 24,424 assigned functions behind",
      lambda n: filled(forgotten, n, one_sum), 270000),
     ("the same, those behind in ten sums, the records inside in levels of `1, fun() .. end, gap`",
      lambda n: filled(forgotten_in_sums, n, nested_members), 270000),

@@ -6,7 +6,7 @@ import functools
 from canonical import NODE, NODES
 
 TREES_NOTED = 24576  # how many trees the writer's table has places for (crates/writer/src/records.rt)
-FORMS_NOTED = 23424  # and how many assignments of functions
+FORMS_NOTED = 24424  # and how many assignments of functions
 VALUES = [0, 1, 2, 3, 4, 5, 8, 14, 17, 18, 40, 43, 44, 2**32 - 1, 2**32, 2**32 + 1, 2**33 - 1, 2**33, 2**33 + 1, 2**63, 2**64 - 1]
 ACTIONS = 4
 MOST_LEVELS = 70

@@ -12,7 +12,7 @@ abbrev pub tree-places : ℕ
 tree-places = 24576
 
 abbrev pub all-places : ℕ
-all-places = 48000
+all-places = 49000
 
 -- K has the trees' ends, S what is remembered of them, and it is right at every place
 pub record Memo (L K S : List ℕ) : Type 0 where

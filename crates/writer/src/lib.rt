@@ -162,8 +162,8 @@ pub fn write_stmt(records: &[u64], output: &mut [u64]) -> Written
         clear(output, 0);
         return Written::Refused(limit::NO_STATEMENT);
     }
-    let mut keys = [0usize; 48000];
-    let mut facts = [0usize; 48000];
+    let mut keys = [0usize; 49000];
+    let mut facts = [0usize; 49000];
     if !legal(records, &mut keys, &mut facts) {
         clear(output, 0);
         return Written::Refused(limit::NO_STATEMENT);

@@ -8,11 +8,11 @@ use tree::word::CHILD;
 
 // What is remembered of trees. keys[i] is the end of a tree, or 0. facts[i], for i below TREES: where the tree begins, if it ends at p and i is
 // p / 2 % TREES; from TREES on: what seek_form says of the tree, which is an assignment of a function (noted.rt).
-pub type Places = [usize; 48000];
+pub type Places = [usize; 49000];
 
 pub const TREES: usize = 24576;
 
-pub const ALL: usize = 48000;
+pub const ALL: usize = 49000;
 
 // Whether a tree passed a test of its children, one by one from the last, and where it begins.
 pub enum Fitting {
