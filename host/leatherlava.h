@@ -2,8 +2,9 @@
  * target/staticlib/libwriter.a for the writer: `rt staticlib parser` and `rt staticlib writer` write them.
  *
  * What the host owes, and nothing checks: every pointer is valid, aligned and not null; a count is that of the words behind its
- * pointer; what a call is lent does not overlap; nobody else writes it during a call. Beyond that every input has an answer: a reader
- * that no call leaves, a sheet of odd length, a short store or records of no tree are answered, not forbidden. */
+ * pointer; what a call is lent does not overlap; nobody else writes it during a call; the stack is large enough (512 KiB for the
+ * reader, 1,536 KiB for the writer: docs/BENCHMARK.md, docs/WRITER.md). Beyond that every input has an answer: a reader that no call
+ * leaves, a sheet of odd length, a short store or records of no tree are answered, not forbidden. */
 #ifndef LEATHERLAVA_H
 #define LEATHERLAVA_H
 
@@ -38,7 +39,7 @@ struct leatherlava_answer leatherlava_next_stmt(size_t *position, size_t *waitin
                                                 const uint64_t *tokens, size_t tokens_n, uint64_t *store, size_t store_n);
 
 /* Writes the canonical tokens of the statement whose records these are, two words for each, and zeros behind them. A refusal or a stop leaves
- * zeros alone. It takes up to 1,536 KiB of stack: docs/WRITER.md. */
+ * zeros alone. */
 struct leatherlava_answer leatherlava_write_stmt(const uint64_t *records, size_t records_n, uint64_t *output, size_t output_n);
 
 /* Reads the next statement of a sheet: two words for each token, and a store of 16 words for each unread token. */

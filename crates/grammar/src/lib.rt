@@ -1,4 +1,5 @@
-// The types of the calls: the reader that goes in and out, what a reading call answers, what the writer answers.
+// The types of the calls: the reader that goes in and out, what a reading call answers, what the writer answers, and both as two numbers for C;
+// and the limits.
 ghost use mathlib.Core.Path.{_≡_};
 ghost use Rattle.grammar.specs.Reading.Next.{kind-number as kind-number-def};
 
@@ -31,12 +32,14 @@ pub enum Answer {
     Refused(u64),
 }
 
-// Where a reading stands: the tokens taken so far, how many errors wait, the numbers of those errors
-// with the oldest first and 0 behind them, and the number of the stop, 0 for none.
+// The numbers of the errors that wait, the oldest first, and 0 behind them.
+pub type Queue = [u64; limit::QUEUE];
+
+// Where a reading stands: the tokens taken so far, how many errors wait, which they are, and the number of the stop, 0 for none.
 pub struct Reader {
     pub position: usize,
     pub waiting: usize,
-    pub errors: [u64; 96],
+    pub errors: Queue,
     pub stopped: u64,
 }
 
@@ -53,8 +56,8 @@ pub enum Written {
     Refused(u64),
 }
 
-// An answer for C, which has no enums with values: its variant (0 tree, 1 error, 2 end, 3 stopped, 4 refused, 5 tokens) and its number: how many nodes
-// or tokens, 0 for the end, else document 01's number.
+// An answer for C: its variant (0 tree, 1 error, 2 end, 3 stopped, 4 refused, 5 tokens) and its number: how many nodes or tokens, 0 for the end,
+// else document 01's number.
 #[repr(C)]
 pub struct Flat {
     pub variant: u64,

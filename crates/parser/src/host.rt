@@ -7,6 +7,7 @@ ghost use Rattle.parser.specs.Flat.{flat-of, reader-of, left-by};
 use crate::next_stmt;
 use grammar::Answer;
 use grammar::Flat;
+use grammar::Queue;
 use grammar::Reader;
 use grammar::kind_number;
 
@@ -42,7 +43,7 @@ fn flatten(answer: Answer) -> Flat
 pub extern "C" fn leatherlava_next_stmt(
     position: &mut usize,
     waiting: &mut usize,
-    errors: &mut [u64; 96],
+    errors: &mut Queue,
     stopped: &mut u64,
     tokens: &[u64],
     store: &mut [u64],

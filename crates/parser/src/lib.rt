@@ -80,6 +80,7 @@ use crate::scan::unary_code;
 use crate::scan::unassigned;
 use grammar::Answer;
 use grammar::ErrorKind;
+use grammar::Queue;
 use grammar::Reader;
 use grammar::Stepped;
 use grammar::limit;
@@ -176,7 +177,7 @@ fn resumed(s: Step) -> Entry
 fn unary(
     tokens: &[u64],
     store: &mut [u64],
-    queue: &mut [u64; 96],
+    queue: &mut Queue,
     depth: usize,
     pos: usize,
     at: usize,
@@ -208,7 +209,7 @@ fn unary(
 fn operand(
     tokens: &[u64],
     store: &mut [u64],
-    queue: &mut [u64; 96],
+    queue: &mut Queue,
     depth: usize,
     pos: usize,
     at: usize,
@@ -241,7 +242,7 @@ fn operand(
 fn unpack(
     tokens: &[u64],
     store: &mut [u64],
-    queue: &mut [u64; 96],
+    queue: &mut Queue,
     depth: usize,
     pos: usize,
     at: usize,
@@ -277,7 +278,7 @@ fn unpack(
 fn primary(
     tokens: &[u64],
     store: &mut [u64],
-    queue: &mut [u64; 96],
+    queue: &mut Queue,
     depth: usize,
     pos: usize,
     at: usize,
@@ -297,7 +298,7 @@ fn primary(
 fn path(
     tokens: &[u64],
     store: &mut [u64],
-    queue: &mut [u64; 96],
+    queue: &mut Queue,
     depth: usize,
     calls: bool,
     pos: usize,
@@ -337,7 +338,7 @@ fn path(
 fn access(
     tokens: &[u64],
     store: &mut [u64],
-    queue: &mut [u64; 96],
+    queue: &mut Queue,
     depth: usize,
     k: u64,
     pos: usize,
@@ -371,7 +372,7 @@ fn access(
 fn atom(
     tokens: &[u64],
     store: &mut [u64],
-    queue: &mut [u64; 96],
+    queue: &mut Queue,
     depth: usize,
     pos: usize,
     at: usize,
@@ -395,7 +396,7 @@ fn atom(
 fn group(
     tokens: &[u64],
     store: &mut [u64],
-    queue: &mut [u64; 96],
+    queue: &mut Queue,
     depth: usize,
     pos: usize,
     at: usize,
@@ -432,7 +433,7 @@ fn group(
 fn index(
     tokens: &[u64],
     store: &mut [u64],
-    queue: &mut [u64; 96],
+    queue: &mut Queue,
     depth: usize,
     pos: usize,
     at: usize,
@@ -452,7 +453,7 @@ fn index(
 fn call(
     tokens: &[u64],
     store: &mut [u64],
-    queue: &mut [u64; 96],
+    queue: &mut Queue,
     depth: usize,
     pos: usize,
     at: usize,
@@ -491,7 +492,7 @@ fn call(
 fn table(
     tokens: &[u64],
     store: &mut [u64],
-    queue: &mut [u64; 96],
+    queue: &mut Queue,
     depth: usize,
     pos: usize,
     at: usize,
@@ -536,7 +537,7 @@ fn table(
 fn item(
     tokens: &[u64],
     store: &mut [u64],
-    queue: &mut [u64; 96],
+    queue: &mut Queue,
     depth: usize,
     pos: usize,
     at: usize,
@@ -564,7 +565,7 @@ fn item(
 fn field(
     tokens: &[u64],
     store: &mut [u64],
-    queue: &mut [u64; 96],
+    queue: &mut Queue,
     depth: usize,
     pos: usize,
     at: usize,
@@ -592,7 +593,7 @@ fn field(
 fn binop(
     tokens: &[u64],
     store: &mut [u64],
-    queue: &mut [u64; 96],
+    queue: &mut Queue,
     depth: usize,
     level: u64,
     pos: usize,
@@ -637,7 +638,7 @@ fn binop(
 fn tuple(
     tokens: &[u64],
     store: &mut [u64],
-    queue: &mut [u64; 96],
+    queue: &mut Queue,
     depth: usize,
     pos: usize,
     at: usize,
@@ -674,7 +675,7 @@ fn tuple(
 fn commas(
     tokens: &[u64],
     store: &mut [u64],
-    queue: &mut [u64; 96],
+    queue: &mut Queue,
     depth: usize,
     pos: usize,
     at: usize,
@@ -719,7 +720,7 @@ fn commas(
 fn expr(
     tokens: &[u64],
     store: &mut [u64],
-    queue: &mut [u64; 96],
+    queue: &mut Queue,
     depth: usize,
     pos: usize,
     at: usize,
@@ -765,7 +766,7 @@ fn expr(
 fn right(
     tokens: &[u64],
     store: &mut [u64],
-    queue: &mut [u64; 96],
+    queue: &mut Queue,
     depth: usize,
     pos: usize,
     at: usize,
@@ -784,7 +785,7 @@ fn right(
 fn body(
     tokens: &[u64],
     store: &mut [u64],
-    queue: &mut [u64; 96],
+    queue: &mut Queue,
     depth: usize,
     pos: usize,
     at: usize,
@@ -801,7 +802,7 @@ fn body(
 fn block(
     tokens: &[u64],
     store: &mut [u64],
-    queue: &mut [u64; 96],
+    queue: &mut Queue,
     depth: usize,
     label: u64,
     pos: usize,
@@ -819,7 +820,7 @@ fn block(
 fn begin(
     tokens: &[u64],
     store: &mut [u64],
-    queue: &mut [u64; 96],
+    queue: &mut Queue,
     depth: usize,
     label: u64,
     pos: usize,
@@ -844,7 +845,7 @@ fn begin(
 fn if_expr(
     tokens: &[u64],
     store: &mut [u64],
-    queue: &mut [u64; 96],
+    queue: &mut Queue,
     depth: usize,
     pos: usize,
     at: usize,
@@ -886,7 +887,7 @@ fn if_expr(
 fn branch(
     tokens: &[u64],
     store: &mut [u64],
-    queue: &mut [u64; 96],
+    queue: &mut Queue,
     depth: usize,
     pos: usize,
     at: usize,
@@ -911,7 +912,7 @@ fn branch(
 fn decl(
     tokens: &[u64],
     store: &mut [u64],
-    queue: &mut [u64; 96],
+    queue: &mut Queue,
     depth: usize,
     pos: usize,
     at: usize,
@@ -944,7 +945,7 @@ fn decl(
 fn target(
     tokens: &[u64],
     store: &mut [u64],
-    queue: &mut [u64; 96],
+    queue: &mut Queue,
     depth: usize,
     pos: usize,
     at: usize,
@@ -968,7 +969,7 @@ fn target(
 fn def(
     tokens: &[u64],
     store: &mut [u64],
-    queue: &mut [u64; 96],
+    queue: &mut Queue,
     depth: usize,
     name: u64,
     pos: usize,
@@ -1005,7 +1006,7 @@ fn def(
 fn params(
     tokens: &[u64],
     store: &mut [u64],
-    queue: &mut [u64; 96],
+    queue: &mut Queue,
     depth: usize,
     pos: usize,
     at: usize,
@@ -1048,7 +1049,7 @@ fn params(
 fn param(
     tokens: &[u64],
     store: &mut [u64],
-    queue: &mut [u64; 96],
+    queue: &mut Queue,
     depth: usize,
     required: u64,
     default: u64,
@@ -1082,7 +1083,7 @@ fn param(
 fn stmt(
     tokens: &[u64],
     store: &mut [u64],
-    queue: &mut [u64; 96],
+    queue: &mut Queue,
     depth: usize,
     pos: usize,
     at: usize,
@@ -1133,7 +1134,7 @@ fn stmt(
 fn label(
     tokens: &[u64],
     store: &mut [u64],
-    queue: &mut [u64; 96],
+    queue: &mut Queue,
     depth: usize,
     label: u64,
     pos: usize,
@@ -1168,7 +1169,7 @@ fn label(
 fn repeat(
     tokens: &[u64],
     store: &mut [u64],
-    queue: &mut [u64; 96],
+    queue: &mut Queue,
     depth: usize,
     label: u64,
     pos: usize,
@@ -1186,7 +1187,7 @@ fn repeat(
 fn while_do(
     tokens: &[u64],
     store: &mut [u64],
-    queue: &mut [u64; 96],
+    queue: &mut Queue,
     depth: usize,
     word: u64,
     label: u64,
@@ -1213,7 +1214,7 @@ fn while_do(
 fn for_in(
     tokens: &[u64],
     store: &mut [u64],
-    queue: &mut [u64; 96],
+    queue: &mut Queue,
     depth: usize,
     label: u64,
     pos: usize,
@@ -1248,7 +1249,7 @@ fn for_in(
 fn lvalue(
     tokens: &[u64],
     store: &mut [u64],
-    queue: &mut [u64; 96],
+    queue: &mut Queue,
     depth: usize,
     pos: usize,
     at: usize,
@@ -1277,7 +1278,7 @@ fn lvalue(
 fn value(
     tokens: &[u64],
     store: &mut [u64],
-    queue: &mut [u64; 96],
+    queue: &mut Queue,
     depth: usize,
     pos: usize,
     at: usize,
@@ -1301,7 +1302,7 @@ fn value(
 fn control(
     tokens: &[u64],
     store: &mut [u64],
-    queue: &mut [u64; 96],
+    queue: &mut Queue,
     depth: usize,
     k: u64,
     pos: usize,
@@ -1337,7 +1338,7 @@ fn control(
 fn sync(
     tokens: &[u64],
     store: &mut [u64],
-    queue: &mut [u64; 96],
+    queue: &mut Queue,
     depth: usize,
     inside: bool,
     pos: usize,
@@ -1383,7 +1384,7 @@ fn sync(
 fn caught(
     tokens: &[u64],
     store: &mut [u64],
-    queue: &mut [u64; 96],
+    queue: &mut Queue,
     depth: usize,
     e: u64,
     pos: usize,
@@ -1411,7 +1412,7 @@ fn caught(
 fn turn(
     tokens: &[u64],
     store: &mut [u64],
-    queue: &mut [u64; 96],
+    queue: &mut Queue,
     depth: usize,
     end: u64,
     kind: u64,
@@ -1444,7 +1445,7 @@ fn turn(
 fn list(
     tokens: &[u64],
     store: &mut [u64],
-    queue: &mut [u64; 96],
+    queue: &mut Queue,
     depth: usize,
     end: u64,
     pos: usize,
@@ -1499,7 +1500,7 @@ fn list(
 fn failed(
     tokens: &[u64],
     store: &mut [u64],
-    queue: &mut [u64; 96],
+    queue: &mut Queue,
     e: u64,
     pos: usize,
     waiting: usize,
@@ -1520,7 +1521,7 @@ fn failed(
 }
 
 // One statement, where no error waits. Error 0 is the end.
-fn statement(tokens: &[u64], store: &mut [u64], queue: &mut [u64; 96]) -> Step
+fn statement(tokens: &[u64], store: &mut [u64], queue: &mut Queue) -> Step
     requires { ⌜ Ready (length (now tokens)) (length (now store)) (length (now queue)) 0 0 0 ⌝ }
     ensures { λ r. ⌜ Agrees records (next depth-limit [] (now (tokens .entry))) (now (tokens .entry)) 0 0 8 0 0 (now (store .entry)) (now (queue .entry)) (now (store .exit)) (now (queue .exit)) r ⌝ }
 {
@@ -1565,14 +1566,14 @@ fn stop_at(position: usize, n: u64) -> Stepped
         reader: Reader {
             position,
             waiting: 0,
-            errors: [0u64; 96],
+            errors: [0u64; limit::QUEUE],
             stopped: n,
         },
     }
 }
 
 // An answer, and a reader that goes on.
-fn go_on(answer: Answer, position: usize, waiting: usize, queue: [u64; 96]) -> Stepped
+fn go_on(answer: Answer, position: usize, waiting: usize, queue: Queue) -> Stepped
     requires { ⌜ waiting ≤ 96 ⌝ }
     ensures { λ r. ⌜ r ≡ record { answer = answer; reader = reader-at position (take waiting queue) } ⌝ }
 {
@@ -1599,7 +1600,7 @@ fn is_sheet(words: usize) -> bool
 }
 
 // Whether a reader can be one, over a sheet of this many tokens.
-fn is_reader(position: usize, waiting: usize, errors: [u64; 96], stopped: u64, count: usize) -> bool
+fn is_reader(position: usize, waiting: usize, errors: Queue, stopped: u64, count: usize) -> bool
     ensures { λ r. ⌜ r ≡ (not (ltb count position || ltb queue-limit waiting) && (is-stop-def stopped && queue-fits-def waiting errors)) ⌝ }
 {
     if count < position {
@@ -1619,7 +1620,7 @@ fn read_on(position: usize, unread: &[u64], store: &mut [u64]) -> Stepped
     requires { ⌜ (length (now unread) % 2 ≡ 0) × (length (now unread) ≤ 131072) × (8 * length (now unread) ≤ length (now store)) × (position ≤ 65536) ⌝ }
     ensures { λ r. ⌜ record { step = r; store = (now (store .exit)) } ≡ called (position + length (now (unread .entry)) / 2) (length (now (store .entry))) position (next depth-limit [] (now (unread .entry))) ⌝ }
 {
-    let mut queue = [0u64; 96];
+    let mut queue = [0u64; limit::QUEUE];
     match statement(unread, store, &mut queue) {
         Step::Done(p, a, w) => {
             clear(store, a);

@@ -12,11 +12,12 @@ use crate::number;
 use crate::scan::ends;
 use crate::scan::look;
 use crate::scan::not_last;
+use grammar::Queue;
 use grammar::limit;
 use token::kind;
 
 // An error joins the queue's back, where there is a place.
-pub fn push(queue: &mut [u64; 96], waiting: usize, e: u64) -> usize
+pub fn push(queue: &mut Queue, waiting: usize, e: u64) -> usize
     requires { ⌜ (waiting < 96) × (length (now queue) ≡ 96) ⌝ }
     ensures { λ r. ⌜ Pushed waiting e r (now (queue .entry)) (now (queue .exit)) ⌝ }
 {
@@ -25,7 +26,7 @@ pub fn push(queue: &mut [u64; 96], waiting: usize, e: u64) -> usize
 }
 
 // The front of the queue; the others move up.
-pub fn pop(queue: &mut [u64; 96], waiting: usize) -> u64
+pub fn pop(queue: &mut Queue, waiting: usize) -> u64
     requires { ⌜ (1 ≤ waiting) × (waiting ≤ 96) × (length (now queue) ≡ 96) ⌝ }
     ensures { λ r. ⌜ Popped waiting r (now (queue .entry)) (now (queue .exit)) ⌝ }
 {
@@ -41,7 +42,7 @@ pub fn pop(queue: &mut [u64; 96], waiting: usize) -> u64
 // Behind a control of the token kind k: a token that does not end the list is taken, and an error waits.
 pub fn control_last(
     tokens: &[u64],
-    queue: &mut [u64; 96],
+    queue: &mut Queue,
     end: u64,
     k: u64,
     pos: usize,
@@ -69,7 +70,7 @@ pub fn control_last(
 // After a resynchronization in a list: `EOF`, no token or a lexer error fails the list with the queue's front.
 pub fn synchronized(
     tokens: &[u64],
-    queue: &mut [u64; 96],
+    queue: &mut Queue,
     pos: usize,
     at: usize,
     waiting: usize,
@@ -121,7 +122,7 @@ pub fn is_stop(n: u64) -> bool
 }
 
 // Whether the first places hold errors.
-fn holds_errors(queue: [u64; 96], waiting: usize) -> bool
+fn holds_errors(queue: Queue, waiting: usize) -> bool
     requires { ⌜ waiting ≤ 96 ⌝ }
     ensures { λ r. ⌜ r ≡ holds-errors-def waiting queue ⌝ }
 {
@@ -136,7 +137,7 @@ fn holds_errors(queue: [u64; 96], waiting: usize) -> bool
 }
 
 // Whether the places from `from` on hold 0.
-fn holds_zeros(queue: [u64; 96], from: usize) -> bool
+fn holds_zeros(queue: Queue, from: usize) -> bool
     requires { ⌜ from ≤ 96 ⌝ }
     ensures { λ r. ⌜ r ≡ queue-fits-def 0 (drop from queue) ⌝ }
 {
@@ -151,7 +152,7 @@ fn holds_zeros(queue: [u64; 96], from: usize) -> bool
 }
 
 // The first places hold errors, the others 0.
-pub fn queue_fits(queue: [u64; 96], waiting: usize) -> bool
+pub fn queue_fits(queue: Queue, waiting: usize) -> bool
     requires { ⌜ waiting ≤ 96 ⌝ }
     ensures { λ r. ⌜ r ≡ queue-fits-def waiting queue ⌝ }
 {
@@ -162,7 +163,7 @@ pub fn queue_fits(queue: [u64; 96], waiting: usize) -> bool
 }
 
 // The queue with 0 behind the errors that wait.
-pub fn wipe(queue: [u64; 96], waiting: usize) -> [u64; 96]
+pub fn wipe(queue: Queue, waiting: usize) -> Queue
     requires { ⌜ waiting ≤ 96 ⌝ }
     ensures { λ r. ⌜ r ≡ pad (take waiting queue) ⌝ }
 {

@@ -9,6 +9,7 @@ ghost use Rattle.tree.specs.Tree.{Tree};
 ghost use Rattle.tree.specs.Rows.{Trees, Starts};
 ghost use Rattle.grammar.specs.Reading.Pattern.{to-pattern};
 ghost use Rattle.pattern.specs.Contract.{Put, Right, Left, Ended, Whole, A-tree, Settled, Access, An-access, Placed, Fit, A-fit, Stands, Answers, Over, over-words, has-members as has-members-def};
+use tree::node;
 use tree::word;
 
 // The end of the pattern's records; or none, with the store as it was.
@@ -69,7 +70,7 @@ fn skip(store: &[u64], to: usize, n: usize) -> usize
 fn has_members(word: u64) -> bool
     ensures { λ r. ⌜ r ≡ has-members-def word ⌝ }
 {
-    if word % word::CHILD != word::LIST {
+    if word % word::CHILD != node::LIST {
         return false;
     }
     word::CHILD <= word

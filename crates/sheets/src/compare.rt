@@ -4,6 +4,7 @@ use crate::tally::Tally;
 use crate::tally::with_difference;
 use crate::words::word_at;
 use grammar::Answer;
+use grammar::Queue;
 use grammar::Reader;
 use grammar::Written;
 use grammar::kind_number;
@@ -92,7 +93,7 @@ pub fn holds(store: &[u64], tree: &[u64]) -> bool {
     true
 }
 
-fn same_queue(a: [u64; 96], b: [u64; 96]) -> bool {
+fn same_queue(a: Queue, b: Queue) -> bool {
     let mut i = 0;
     while i < 96 {
         if a[i] != b[i] {

@@ -1,5 +1,7 @@
 // Runs of words: a part of one, one laid down after another, the readers that a check hands over.
+use grammar::Queue;
 use grammar::Reader;
+use grammar::limit::QUEUE;
 
 // The word at a place, 0 past the end.
 pub fn word_at(words: &[u64], i: usize) -> u64 {
@@ -49,8 +51,8 @@ pub fn repeat(words: &mut [u64], at: usize, more: &[u64], times: u64) -> usize {
 }
 
 // A queue whose first places hold these words, with 0 behind them.
-pub fn queue_of(words: &[u64]) -> [u64; 96] {
-    let mut queue = [0u64; 96];
+pub fn queue_of(words: &[u64]) -> Queue {
+    let mut queue = [0u64; QUEUE];
     let mut i = 0;
     while i < 96 {
         queue[i] = word_at(words, i);
@@ -65,8 +67,8 @@ fn error_at(i: usize, error: u64, waiting: usize) -> u64 {
 }
 
 // A queue that holds one number in so many places, with 0 behind them.
-fn queue_with(error: u64, waiting: usize) -> [u64; 96] {
-    let mut queue = [0u64; 96];
+fn queue_with(error: u64, waiting: usize) -> Queue {
+    let mut queue = [0u64; QUEUE];
     let mut i = 0;
     while i < 96 {
         queue[i] = error_at(i, error, waiting);
@@ -80,7 +82,7 @@ pub fn fresh_at(position: usize) -> Reader {
     Reader {
         position,
         waiting: 0,
-        errors: [0u64; 96],
+        errors: [0u64; QUEUE],
         stopped: 0,
     }
 }
@@ -101,7 +103,7 @@ pub fn stopped_at(position: usize, stopped: u64) -> Reader {
     Reader {
         position,
         waiting: 0,
-        errors: [0u64; 96],
+        errors: [0u64; QUEUE],
         stopped,
     }
 }

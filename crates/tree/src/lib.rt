@@ -8,8 +8,6 @@ ghost use Rattle.tree.specs.Store.{Emitted, Led, Result};
 pub mod node;
 pub mod word;
 
-use crate::word::CHILD;
-
 // Writes a record, and answers the place behind it.
 pub fn emit(store: &mut [u64], at: usize, word: u64, value: u64) -> usize
     requires { ⌜ at + 2 ≤ length (now store) ⌝ }
@@ -41,7 +39,7 @@ fn lead(part: &mut [u64], m: usize, n: u64)
         i -= 1;
         part[i + 6] = part[i];
     }
-    let a = emit(part, 0, word::LIST + CHILD * n, 0);
+    let a = emit(part, 0, word::LIST + word::CHILD * n, 0);
     let b = emit(part, a, word::ABSENT, 0);
     emit(part, b, word::STMT_LIST, 0);
 }

@@ -3,12 +3,15 @@ ghost use mathlib.Core.Path.{_≡_};
 ghost use Prim.Native.Nat.{_+_, _≤_};
 ghost use lib.ListN.{length, take, drop};
 ghost use Rattle.treelist.specs.Listing.{decimal, behind, word, node-line as node-line-def, answer-line as answer-line-def, Put, line-size};
+use tree::word::CHILD;
 
 // The names of the node kinds in their order, each with a space behind it.
 const NAMES: [u8; 460] =
     *b"Absent List Expression Loop WhileLoop ForLoop Assert StmtList Continue Break Return Primary UnaryOp BinaryOp Assignment Unpack Tuple Table IfExpr Block FunctionDef TableItem ExprBlock ConditionalBranch SignatureDef ParamDef DefaultDef FieldAttribute FieldIndex Nil EmptyTuple Identifier BooleanLiteral IntegerLiteral FloatLiteral StringLiteral Group Attribute Index Invoke InvokeTable IdentifierPattern AttributePattern IndexPattern TuplePattern Pack Modifier ";
 
 // Puts bytes at a place of the line, and answers the place behind them.
+use tree::word::CHILD;
+
 fn put(line: &mut [u8], at: usize, text: &[u8]) -> usize
     requires { ⌜ at + length (now text) ≤ length (now line) ⌝ }
     ensures { λ r. ⌜ Put at (length (now (text .entry))) (now (text .entry)) (now (line .entry)) r (now (line .exit)) ⌝ }
@@ -80,9 +83,9 @@ pub fn node_line(line: &mut [u8], first: u64, value: u64) -> usize
     ensures { λ r. ⌜ Put 0 line-size (node-line-def first value) (now (line .entry)) r (now (line .exit)) ⌝ }
 {
     let a = put(line, 0, b"kind=");
-    let b = put_word(line, a, &NAMES, first % 256);
+    let b = put_word(line, a, &NAMES, first % CHILD);
     let c = put(line, b, b" kids=");
-    let d = put_number(line, c, first / 256);
+    let d = put_number(line, c, first / CHILD);
     let e = put(line, d, b" value=");
     let f = put_number(line, e, value);
     put(line, f, b"\n")

@@ -17,6 +17,7 @@ use crate::listing::node_line;
 use grammar::Answer;
 use grammar::Reader;
 use grammar::kind_number;
+use grammar::limit::QUEUE;
 use libc::STDIN_FILENO;
 use libc::STDOUT_FILENO;
 use parser::next_stmt;
@@ -113,7 +114,7 @@ fn print_answers(tokens: &[u64], store: &mut [u64]) {
     let mut reader = Reader {
         position: 0,
         waiting: 0,
-        errors: [0u64; 96],
+        errors: [0u64; QUEUE],
         stopped: 0,
     };
     loop {

@@ -1,4 +1,4 @@
--- What a test of a tree's children says, by its answer. Assumes nothing.
+-- What a test that goes over a tree's children says, by its answer. Assumes nothing.
 use mathlib.Core.Path.{_≡_, refl}
 use mathlib.Core.Bool.{Bool, true, false}
 use mathlib.Core.List.{List, [], _∷_}

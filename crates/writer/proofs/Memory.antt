@@ -4,14 +4,14 @@ use mathlib.Core.List.{List, [], _∷_}
 use Prim.Native.Nat.{ℕ, zero, suc, _-_, _/_, _%_, _≤_, _<_}
 use native.Mathlib.Omega.{arith}
 use native.Mathlib.Decide.{ℕ-discrete}
-use lib.ListN.{length, getD, set, replicate, length-set, length-replicate}
+use lib.ListN.{length, getD, set, replicate, length-set, length-replicate, getD-replicate}
 use lib.Seq.{getD-set-same, getD-set-other}
 use Rattle.tree.specs.Tree.{Tree, Forest, node, none, more, count}
 use Rattle.tree.specs.Maybe.{Maybe, nothing, just}
 use Rattle.tree.specs.Records.{back}
 use Rattle.writer.specs.Stack.{At, Skipped, SpotAs, Spot, Says, kind-in, count-in, value-in, children-in, last-tree, last-in}
 use Rattle.writer.specs.Check.{function-form}
-use Rattle.writer.specs.Memory.{tree-places, all-places, Memo, Table}
+use Rattle.writer.specs.Memory.{tree-places, all-places, Slot, Memo, Table}
 use Rattle.writer.proofs.Laws.{at-many, pop}
 
 spot-bound-as : (L : List ℕ) (p : ℕ) (m : Maybe Tree) (s : List Tree) → SpotAs L p m s → p ≤ length L
@@ -34,7 +34,7 @@ spot-none {L} {p} m s l h = none-as L p m s l (h .how)
 pub begin-hit : {L K S : List ℕ} {p : ℕ} (i : ℕ) → i < tree-places → Memo L K S → getD K i 0 ≡ p → Skipped L p (getD S i 0)
 begin-hit i l m e = rw e at (m .begins i l)
 
-pub form-hit : {L K S : List ℕ} {p : ℕ} (i : ℕ) → tree-places ≤ i → Memo L K S → getD K i 0 ≡ p → Says L p (λ m. function-form (children-in m)) (getD S i 0)
+pub form-hit : {L K S : List ℕ} {p : ℕ} (i : ℕ) → Slot i → Memo L K S → getD K i 0 ≡ p → Says L p (λ m. function-form (children-in m)) (getD S i 0)
 form-hit i l m e = rw e at (m .forms i l)
 
 -- where nothing is remembered, all that is remembered is right: no tree ends at 0
@@ -48,15 +48,10 @@ no-form {L} = record { how = λ m s h. rw (spot-none m s (omega arith) h) }
 pub table-start : (L : List ℕ) → Table L (replicate all-places 0) (replicate all-places 0)
 table-start L =
     record {
-      memo = record { begins = λ i l. rw (zero-at all-places i) no-begin; forms = λ i l. rw (zero-at all-places i) no-form };
+      memo = record { begins = λ i l. rw (getD-replicate {A = ℕ} all-places i 0 0 (omega arith)) no-begin; forms = λ i l. rw (getD-replicate {A = ℕ} all-places i 0 0 (l .inside)) no-form };
       keys = length-replicate {A = ℕ} all-places 0;
       facts = length-replicate {A = ℕ} all-places 0;
     }
-  where
-    zero-at : (n i : ℕ) → getD {A = ℕ} (replicate n 0) i 0 ≡ 0
-    zero-at zero i = refl
-    zero-at (suc n) zero = refl
-    zero-at (suc n) (suc i) = zero-at n i
 
 -- what is noted at a place, and what stood at the others
 noted : (P : ℕ → ℕ → Type 0) (K S : List ℕ) (i p r j : ℕ) → i < length K → i < length S → (j ≡ i → P p r) → P (getD K j 0) (getD S j 0) → P (getD (set K i p) j 0) (getD (set S i r) j 0)
@@ -66,7 +61,7 @@ noted P K S i p r j hk hs new old = go (ℕ-discrete j i)
     go (yes e) = rw (e, getD-set-same K i p 0 hk, getD-set-same S i r 0 hs) (new e)
     go (no n) = rw (getD-set-other K i j p 0 n, getD-set-other S i j r 0 n) old
 
-pub table-set : {L : List ℕ} (K S : List ℕ) (i p r : ℕ) → i < all-places → Table L K S → (i < tree-places → Skipped L p r) → (tree-places ≤ i → Says L p (λ m. function-form (children-in m)) r) → Table L (set K i p) (set S i r)
+pub table-set : {L : List ℕ} (K S : List ℕ) (i p r : ℕ) → i < all-places → Table L K S → (i < tree-places → Skipped L p r) → (Slot i → Says L p (λ m. function-form (children-in m)) r) → Table L (set K i p) (set S i r)
 table-set {L} K S i p r h t begin form =
     let lk = t .keys in
     let ls = t .facts in
@@ -74,7 +69,7 @@ table-set {L} K S i p r h t begin form =
       memo =
           record {
             begins = λ j l. noted (Skipped L) K S i p r j (omega arith) (omega arith) (λ e. begin (omega arith)) (t .memo .begins j l);
-            forms = λ j l. noted (λ (q x : ℕ). Says L q (λ m. function-form (children-in m)) x) K S i p r j (omega arith) (omega arith) (λ e. form (omega arith)) (t .memo .forms j l);
+            forms = λ j l. noted (λ (q x : ℕ). Says L q (λ m. function-form (children-in m)) x) K S i p r j (omega arith) (omega arith) (λ e. form (rw e at l)) (t .memo .forms j l);
           };
       keys = simp length-set lk;
       facts = simp length-set ls;

@@ -1,4 +1,4 @@
--- What the pass over the nodes says of a child, of a node and of the whole. Definitions; they assume nothing.
+-- What is said of a tree with all its children, and what the pass over the nodes says of a child and of the whole. Definitions; they assume nothing.
 use mathlib.Core.Path.{_≡_}
 use mathlib.Core.Bool.{Bool, true, false, not, _&&_}
 use mathlib.Core.List.{List, [], _∷_}
@@ -16,7 +16,7 @@ use Rattle.writer.specs.Check.{class-of, banned, legal-tree}
 pub record Kid-fits (L : List ℕ) (kind value asked q : ℕ) (r : Bool) : Type 0 where
   pub how : (t : Tree) (s : List Tree) → At L q (t ∷ s) → r ≡ fits asked (class-of t) && not (banned kind value t)
 
--- a tree passes a test of its children and begins at q; or it doesn't pass
+-- a tree passes a test that goes over its children and begins at q; or it doesn't pass
 abbrev pub FitAs : Bool → List ℕ → List Tree → Fitting → Type 0
 FitAs b L s (From q) = (b ≡ true) × At L q s
 FitAs b L s Not = b ≡ false

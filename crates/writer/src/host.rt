@@ -27,6 +27,7 @@ fn flatten(answer: Written) -> Flat
     }
 }
 
+// `write_stmt`, with its answer as two numbers.
 #[no_mangle]
 pub extern "C" fn leatherlava_write_stmt(records: &[u64], output: &mut [u64]) -> Flat
     ensures { λ r. ⌜ record { flat = r; output = now (output .exit) } ≡ left-by (write-stmt-def (now (records .entry)) (length (now (output .entry)))) ⌝ }

@@ -27,6 +27,7 @@ use crate::form::place_of;
 use crate::legal::legal;
 use crate::mode::form_at;
 use crate::operators::op_token;
+use crate::records::ALL;
 use crate::records::Places;
 use crate::records::shape;
 use crate::text::closing;
@@ -162,8 +163,8 @@ pub fn write_stmt(records: &[u64], output: &mut [u64]) -> Written
         clear(output, 0);
         return Written::Refused(limit::NO_STATEMENT);
     }
-    let mut keys = [0usize; 49000];
-    let mut facts = [0usize; 49000];
+    let mut keys = [0usize; ALL];
+    let mut facts = [0usize; ALL];
     if !legal(records, &mut keys, &mut facts) {
         clear(output, 0);
         return Written::Refused(limit::NO_STATEMENT);

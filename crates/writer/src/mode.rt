@@ -1,4 +1,5 @@
-// What of a node's children its own record does not say, as one number: the mode. It is read off a few records near the node's end.
+// What of a node's children its own record does not say, as one number: the mode. Most are read off records near the node's end; that of an
+// assignment may be remembered (noted.rt).
 ghost use Rattle.writer.specs.Stack.{Somewhere, Says, kind-in, value-in, children-in};
 ghost use Rattle.writer.specs.Memory.{Reach};
 ghost use Rattle.writer.specs.Check.{body-mode as body-mode-def, signature-mode as signature-mode-def, group-mode as group-mode-def, inner-mode as inner-mode-def, inner-class as inner-class-def, mode-of, class-in};

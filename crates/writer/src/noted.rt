@@ -1,5 +1,6 @@
-// What is remembered of assignments of functions, so that each is looked at once and not at every node around it. The table has room for those
-// that end last: a slot is used again when all were used. No answer depends on of_function and slot_of: what they miss is sought again.
+// What is remembered of assignments of functions, so that the records of a target are gone over once, and not again for the assignment's
+// class and when it is written. The table has room for those that end last: a slot is used again when all were used. No answer depends on
+// of_function and slot_of: what they miss is sought again.
 ghost use Rattle.writer.specs.Stack.{Here, Somewhere, Says, children-in};
 ghost use Rattle.writer.specs.Memory.{Reach, Table, Slot};
 ghost use Rattle.writer.specs.Check.{function-form as function-form-def};
@@ -30,7 +31,7 @@ fn in_turn(first: usize, x: usize, p: usize) -> bool {
 }
 
 // The slot of the assignment that ends at p, if it is remembered; else any slot. The ends rise from slot to slot, but for one fall, behind
-// which the oldest stand; so what is left is halved.
+// which the oldest stand, or zeros; so what is left is halved.
 fn slot_of(keys: &Places, p: usize) -> usize
     ensures { λ r. ⌜ Slot r ⌝ }
 {

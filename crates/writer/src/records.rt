@@ -1,20 +1,22 @@
 // Finding one's way in records. A tree is named by its end: the place behind its last record, which is its root's. A node's last child
 // ends two words before the node, and a child's next older sibling ends where the child's records begin. 0 is the end of no tree, and
-// stands for a child that is not there: its kind, the count of its children and its value are 0.
+// stands for a child that is not there: its kind, the count of its children and its value are 0. What is found out about trees is remembered,
+// since going back over records takes time.
 ghost use Prim.Native.Nat.{_≤_};
 ghost use Rattle.writer.specs.Stack.{Here, Somewhere, Shape, Skipped, Says, Last-of, Kid-of, kind-in, count-in, value-in};
 ghost use Rattle.writer.specs.Memory.{Known, Reach};
 use tree::word::CHILD;
 
-// What is remembered of trees. keys[i] is the end of a tree, or 0. facts[i], for i below TREES: where the tree begins, if it ends at p and i is
-// p / 2 % TREES; from TREES on: what seek_form says of the tree, which is an assignment of a function (noted.rt).
-pub type Places = [usize; 49000];
+// What is remembered. keys[i] is the end of a tree, or 0. Below TREES facts[i] is where that tree begins; one that ends at p is put at
+// p / 2 % TREES. From TREES on, up to ALL, the tree is an assignment of a function and facts[i] is what seek_form says of it (noted.rt).
+// specs/Memory.antt has the same numbers.
+pub type Places = [usize; ALL];
 
 pub const TREES: usize = 24576;
 
 pub const ALL: usize = 49000;
 
-// Whether a tree passed a test of its children, one by one from the last, and where it begins.
+// Whether a tree passed a test that goes over its children, and where it begins.
 pub enum Fitting {
     From(usize),
     Not,

@@ -8,7 +8,7 @@ use lib.ListN.{length}
 use Rattle.tree.specs.Tree.{Tree}
 use Rattle.tree.specs.Maybe.{just}
 use Rattle.writer.specs.Stack.{At}
-use Rattle.writer.specs.Memory.{Table, Slot}
+use Rattle.writer.specs.Memory.{tree-places, Table, Slot}
 use Rattle.writer.proofs.Places.{stands}
 use Rattle.writer.proofs.Validity.{Passed, passed-start, passed-next, passed-end, whole-bad, whole-good}
 use Rattle.writer.proofs.Fitted.{fit-done, fit-not, not-from}
@@ -88,7 +88,7 @@ loop-again c = let fit = c .before .before .before .kids-fit .ensures in
       go = λ t a.
           let z = passed-next (c .before .before .before .before .before .before .before .before .before .before .loop .inv .go t a) (c .before .before .before .before .before .before .before .before .before .loop-test .taken) in
           z .fits (fit-done fit (z .top) (z .rest) (z .at) from .0);
-      table = table-set _ _ ((c .before .before .before .before .before .before .before .before .before .before .loop .p + 2) / 2 % 24576) _ _ (omega arith) (noted .0) (λ l. record { how = λ t s a. fit-done fit t s a from .1 }) (λ l. absurd (omega arith));
+      table = table-set _ _ ((c .before .before .before .before .before .before .before .before .before .before .loop .p + 2) / 2 % tree-places) _ _ (omega arith) (noted .0) (λ l. record { how = λ t s a. fit-done fit t s a from .1 }) (λ l. let x = l .from in absurd (omega arith));
       place = noted .1;
     }
 

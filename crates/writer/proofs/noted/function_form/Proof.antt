@@ -23,7 +23,7 @@ element-copy-out-result : tie.Need-element-copy-out-result
 element-copy-out-result c = search needs
 
 returns : tie.Need-returns
-returns c = form-hit (c .before .before .before .slot-of .result) (c .before .before .before .slot-of .ensures .from) (c .before .before .before .before .before .before .before .pre .memo) (c .before .if2 .taken)
+returns c = form-hit (c .before .before .before .slot-of .result) (c .before .before .before .slot-of .ensures) (c .before .before .before .before .before .before .before .pre .memo) (c .before .if2 .taken)
 
 seek-form-requires : tie.Need-seek-form-requires
 seek-form-requires c κs = search needs

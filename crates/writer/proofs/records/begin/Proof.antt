@@ -2,6 +2,7 @@
 use borrow.Author.Needs.{needs}
 use Prim.Native.Nat.{_/_, _%_}
 use native.Mathlib.Omega.{arith}
+use Rattle.writer.specs.Memory.{tree-places}
 use Rattle.writer.proofs.Memory.{begin-hit}
 use Rattle.writer.proofs.records.begin.Statement.{statement}
 use Rattle.writer.proofs.records.begin.Tie as tie
@@ -19,7 +20,7 @@ element-copy-out-result : tie.Need-element-copy-out-result
 element-copy-out-result c = search needs
 
 returns : tie.Need-returns
-returns c = begin-hit (c .before .before .before .before .args .p / 2 % 24576) (omega arith) (c .before .before .before .before .pre .memo) (c .before .if1 .taken)
+returns c = begin-hit (c .before .before .before .before .args .p / 2 % tree-places) (omega arith) (c .before .before .before .before .pre .memo) (c .before .if1 .taken)
 
 skip-requires : tie.Need-skip-requires
 skip-requires c κs = record { top = c .before .before .before .pre .top; rest = c .before .before .before .pre .rest; here = c .before .before .before .pre .here }
