@@ -1,7 +1,7 @@
 """Statements in which the writer has forgotten what it asks for again. bench/passed counts what it passes over in them, bench/write times them.
 
-All are nests: levels around a core. A level has a gap: records that stand behind what is nested in it, so many that nothing of what stands
-before them is left in the writer's table.
+All are nests: levels around a core. A level has a gap: records that stand behind what is nested in it, mostly so many that the writer's table does
+not have any more where the trees before them begin.
 """
 from shapes import (A, ADDED, ENDED, NAMED_SIGNATURE, NO_RESULT, NO_STATEMENTS, PATTERN, SIGNATURE, STATED, big, call, chain, count, functions, nest,
                     rec)
@@ -73,8 +73,8 @@ def argument(core):
     return arguments(targets(core, DEEPEST - 1), 1, big(TREES))
 
 
-def forgotten(core):
-    return sums(targets(core, DEEPEST), 1, assigning(FORMS, 31))
+def forgotten(core, deep=DEEPEST):
+    return sums(targets(core, deep), 1, assigning(FORMS, 31))
 
 
 def forgotten_in_sums(core):

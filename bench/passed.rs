@@ -1,6 +1,6 @@
 // Reads one statement's records from standard input and has a transcription of the writer write it, in which `skip` counts for each record how often
-// it is passed over: in `legal` (0) and in the writing pass (1). Prints the sums, the most in the writing pass, the most in `legal` for
-// each gap (the records behind a record, divided by the places of the table) and the answer.
+// it is passed over: in `legal` (0) and in the writing pass (1). Prints the number of records, both sums, the most in the writing pass, the most in
+// `legal` for each gap (the records behind a record, divided by the table's places for trees) and the answer.
 use grammar::Written;
 use std::io::Read;
 use writer::records::{PASSED, TREES};

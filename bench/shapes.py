@@ -3,20 +3,20 @@
 A record is 16 bytes, a tree the bytes of its records, and every function gives the records of an expression if it says nothing else. docs/TREE.md
 says what a record holds.
 """
+import os
 import struct
+import sys
 
-KINDS = """Absent List Expression Loop WhileLoop ForLoop Assert StmtList Continue Break Return Primary UnaryOp BinaryOp Assignment Unpack Tuple Table
-    IfExpr Block FunctionDef TableItem ExprBlock ConditionalBranch SignatureDef ParamDef DefaultDef FieldAttribute FieldIndex Nil EmptyTuple Identifier
-    BooleanLiteral IntegerLiteral FloatLiteral StringLiteral Group Attribute Index Invoke InvokeTable IdentifierPattern AttributePattern
-    IndexPattern TuplePattern Pack Modifier""".split()
-NUMBER = {kind: number for number, kind in enumerate(KINDS)}
+sys.path.append(os.path.join(os.path.dirname(os.path.dirname(os.path.abspath(__file__))), "tools"))
+from canonical import NODE
+
 ADD, LET = 3, 2
 # One operator of each of the ten levels, the tightest first.
 LEVELS = (0, 3, 5, 7, 8, 9, 10, 14, 16, 17)
 
 
 def rec(kind, kids=0, value=0):
-    return struct.pack("<QQ", NUMBER[kind] + 256 * kids, value)
+    return struct.pack("<QQ", NODE[kind] + 256 * kids, value)
 
 
 def count(tree):

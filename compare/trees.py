@@ -1,4 +1,4 @@
-"""Trees for compare/writer: altered ones, ones wrapped in more levels, and functions with targets.
+"""Trees for compare/writer: changed and altered ones, ones wrapped in more levels, functions with targets, and long trees.
 
 A tree is (kind, value, [trees]) as in tools/canonical.py; a record is (first word, value), and a tree's records are those of docs/TREE.md.
 """
