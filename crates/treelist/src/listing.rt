@@ -10,8 +10,6 @@ const NAMES: [u8; 460] =
     *b"Absent List Expression Loop WhileLoop ForLoop Assert StmtList Continue Break Return Primary UnaryOp BinaryOp Assignment Unpack Tuple Table IfExpr Block FunctionDef TableItem ExprBlock ConditionalBranch SignatureDef ParamDef DefaultDef FieldAttribute FieldIndex Nil EmptyTuple Identifier BooleanLiteral IntegerLiteral FloatLiteral StringLiteral Group Attribute Index Invoke InvokeTable IdentifierPattern AttributePattern IndexPattern TuplePattern Pack Modifier ";
 
 // Puts bytes at a place of the line, and answers the place behind them.
-use tree::word::CHILD;
-
 fn put(line: &mut [u8], at: usize, text: &[u8]) -> usize
     requires { ⌜ at + length (now text) ≤ length (now line) ⌝ }
     ensures { λ r. ⌜ Put at (length (now (text .entry))) (now (text .entry)) (now (line .entry)) r (now (line .exit)) ⌝ }
