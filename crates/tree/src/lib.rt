@@ -1,4 +1,4 @@
-// A tree's records in a lent store: writing one, clearing what is behind them, and making room for a block's result.
+// A tree's records in a lent store: writing one, clearing what is behind them, and making room for a block's result; and the numbers that records have.
 ghost use mathlib.Core.Path.{_≡_};
 ghost use mathlib.Core.List.{_++_};
 ghost use Prim.Native.Nat.{_+_, _-_, _≤_};

@@ -1,7 +1,7 @@
 -- What is remembered of trees, and the numbers of the record at a place. Assumes nothing.
 use mathlib.Core.Path.{_≡_, refl, subst}
 use mathlib.Core.List.{List, [], _∷_}
-use Prim.Native.Nat.{ℕ, zero, suc, _-_, _/_, _%_, _≤_, _<_}
+use Prim.Native.Nat.{ℕ, _-_, _/_, _%_, _≤_, _<_}
 use native.Mathlib.Omega.{arith}
 use native.Mathlib.Decide.{ℕ-discrete}
 use lib.ListN.{length, getD, set, replicate, length-set, length-replicate, getD-replicate}
@@ -74,6 +74,12 @@ table-set {L} K S i p r h t begin form =
       keys = simp length-set lk;
       facts = simp length-set ls;
     }
+
+-- what is noted of an assignment, in a slot
+pub form-set : {L K S : List ℕ} {i p r : ℕ} → Slot i → Table L K S → Says L p (λ m. function-form (children-in m)) r → Table L (set K i p) (set S i r)
+form-set slot t form =
+    let x = slot .from in
+    table-set _ _ _ _ _ (slot .inside) t (λ l. absurd (omega arith)) (λ l. form)
 
 -- where there is none, the place is 0
 pub spot-zero : {L : List ℕ} {p : ℕ} {m : Maybe Tree} {s : List Tree} → m ≡ nothing → Spot L p m s → p ≡ 0

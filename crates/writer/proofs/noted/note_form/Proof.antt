@@ -1,7 +1,7 @@
 -- `writer::noted::note_form` meets its contract. Assumes nothing.
 use native.Mathlib.Omega.{arith}
 use borrow.Author.Needs.{needs}
-use Rattle.writer.proofs.Memory.{table-set}
+use Rattle.writer.proofs.Memory.{form-set}
 use Rattle.writer.proofs.Places.{some-place, known}
 use Rattle.writer.proofs.noted.note_form.Statement.{statement}
 use Rattle.writer.proofs.noted.note_form.Tie as tie
@@ -35,12 +35,12 @@ add-next c = search needs
 returns-2 : tie.Need-returns-2
 returns-2 c = let y = c .before .before .before .before .before .before .before .pre in
     let slot = y .2 in
-    (table-set _ _ _ _ _ (slot .inside) (y .1) (λ l. absurd (omega arith)) (λ l. c .before .seek-form .ensures), omega arith)
+    (form-set slot (y .1) (c .before .seek-form .ensures), omega arith)
 
 returns-3 : tie.Need-returns-3
 returns-3 c = let y = c .before .before .before .before .before .before .before .pre in
     let slot = y .2 in
-    (table-set _ _ _ _ _ (slot .inside) (y .1) (λ l. absurd (omega arith)) (λ l. c .before .seek-form .ensures), omega arith)
+    (form-set slot (y .1) (c .before .seek-form .ensures), omega arith)
 
 pub note-form-spec : {M : Type 1} → statement M
 note-form-spec =
