@@ -11,6 +11,7 @@ mod Names
 mod Waiting
 mod Answers
 mod PathsExpr
+mod Climb
 mod PathsPrimary
 mod PathsStmt
 mod PathsList

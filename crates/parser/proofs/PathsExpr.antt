@@ -8,7 +8,7 @@ use lib.Dec.{eqb}
 use lib.ListN.{length, drop, length-drop}
 use borrow.Author.Tests.{eq-eqb, ne-eqb}
 use Rattle.token.specs.Kind
-use Rattle.operator.specs.Operator.{op-level, op-number, unary-code, assign-code}
+use Rattle.operator.specs.Operator.{unary-code, assign-code}
 use Rattle.tree.specs.NodeKind
 use Rattle.tree.specs.Tree.{Tree, Forest, node, none, more, one, two, snoc}
 use Rattle.tree.specs.Node
@@ -17,7 +17,7 @@ use Rattle.grammar.specs.Reading.Result.{Res, ok, fail, stop, then, ifb}
 use Rattle.grammar.specs.Reading.Number
 use Rattle.grammar.specs.Reading.Pattern.{to-pattern}
 use Rattle.grammar.specs.Reading.Look.{look, expect-pattern, try-assign-keyword, action}
-use Rattle.grammar.specs.Reading.Expr.{Level, operators, binop-expr, inner-expr, members, tuple-expr, keyword-alone, expr}
+use Rattle.grammar.specs.Reading.Expr.{Level, binop-expr, inner-expr, members, tuple-expr, keyword-alone, expr}
 use Rattle.grammar.specs.Reading.Stmt.{stmts}
 use Rattle.grammar.specs.Reading.Level.{primary-expr, unary-expr, level}
 use Rattle.parser.specs.Parts.{commas}
@@ -91,35 +91,8 @@ binop-zero low q ts = refl
 pub binop-unary : (low : Level) (l : ℕ) (q ts : List ℕ) → l ≡ 0 → binop-expr low l q ts ≡ low .unary q ts
 binop-unary low l q ts e = rw e (binop-zero low q ts)
 
-binop-suc : (low : Level) (l : ℕ) (q ts : List ℕ) → binop-expr low (suc l) q ts ≡ then q (binop-expr low l q ts) (λ t q₁ r. operators (binop-expr low l) (suc l) (length r) t q₁ r)
-unfolding binop-expr
-binop-suc low l q ts = refl
-
-pub binop-step : (low : Level) (l : ℕ) (q ts : List ℕ) → (l ≡ 0 → ⊥) → binop-expr low l q ts ≡ then q (binop-expr low (l - 1) q ts) (λ t q₁ r. operators (binop-expr low (l - 1)) l (length r) t q₁ r)
-binop-step low l q ts h = ap (λ (n : ℕ). binop-expr low n q ts) (sym (suc-pred l h)) ∙ binop-suc low (l - 1) q ts ∙ ap (λ (n : ℕ). then q (binop-expr low (l - 1) q ts) (λ t q₁ r. operators (binop-expr low (l - 1)) n (length r) t q₁ r)) (suc-pred l h)
-
 pub left : (T : List ℕ) (p fuel : ℕ) → length T ≤ p + fuel → length (drop p T) ≤ fuel
 left T p fuel h = rw length-drop (omega arith)
-
--- with a count that is as long as the list a loop looks: with none, the list is empty
-module _ (sub : List ℕ → List ℕ → Res Tree) (l : ℕ) (acc : Tree) (q : List ℕ) where
-  operators-step : (fuel : ℕ) (ts : List ℕ) → length ts ≤ fuel → operators sub l fuel acc q ts ≡ then q (look q ts) (λ tok q₁ rest. ifb (eqb (op-level (tok .kind)) l) (λ _. then q (sub q rest) λ t q₂ r. operators sub l (fuel - 1) (Node.binary-op (op-number (tok .kind)) acc t) q₂ r) (λ _. ok acc ts))
-  unfolding operators look then
-  operators-step zero [] h = refl
-  operators-step zero (x ∷ ts) h = absurd (omega arith)
-  operators-step (suc n) ts h = rw (sub-one (suc n))
-
-  pub operators-looks : (T : List ℕ) (fuel p : ℕ) → length T ≤ p + fuel → Looks q (drop p T) (operators sub l fuel acc q (drop p T))
-  operators-looks T fuel p enough = record { go = _; is = operators-step fuel (drop p T) (left T p fuel enough) }
-
-  module _ {T : List ℕ} (fuel p : ℕ) (enough : length T ≤ p + fuel) {k n v : ℕ} (at : Taken T p k n v) where
-    pub operators-end : (op-level k ≡ l → ⊥) → operators sub l fuel acc q (drop p T) ≡ ok acc (drop p T)
-    unfolding then ifb
-    operators-end e = operators-step fuel (drop p T) (left T p fuel enough) ∙ rw (at .same, ne-eqb _ _ e)
-
-    pub operators-more : {x : ℕ} → op-level k ≡ l → x ≡ op-number k → operators sub l fuel acc q (drop p T) ≡ then q (sub q (drop (p + 2) T)) (λ t q₂ r. operators sub l (fuel - 1) (Node.binary-op x acc t) q₂ r)
-    unfolding then ifb
-    operators-more e i = operators-step fuel (drop p T) (left T p fuel enough) ∙ rw (at .same, eq-eqb _ _ e, i)
 
 -- tuples: the members behind the first are `commas`
 members-commas : (low : Level) (n : ℕ) (t : Tree) (f : Forest) (q ts : List ℕ) → members low n (more t f) q ts ≡ then q (commas low n f q ts) (λ g q₁ r. ok (Node.tuple (more t g)) r)
@@ -149,7 +122,7 @@ module _ (low : Level) (t : Tree) (q : List ℕ) {T : List ℕ} {pos k n v : ℕ
   unfolding then ifb
   tuple-more e = rw (at .same, eq-eqb _ _ e) (members-commas low (length (drop pos T)) t none q (drop pos T))
 
--- the members behind the first
+-- the members behind the first. With a count that is as long as the list a loop looks: with none, the list is empty
 module _ (low : Level) (f : Forest) (q : List ℕ) where
   commas-step : (fuel : ℕ) (ts : List ℕ) → length ts ≤ fuel → commas low fuel f q ts ≡ then q (look q ts) (λ tok q₁ rest. ifb (eqb (tok .kind) Kind.Comma) (λ _. then q (look q rest) λ tok₂ q₂ rest₂. ifb (eqb (tok₂ .kind) Kind.CloseParen) (λ _. ok f rest) λ _. then q (inner-expr low q rest) λ t q₃ r. commas low (fuel - 1) (snoc f t) q₃ r) (λ _. ok f ts))
   unfolding commas look then

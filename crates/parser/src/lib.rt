@@ -589,7 +589,7 @@ fn field(
     }
 }
 
-// `parse_binop_expr_levels`: the operators of a level group leftward.
+// `parse_binop_expr_levels`, by climbing: one loop takes the operators of every level up to this one, and reads the right side of each at the level below its own.
 fn binop(
     tokens: &[u64],
     store: &mut [u64],
@@ -606,7 +606,7 @@ fn binop(
     if level == PRECEDENCE_END {
         return unary(tokens, store, queue, depth, pos, at, waiting);
     }
-    let first = binop(tokens, store, queue, depth, level - 1, pos, at, waiting);
+    let first = unary(tokens, store, queue, depth, pos, at, waiting);
     let Step::Done(p0, a0, w0) = first else {
         return first;
     };
@@ -616,10 +616,14 @@ fn binop(
     loop {
         match look(tokens, p, w) {
             Seen::Token(kind, _, _) => {
-                if op_level(kind) != level {
+                let l = op_level(kind);
+                if l == 0 {
                     return Step::Done(p, a, w);
                 }
-                let r = binop(tokens, store, queue, depth, level - 1, p + 2, a, w);
+                if level < l {
+                    return Step::Done(p, a, w);
+                }
+                let r = binop(tokens, store, queue, depth, l - 1, p + 2, a, w);
                 match r {
                     Step::Done(p2, a2, w2) => {
                         a = emit(store, a2, word::BINARY_OP, op_number(kind));

@@ -23,7 +23,7 @@ same-if true f g = f tt
 same-if false f g = g tt
 
 module _ (I : List ℕ → Type 0) where
-  same-then : {A B : Type 0} (q : List Error) {d : Res A} {go go′ : A → List Error → List ℕ → Res B} → Keep I (λ e r. Unit {0}) d
+  pub same-then : {A B : Type 0} (q : List Error) {d : Res A} {go go′ : A → List Error → List ℕ → Res B} → Keep I (λ e r. Unit {0}) d
       → ((a : A) (q : List Error) (r : List ℕ) → I r → go a q r ≡ go′ a q r) → then q d go ≡ then q d go′
   unfolding then
   same-then q (k-ok i) f = f _ _ _ i

@@ -67,7 +67,7 @@ module _ {I : List ℕ → Type 0} {J : Error → List ℕ → Type 0} where
   k-or q (k-fail j) f g = k-spoil _ (g _ _ _ j)
   k-or q k-stop f g = k-stop
 
-  k-on : {M : List ℕ → Type 0} {A B : Type 0} (q : List Error) {d : Res A} {go : A → List Error → List ℕ → Res B}
+  pub k-on : {M : List ℕ → Type 0} {A B : Type 0} (q : List Error) {d : Res A} {go : A → List Error → List ℕ → Res B}
       → Keep M J d → ((a : A) (q : List Error) (r : List ℕ) → M r → Keep I J (go a q r)) → Keep I J (then q d go)
   unfolding then
   k-on q (k-ok i) f = f _ _ _ i

@@ -169,7 +169,7 @@ pub +access+atom+begin+binop+block+body+branch+call+caught+commas+control+decl+d
     (λ t. access-lts.spec (Base.access-calls t) (Base.access-at t) access.Post (Access.member-requires t) (Access.index-requires t) (Access.enum-known-r t) (Access.same-length t) (Access.returns t) (Access.emit-requires t) (Access.call-requires t) (Access.table-requires t) (Access.enum-known-r-2 t) (Access.same-length-2 t) (Access.returns-2 t) (Access.emit-requires-2 t) (Access.same-length-3 t) (Access.returns-3 t) (Access.same-length-4 t) (Access.returns-4 t) (Access.same-length-5 t) (Access.returns-5 t) (Access.same-length-6 t) (Access.returns-6 t))
     (λ t. atom-lts.spec (Base.atom-calls t) (Base.atom-at t) atom.Post (Atom.look-requires t) (Atom.enum-known-kind t) (Atom.add-group t) (Atom.group-requires t) (Atom.same-length t) (Atom.returns t) (Atom.add-literal t) (Atom.literal-requires t) (Atom.enum-known-s t) (Atom.same-length-2 t) (Atom.returns-2 t) (Atom.returns-3 t))
     (λ t. begin-lts.spec (Base.begin-calls t) (Base.begin-at t) begin.Post (Begin.look-requires t) (Begin.enum-known-kind t) (Begin.add-block t) (Begin.block-requires t) (Begin.same-length t) (Begin.returns t) (Begin.enum-known-s t) (Begin.returns-2 t) (Begin.returns-3 t))
-    (λ t. binop-lts.spec (Base.binop-calls t) (Base.binop-at t) binop.Post Binop.Inv-loop Binop.μ-loop (Binop.unary-requires t) (Binop.same-length t) (Binop.returns t) (Binop.sub-binop t) (Binop.binop-requires t) (Binop.enum-known-first t) (Binop.same-length-2 t) (Binop.returns-2 t) (Binop.loop-holds t) (Binop.look-requires t) (Binop.enum-known-kind t) (Binop.op-level-requires t) (Binop.same-length-3 t) (Binop.returns-3 t) (Binop.sub-binop-2 t) (Binop.add-binop t) (Binop.binop-requires-2 t) (Binop.enum-known-r t) (Binop.op-number-requires t) (Binop.emit-requires t) (Binop.loop-less t) (Binop.loop-again t) (Binop.same-length-4 t) (Binop.returns-4 t) (Binop.enum-known-s t) (Binop.same-length-5 t) (Binop.returns-5 t))
+    (λ t. binop-lts.spec (Base.binop-calls t) (Base.binop-at t) binop.Post Binop.Inv-loop Binop.μ-loop (Binop.unary-requires t) (Binop.same-length t) (Binop.returns t) (Binop.unary-requires-2 t) (Binop.enum-known-first t) (Binop.same-length-2 t) (Binop.returns-2 t) (Binop.loop-holds t) (Binop.look-requires t) (Binop.enum-known-kind t) (Binop.op-level-requires t) (Binop.same-length-3 t) (Binop.returns-3 t) (Binop.same-length-4 t) (Binop.returns-4 t) (Binop.sub-binop t) (Binop.add-binop t) (Binop.binop-requires t) (Binop.enum-known-r t) (Binop.op-number-requires t) (Binop.emit-requires t) (Binop.loop-less t) (Binop.loop-again t) (Binop.same-length-5 t) (Binop.returns-5 t) (Binop.enum-known-s t) (Binop.same-length-6 t) (Binop.returns-6 t))
     (λ t. block-lts.spec (Base.block-calls t) (Base.block-at t) block.Post (Block.body-requires t) (Block.block-under-requires t) (Block.same-length t) (Block.returns t))
     (λ t. body-lts.spec (Base.body-calls t) (Base.body-at t) body.Post (Body.list-requires t) (Body.past-requires t) (Body.same-length t) (Body.returns t))
     (λ t. branch-lts.spec (Base.branch-calls t) (Base.branch-at t) branch.Post (Branch.expr-requires t) (Branch.enum-known-r t) (Branch.same-length t) (Branch.returns t) (Branch.expect-requires t) (Branch.enum-known-s t) (Branch.same-length-2 t) (Branch.returns-2 t) (Branch.list-requires t) (Branch.block-under-requires t) (Branch.same-length-3 t) (Branch.returns-3 t))

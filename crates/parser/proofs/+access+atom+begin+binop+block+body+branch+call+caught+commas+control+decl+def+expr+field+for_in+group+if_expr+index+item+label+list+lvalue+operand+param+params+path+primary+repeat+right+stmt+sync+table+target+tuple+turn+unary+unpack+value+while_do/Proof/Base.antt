@@ -541,7 +541,7 @@ abbrev pub begin-calls : ℕ → begin-lts.Claims
 begin-calls t = (look-reads.Asked, look-reads.Learnt, block-below t, block.Post)
 
 abbrev pub binop-calls : ℕ → binop-lts.Claims
-binop-calls t = (unary-below t, unary.Post, binop-below t, binop.Post, look-reads.Asked, look-reads.Learnt, op-level-reads.Asked, op-level-reads.Learnt, op-number-reads.Asked, op-number-reads.Learnt, emit-reads.Asked, emit-reads.Learnt)
+binop-calls t = (unary-below t, unary.Post, look-reads.Asked, look-reads.Learnt, op-level-reads.Asked, op-level-reads.Learnt, binop-below t, binop.Post, op-number-reads.Asked, op-number-reads.Learnt, emit-reads.Asked, emit-reads.Learnt)
 
 abbrev pub block-calls : ℕ → block-lts.Claims
 block-calls t = (body-below t, body.Post, block-under-reads.Asked, block-under-reads.Learnt)

@@ -6,11 +6,11 @@ use borrow.Author.Needs.{needs}
 use native.Mathlib.Omega.{arith}
 use lib.ListN.{length, take, drop, length-drop}
 use Rattle.tree.specs.Tree.{Tree, more, records}
-use Rattle.grammar.specs.Reading.Expr.{operators, binop-expr}
 use Rattle.grammar.specs.Reading.Level.{level}
 use Rattle.parser.specs.Post.{Wrote}
 use Rattle.parser.proofs.Laws.{way, here, link, goes, done, undone, did-not, taken, not-taken, fails, blind, prefix, rebased, relabel, home, made-two, as-agrees}
-use Rattle.parser.proofs.PathsExpr.{binop-unary, binop-step, left, operators-looks, operators-end, operators-more}
+use Rattle.parser.proofs.PathsExpr.{binop-unary, left}
+use Rattle.parser.proofs.Climb.{climb, binop-step, climb-looks, climb-ends, climb-takes}
 use Rattle.parser.proofs.binop.Reads as reads
 use Rattle.parser.proofs.+access+atom+begin+binop+block+body+branch+call+caught+commas+control+decl+def+expr+field+for_in+group+if_expr+index+item+label+list+lvalue+operand+param+params+path+primary+repeat+right+stmt+sync+table+target+tuple+turn+unary+unpack+value+while_do.Lts-binop as lts
 use Rattle.parser.proofs.+access+atom+begin+binop+block+body+branch+call+caught+commas+control+decl+def+expr+field+for_in+group+if_expr+index+item+label+list+lvalue+operand+param+params+path+primary+repeat+right+stmt+sync+table+target+tuple+turn+unary+unpack+value+while_do.Proof.Base.{binop-calls, binop-at}
@@ -19,7 +19,7 @@ use Rattle.parser.proofs.+access+atom+begin+binop+block+body+branch+cal
 pub record Going (T S₀ Q₀ : List ℕ) (depth l pos at p₀ a₀ w₀ : ℕ) (S Q : List ℕ) (p a w : ℕ) : Type 0 where
   pub fuel : ℕ
   pub enough : length T ≤ p + fuel
-  pub run : (t₀ : Tree) → take a₀ S₀ ≡ take at S₀ ++ records t₀ → Wrote records (operators (binop-expr (level depth) (l - 1)) l (length (drop p₀ T)) t₀ (take w₀ Q₀) (drop p₀ T)) (operators (binop-expr (level depth) (l - 1)) l fuel) T pos (pos + 2) 20 at w₀ S₀ Q₀ p a w S Q
+  pub run : (t₀ : Tree) → take a₀ S₀ ≡ take at S₀ ++ records t₀ → Wrote records (climb (level depth) l (length (drop p₀ T)) t₀ (take w₀ Q₀) (drop p₀ T)) (climb (level depth) l fuel) T pos (pos + 2) 20 at w₀ S₀ Q₀ p a w S Q
   pub kept : length S ≡ length S₀
 
 abbrev pub Inv-loop : lts.InvT-loop
@@ -37,11 +37,8 @@ same-length t c = search needs
 pub returns : (t : ℕ) → lts.Need-returns (binop-calls t) (binop-at t) reads.Post Inv-loop μ-loop
 returns t c = as-agrees (binop-unary _ _ _ _ (c .before .before .before .before .before .if1 .taken)) (c .before .before .unary .ensures)
 
-pub sub-binop : (t : ℕ) → lts.Need-sub-binop (binop-calls t) (binop-at t) reads.Post Inv-loop μ-loop
-sub-binop t c = search needs
-
-pub binop-requires : (t : ℕ) → lts.Need-binop-requires (binop-calls t) (binop-at t) reads.Post Inv-loop μ-loop
-binop-requires t c κs = omega arith
+pub unary-requires-2 : (t : ℕ) → lts.Need-unary-requires-2 (binop-calls t) (binop-at t) reads.Post Inv-loop μ-loop
+unary-requires-2 t c κs = omega arith
 
 pub enum-known-first : (t : ℕ) → lts.Need-enum-known-first (binop-calls t) (binop-at t) reads.Post Inv-loop μ-loop
 enum-known-first t c = search needs
@@ -50,10 +47,10 @@ pub same-length-2 : (t : ℕ) → lts.Need-same-length-2 (binop-calls t) (binop-
 same-length-2 t c = search needs
 
 pub returns-2 : (t : ℕ) → lts.Need-returns-2 (binop-calls t) (binop-at t) reads.Post Inv-loop μ-loop
-returns-2 t c = did-not (fails _ (way _ (binop-step _ _ _ _ (c .before .before .before .before .before .before .if1 .left))) (undone (c .match .keys2) (c .before .before .before .binop .ensures)) refl (omega arith))
+returns-2 t c = did-not (fails _ (way _ (binop-step _ _ _ _ (c .before .before .before .before .before .before .if1 .left))) (undone (c .match .keys2) (c .before .before .before .unary2 .ensures)) refl (omega arith))
 
 pub loop-holds : (t : ℕ) → lts.Need-loop-holds (binop-calls t) (binop-at t) reads.Post Inv-loop μ-loop
-loop-holds t c = let f = done (c .before .first .given .1) (c .before .before .before .before .before .binop .ensures) in
+loop-holds t c = let f = done (c .before .first .given .1) (c .before .before .before .before .before .unary2 .ensures) in
     record {
       fuel = length (drop (c .before .first .given .0 .0) (c .before .before .before .before .before .before .before .before .before .before .before .args .tokens .now));
       enough = rw length-drop (omega arith);
@@ -62,7 +59,7 @@ loop-holds t c = let f = done (c .before .first .given .1) (c .before .before .b
     }
 
 pub look-requires : (t : ℕ) → lts.Need-look-requires (binop-calls t) (binop-at t) reads.Post Inv-loop μ-loop
-look-requires t c κs = let f = done (c .before .before .first .given .1) (c .before .before .before .before .before .before .binop .ensures) in
+look-requires t c κs = let f = done (c .before .before .first .given .1) (c .before .before .before .before .before .before .unary2 .ensures) in
     let i = c .loop .inv in
     let g = i .run (f .what) (rebased f (omega (arith, c .before .before .before .before .before .before .before .before .before .before .before .before .pre))) in
     g .moved .within
@@ -77,26 +74,40 @@ pub same-length-3 : (t : ℕ) → lts.Need-same-length-3 (binop-calls t) (binop-
 same-length-3 t c = search needs
 
 pub returns-3 : (t : ℕ) → lts.Need-returns-3 (binop-calls t) (binop-at t) reads.Post Inv-loop μ-loop
-returns-3 t c = let f = done (c .before .before .before .before .before .before .before .before .first .given .1) (c .before .before .before .before .before .before .before .before .before .before .before .before .binop .ensures) in
+returns-3 t c = let f = done (c .before .before .before .before .before .before .before .before .first .given .1) (c .before .before .before .before .before .before .before .before .before .before .before .before .unary2 .ensures) in
     let path = goes _ (way _ (binop-step _ _ _ _ (c .before .before .before .before .before .before .before .before .before .before .before .before .before .before .before .if1 .left))) (f .same) in
     let i = c .before .before .before .before .before .before .loop .inv in
     let g = i .run (f .what) (rebased f (omega (arith, c .before .before .before .before .before .before .before .before .before .before .before .before .before .before .before .before .before .before .pre))) in
     let tk = taken (c .before .before .before .kind .given .1) (c .before .before .before .before .before .look .ensures) in
-    record { how = home path (prefix f (omega arith)) (f .moved .more) (relabel g (g .what) refl (link (g .same) (way _ (operators-end _ _ (g .what) _ (i .fuel) _ (i .enough) tk (λ e. c .if2 .taken (c .before .op-level .ensures ∙ e))))) (g .moved) (g .room)) }
+    record { how = home path (prefix f (omega arith)) (f .moved .more) (relabel g (g .what) refl (link (g .same) (way _ (climb-ends _ _ (g .what) _ (i .fuel) _ (i .enough) tk (c .before .op-level .ensures) (λ h. absurd (h (c .if2 .taken)))))) (g .moved) (g .room)) }
 
-pub sub-binop-2 : (t : ℕ) → lts.Need-sub-binop-2 (binop-calls t) (binop-at t) reads.Post Inv-loop μ-loop
-sub-binop-2 t c = search needs
+pub same-length-4 : (t : ℕ) → lts.Need-same-length-4 (binop-calls t) (binop-at t) reads.Post Inv-loop μ-loop
+same-length-4 t c = search needs
 
-pub add-binop : (t : ℕ) → lts.Need-add-binop (binop-calls t) (binop-at t) reads.Post Inv-loop μ-loop
-add-binop t c = let tk = taken (c .before .before .before .before .before .kind .given .1) (c .before .before .before .before .before .before .before .look .ensures) in
+pub returns-4 : (t : ℕ) → lts.Need-returns-4 (binop-calls t) (binop-at t) reads.Post Inv-loop μ-loop
+returns-4 t c = let f = done (c .before .before .before .before .before .before .before .before .before .first .given .1) (c .before .before .before .before .before .before .before .before .before .before .before .before .before .unary2 .ensures) in
+    let path = goes _ (way _ (binop-step _ _ _ _ (c .before .before .before .before .before .before .before .before .before .before .before .before .before .before .before .before .if1 .left))) (f .same) in
+    let i = c .before .before .before .before .before .before .before .loop .inv in
+    let g = i .run (f .what) (rebased f (omega (arith, c .before .before .before .before .before .before .before .before .before .before .before .before .before .before .before .before .before .before .before .pre))) in
+    let tk = taken (c .before .before .before .before .kind .given .1) (c .before .before .before .before .before .before .look .ensures) in
+    record { how = home path (prefix f (omega arith)) (f .moved .more) (relabel g (g .what) refl (link (g .same) (way _ (climb-ends _ _ (g .what) _ (i .fuel) _ (i .enough) tk (c .before .before .op-level .ensures) (λ h. c .if3 .taken)))) (g .moved) (g .room)) }
+
+pub sub-binop : (t : ℕ) → lts.Need-sub-binop (binop-calls t) (binop-at t) reads.Post Inv-loop μ-loop
+sub-binop t c = let n = c .before .before .before .if2 .left in
     omega arith
 
-pub binop-requires-2 : (t : ℕ) → lts.Need-binop-requires-2 (binop-calls t) (binop-at t) reads.Post Inv-loop μ-loop
-binop-requires-2 t c κs = let f = done (c .before .before .before .before .before .before .before .before .before .before .first .given .1) (c .before .before .before .before .before .before .before .before .before .before .before .before .before .before .binop .ensures) in
-    let i = c .before .before .before .before .before .before .before .before .loop .inv in
-    let g = i .run (f .what) (rebased f (omega (arith, c .before .before .before .before .before .before .before .before .before .before .before .before .before .before .before .before .before .before .before .before .pre))) in
-    let tk = taken (c .before .before .before .before .before .kind .given .1) (c .before .before .before .before .before .before .before .look .ensures) in
-    omega (arith, c .before .before .before .before .before .before .before .before .before .before .before .before .before .before .before .before .before .before .before .before .pre)
+pub add-binop : (t : ℕ) → lts.Need-add-binop (binop-calls t) (binop-at t) reads.Post Inv-loop μ-loop
+add-binop t c = let tk = taken (c .before .before .before .before .before .before .kind .given .1) (c .before .before .before .before .before .before .before .before .look .ensures) in
+    omega arith
+
+pub binop-requires : (t : ℕ) → lts.Need-binop-requires (binop-calls t) (binop-at t) reads.Post Inv-loop μ-loop
+binop-requires t c κs = let f = done (c .before .before .before .before .before .before .before .before .before .before .before .first .given .1) (c .before .before .before .before .before .before .before .before .before .before .before .before .before .before .before .unary2 .ensures) in
+    let i = c .before .before .before .before .before .before .before .before .before .loop .inv in
+    let g = i .run (f .what) (rebased f (omega (arith, c .before .before .before .before .before .before .before .before .before .before .before .before .before .before .before .before .before .before .before .before .before .pre))) in
+    let tk = taken (c .before .before .before .before .before .before .kind .given .1) (c .before .before .before .before .before .before .before .before .look .ensures) in
+    let n = c .before .before .before .if2 .left in
+    let m = c .before .before .if3 .left in
+    omega (arith, c .before .before .before .before .before .before .before .before .before .before .before .before .before .before .before .before .before .before .before .before .before .pre)
 
 pub enum-known-r : (t : ℕ) → lts.Need-enum-known-r (binop-calls t) (binop-at t) reads.Post Inv-loop μ-loop
 enum-known-r t c = search needs
@@ -105,52 +116,52 @@ pub op-number-requires : (t : ℕ) → lts.Need-op-number-requires (binop-calls 
 op-number-requires t c κs = search needs
 
 pub emit-requires : (t : ℕ) → lts.Need-emit-requires (binop-calls t) (binop-at t) reads.Post Inv-loop μ-loop
-emit-requires t c κs = let f = done (c .before .before .before .before .before .before .before .before .before .before .before .before .before .before .before .before .before .before .first .given .1) (c .before .before .before .before .before .before .before .before .before .before .before .before .before .before .before .before .before .before .before .before .before .before .binop .ensures) in
-    let i = c .before .before .before .before .before .before .before .before .before .before .before .before .before .before .before .before .loop .inv in
-    let g = i .run (f .what) (rebased f (omega (arith, c .before .before .before .before .before .before .before .before .before .before .before .before .before .before .before .before .before .before .before .before .before .before .before .before .before .before .before .before .pre))) in
-    let tk = taken (c .before .before .before .before .before .before .before .before .before .before .before .before .before .kind .given .1) (c .before .before .before .before .before .before .before .before .before .before .before .before .before .before .before .look .ensures) in
-    let w = done (c .before .before .before .r .given .1) (c .before .before .before .before .before .before .before .binop2 .ensures) in
-    omega (arith, c .before .before .before .before .before .before .before .before .before .before .before .before .before .before .before .before .before .before .before .before .before .before .before .before .before .before .before .before .pre, c .before .before .before .before .before .before .before .before .before .before .before .before .before .before .before .before .before .before .before .before .before .before .binop .kept .1 .0, f .moved, f .room, g .moved, g .room, i .kept, tk .within, w .moved, w .room, c .before .before .before .before .before .before .before .binop2 .kept .1 .0)
+emit-requires t c κs = let f = done (c .before .before .before .before .before .before .before .before .before .before .before .before .before .before .before .before .before .before .before .first .given .1) (c .before .before .before .before .before .before .before .before .before .before .before .before .before .before .before .before .before .before .before .before .before .before .before .unary2 .ensures) in
+    let i = c .before .before .before .before .before .before .before .before .before .before .before .before .before .before .before .before .before .loop .inv in
+    let g = i .run (f .what) (rebased f (omega (arith, c .before .before .before .before .before .before .before .before .before .before .before .before .before .before .before .before .before .before .before .before .before .before .before .before .before .before .before .before .before .pre))) in
+    let tk = taken (c .before .before .before .before .before .before .before .before .before .before .before .before .before .before .kind .given .1) (c .before .before .before .before .before .before .before .before .before .before .before .before .before .before .before .before .look .ensures) in
+    let w = done (c .before .before .before .r .given .1) (c .before .before .before .before .before .before .before .binop .ensures) in
+    omega (arith, c .before .before .before .before .before .before .before .before .before .before .before .before .before .before .before .before .before .before .before .before .before .before .before .before .before .before .before .before .before .pre, c .before .before .before .before .before .before .before .before .before .before .before .before .before .before .before .before .before .before .before .before .before .before .before .unary2 .kept .1 .0, f .moved, f .room, g .moved, g .room, i .kept, tk .within, w .moved, w .room, c .before .before .before .before .before .before .before .binop .kept .1 .0)
 
 pub loop-less : (t : ℕ) → lts.Need-loop-less (binop-calls t) (binop-at t) reads.Post Inv-loop μ-loop
-loop-less t c = let tk = taken (c .before .before .before .before .before .before .before .before .before .before .before .before .before .before .before .before .kind .given .1) (c .before .before .before .before .before .before .before .before .before .before .before .before .before .before .before .before .before .before .look .ensures) in
-    let w = done (c .before .before .before .before .before .before .r .given .1) (c .before .before .before .before .before .before .before .before .before .before .binop2 .ensures) in
+loop-less t c = let tk = taken (c .before .before .before .before .before .before .before .before .before .before .before .before .before .before .before .before .before .kind .given .1) (c .before .before .before .before .before .before .before .before .before .before .before .before .before .before .before .before .before .before .before .look .ensures) in
+    let w = done (c .before .before .before .before .before .before .r .given .1) (c .before .before .before .before .before .before .before .before .before .before .binop .ensures) in
     omega arith
 
 pub loop-again : (t : ℕ) → lts.Need-loop-again (binop-calls t) (binop-at t) reads.Post Inv-loop μ-loop
-loop-again t c = let f = done (c .before .before .before .before .before .before .before .before .before .before .before .before .before .before .before .before .before .before .before .before .before .first .given .1) (c .before .before .before .before .before .before .before .before .before .before .before .before .before .before .before .before .before .before .before .before .before .before .before .before .before .binop .ensures) in
-    let i = c .before .before .before .before .before .before .before .before .before .before .before .before .before .before .before .before .before .before .before .loop .inv in
-    let tk = taken (c .before .before .before .before .before .before .before .before .before .before .before .before .before .before .before .before .kind .given .1) (c .before .before .before .before .before .before .before .before .before .before .before .before .before .before .before .before .before .before .look .ensures) in
-    let w = done (c .before .before .before .before .before .before .r .given .1) (c .before .before .before .before .before .before .before .before .before .before .binop2 .ensures) in
+loop-again t c = let f = done (c .before .before .before .before .before .before .before .before .before .before .before .before .before .before .before .before .before .before .before .before .before .before .first .given .1) (c .before .before .before .before .before .before .before .before .before .before .before .before .before .before .before .before .before .before .before .before .before .before .before .before .before .before .unary2 .ensures) in
+    let i = c .before .before .before .before .before .before .before .before .before .before .before .before .before .before .before .before .before .before .before .before .loop .inv in
+    let tk = taken (c .before .before .before .before .before .before .before .before .before .before .before .before .before .before .before .before .before .kind .given .1) (c .before .before .before .before .before .before .before .before .before .before .before .before .before .before .before .before .before .before .before .look .ensures) in
+    let w = done (c .before .before .before .before .before .before .r .given .1) (c .before .before .before .before .before .before .before .before .before .before .binop .ensures) in
     let e = c .before .before .emit .ensures in
     record {
       fuel = i .fuel - 1;
       enough = omega arith;
-      run = λ t x. let g = i .run t x in made-two 13 g w e (goes _ (link (g .same) (way _ (operators-more _ _ (g .what) _ (i .fuel) _ (i .enough) tk (sym (c .before .before .before .before .before .before .before .before .before .before .before .before .before .before .op-level .ensures) ∙ c .before .before .before .before .before .before .before .before .before .before .before .before .before .if2 .left) (c .before .before .before .op-number .ensures)))) (w .same)) (omega arith) (omega arith) refl;
+      run = λ t x. let g = i .run t x in made-two 13 g w e (goes _ (link (g .same) (way _ (climb-takes _ _ (g .what) _ (i .fuel) _ (i .enough) tk (c .before .before .before .before .before .before .before .before .before .before .before .before .before .before .before .op-level .ensures) (c .before .before .before .before .before .before .before .before .before .before .before .before .before .before .if2 .left) (c .before .before .before .before .before .before .before .before .before .before .before .before .before .if3 .left) (c .before .before .before .op-number .ensures)))) (w .same)) (omega arith) (omega arith) refl;
       kept = omega arith;
     }
-
-pub same-length-4 : (t : ℕ) → lts.Need-same-length-4 (binop-calls t) (binop-at t) reads.Post Inv-loop μ-loop
-same-length-4 t c = search needs
-
-pub returns-4 : (t : ℕ) → lts.Need-returns-4 (binop-calls t) (binop-at t) reads.Post Inv-loop μ-loop
-returns-4 t c = let f = done (c .before .before .before .before .before .before .before .before .before .before .before .before .before .before .first .given .1) (c .before .before .before .before .before .before .before .before .before .before .before .before .before .before .before .before .before .before .binop .ensures) in
-    let path = goes _ (way _ (binop-step _ _ _ _ (c .before .before .before .before .before .before .before .before .before .before .before .before .before .before .before .before .before .before .before .before .before .if1 .left))) (f .same) in
-    let i = c .before .before .before .before .before .before .before .before .before .before .before .before .loop .inv in
-    let g = i .run (f .what) (rebased f (omega (arith, c .before .before .before .before .before .before .before .before .before .before .before .before .before .before .before .before .before .before .before .before .before .before .before .before .pre))) in
-    let tk = taken (c .before .before .before .before .before .before .before .before .before .kind .given .1) (c .before .before .before .before .before .before .before .before .before .before .before .look .ensures) in
-    let on = link (g .same) (way _ (operators-more _ _ (g .what) _ (i .fuel) _ (i .enough) tk (sym (c .before .before .before .before .before .before .before .op-level .ensures) ∙ c .before .before .before .before .before .before .if2 .left) refl)) in
-    did-not (fails _ (link path on) (undone (c .match3 .keys2) (c .before .before .before .binop2 .ensures)) (prefix g (omega (arith, c .before .before .before .before .before .before .before .before .before .before .before .before .before .before .before .before .before .before .before .before .before .before .before .before .pre, c .before .before .before .before .before .before .before .before .before .before .before .before .before .before .before .before .before .before .binop .kept .1 .0, f .moved, f .room, g .moved, g .room, tk .within)) ∙ prefix f (omega (arith, c .before .before .before .before .before .before .before .before .before .before .before .before .before .before .before .before .before .before .before .before .before .before .before .before .pre, c .before .before .before .before .before .before .before .before .before .before .before .before .before .before .before .before .before .before .binop .kept .1 .0, f .moved, f .room, g .moved, g .room, tk .within))) (omega (arith, c .before .before .before .before .before .before .before .before .before .before .before .before .before .before .before .before .before .before .before .before .before .before .before .before .pre, c .before .before .before .before .before .before .before .before .before .before .before .before .before .before .before .before .before .before .binop .kept .1 .0, f .moved, f .room, g .moved, g .room, tk .within)))
-
-pub enum-known-s : (t : ℕ) → lts.Need-enum-known-s (binop-calls t) (binop-at t) reads.Post Inv-loop μ-loop
-enum-known-s t c = search needs
 
 pub same-length-5 : (t : ℕ) → lts.Need-same-length-5 (binop-calls t) (binop-at t) reads.Post Inv-loop μ-loop
 same-length-5 t c = search needs
 
 pub returns-5 : (t : ℕ) → lts.Need-returns-5 (binop-calls t) (binop-at t) reads.Post Inv-loop μ-loop
-returns-5 t c = let f = done (c .before .before .before .before .before .before .first .given .1) (c .before .before .before .before .before .before .before .before .before .before .binop .ensures) in
+returns-5 t c = let f = done (c .before .before .before .before .before .before .before .before .before .before .before .before .before .before .before .first .given .1) (c .before .before .before .before .before .before .before .before .before .before .before .before .before .before .before .before .before .before .before .unary2 .ensures) in
+    let path = goes _ (way _ (binop-step _ _ _ _ (c .before .before .before .before .before .before .before .before .before .before .before .before .before .before .before .before .before .before .before .before .before .before .if1 .left))) (f .same) in
+    let i = c .before .before .before .before .before .before .before .before .before .before .before .before .before .loop .inv in
+    let g = i .run (f .what) (rebased f (omega (arith, c .before .before .before .before .before .before .before .before .before .before .before .before .before .before .before .before .before .before .before .before .before .before .before .before .before .pre))) in
+    let tk = taken (c .before .before .before .before .before .before .before .before .before .before .kind .given .1) (c .before .before .before .before .before .before .before .before .before .before .before .before .look .ensures) in
+    let on = link (g .same) (way _ (climb-takes _ _ (g .what) _ (i .fuel) _ (i .enough) tk (c .before .before .before .before .before .before .before .before .op-level .ensures) (c .before .before .before .before .before .before .before .if2 .left) (c .before .before .before .before .before .before .if3 .left) (refl))) in
+    did-not (fails _ (link path on) (undone (c .match3 .keys2) (c .before .before .before .binop .ensures)) (prefix g (omega (arith, c .before .before .before .before .before .before .before .before .before .before .before .before .before .before .before .before .before .before .before .before .before .before .before .before .before .pre, c .before .before .before .before .before .before .before .before .before .before .before .before .before .before .before .before .before .before .before .unary2 .kept .1 .0, f .moved, f .room, g .moved, g .room, tk .within)) ∙ prefix f (omega (arith, c .before .before .before .before .before .before .before .before .before .before .before .before .before .before .before .before .before .before .before .before .before .before .before .before .before .pre, c .before .before .before .before .before .before .before .before .before .before .before .before .before .before .before .before .before .before .before .unary2 .kept .1 .0, f .moved, f .room, g .moved, g .room, tk .within))) (omega (arith, c .before .before .before .before .before .before .before .before .before .before .before .before .before .before .before .before .before .before .before .before .before .before .before .before .before .pre, c .before .before .before .before .before .before .before .before .before .before .before .before .before .before .before .before .before .before .before .unary2 .kept .1 .0, f .moved, f .room, g .moved, g .room, tk .within)))
+
+pub enum-known-s : (t : ℕ) → lts.Need-enum-known-s (binop-calls t) (binop-at t) reads.Post Inv-loop μ-loop
+enum-known-s t c = search needs
+
+pub same-length-6 : (t : ℕ) → lts.Need-same-length-6 (binop-calls t) (binop-at t) reads.Post Inv-loop μ-loop
+same-length-6 t c = search needs
+
+pub returns-6 : (t : ℕ) → lts.Need-returns-6 (binop-calls t) (binop-at t) reads.Post Inv-loop μ-loop
+returns-6 t c = let f = done (c .before .before .before .before .before .before .first .given .1) (c .before .before .before .before .before .before .before .before .before .before .unary2 .ensures) in
     let path = goes _ (way _ (binop-step _ _ _ _ (c .before .before .before .before .before .before .before .before .before .before .before .before .before .if1 .left))) (f .same) in
     let i = c .before .before .before .before .loop .inv in
     let g = i .run (f .what) (rebased f (omega (arith, c .before .before .before .before .before .before .before .before .before .before .before .before .before .before .before .before .pre))) in
-    did-not (blind (link path (g .same)) (operators-looks _ _ (g .what) _ _ (i .fuel) _ (i .enough)) (not-taken (c .before .s .given .1) (c .before .before .before .look .ensures)) (prefix g (omega arith) ∙ prefix f (omega arith)) (omega arith))
+    did-not (blind (link path (g .same)) (climb-looks _ _ (g .what) _ _ (i .fuel) _ (i .enough)) (not-taken (c .before .s .given .1) (c .before .before .before .look .ensures)) (prefix g (omega arith) ∙ prefix f (omega arith)) (omega arith))
