@@ -331,6 +331,10 @@ count-snoc (more u f) t = rw (count-snoc f t) (omega arith)
 pub as-agrees : {A : Type 0} {words : A → List ℕ} {D d : Res A} {T : List ℕ} {pos least slack at w₀ : ℕ} {S Q S′ Q′ : List ℕ} {r : Step} → D ≡ d → Agrees words d T pos least slack at w₀ S Q S′ Q′ r → Agrees words D T pos least slack at w₀ S Q S′ Q′ r
 as-agrees e h = rw e h
 
+-- a step that is made anew
+pub anew : {A : Type 0} {words : A → List ℕ} {d : Res A} {T : List ℕ} {pos least slack at w₀ : ℕ} {S Q S′ Q′ : List ℕ} {r r₁ : Step} → r ≡ r₁ → Agrees words d T pos least slack at w₀ S Q S′ Q′ r₁ → Agrees words d T pos least slack at w₀ S Q S′ Q′ r
+anew e h = rw e h
+
 -- a reader leaves what stands before «at» as it was
 prefix-of : (S S′ X : List ℕ) (at a : ℕ) → take a S′ ≡ take at S ++ X → at ≤ a → at ≤ length S → take at S′ ≡ take at S
 prefix-of S S′ X at a e up h =

@@ -170,6 +170,17 @@ fn resumed(s: Step) -> Entry
     }
 }
 
+// The same answer, made anew: handed on field by field and not as a block of memory.
+fn again(s: Step) -> Step
+    ensures { λ r. ⌜ r ≡ s ⌝ }
+{
+    match s {
+        Step::Done(p, a, w) => Step::Done(p, a, w),
+        Step::Fail(e, p, w) => Step::Fail(e, p, w),
+        Step::Stop(n) => Step::Stop(n),
+    }
+}
+
 // THE CYCLE. A member is called with the depths that are left: `unary`, `right` and `list` may begin where one is left,
 // and go on with one less; the others hand on what they are given.
 
@@ -197,7 +208,7 @@ fn unary(
             }
             let r = unary(tokens, store, queue, depth - 1, pos + 2, at, waiting);
             let Step::Done(p, a, w) = r else {
-                return r;
+                return again(r);
             };
             Step::Done(p, emit(store, a, word::UNARY_OP, code - 1), w)
         }
@@ -258,7 +269,7 @@ fn unpack(
             }
             let r = primary(tokens, store, queue, depth, pos, at, waiting);
             let Step::Done(p, a, w) = r else {
-                return r;
+                return again(r);
             };
             match look(tokens, p, w) {
                 Seen::Token(next, _, _) => {
@@ -289,7 +300,7 @@ fn primary(
 {
     let r = atom(tokens, store, queue, depth, pos, at, waiting);
     let Step::Done(p, a, w) = r else {
-        return r;
+        return again(r);
     };
     path(tokens, store, queue, depth, true, p, a, w)
 }
@@ -608,7 +619,7 @@ fn binop(
     }
     let first = unary(tokens, store, queue, depth, pos, at, waiting);
     let Step::Done(p0, a0, w0) = first else {
-        return first;
+        return again(first);
     };
     let mut p = p0;
     let mut a = a0;
@@ -630,7 +641,7 @@ fn binop(
                         p = p2;
                         w = w2;
                     }
-                    _ => return r,
+                    _ => return again(r),
                 }
             }
             Seen::Not(s) => return s,
@@ -662,7 +673,7 @@ fn tuple(
         waiting,
     );
     let Step::Done(p, a, w) = r else {
-        return r;
+        return again(r);
     };
     match look(tokens, p, w) {
         Seen::Token(kind, _, _) => {
@@ -737,7 +748,7 @@ fn expr(
         Found::At(p, m) => {
             let l = tuple(tokens, store, queue, depth, p, at, waiting);
             let Step::Done(p1, a1, w1) = l else {
-                return l;
+                return again(l);
             };
             match look(tokens, p1, w1) {
                 Seen::Token(kind, _, _) => {
@@ -747,11 +758,11 @@ fn expr(
                     }
                     let t = expect_pattern(store, at, number::CANNOT_ASSIGN, p1 + 2, a1, w1);
                     let Step::Done(p2, a2, _) = t else {
-                        return t;
+                        return again(t);
                     };
                     let r = right(tokens, store, queue, depth, p2, a2, w1);
                     let Step::Done(p3, a3, w3) = r else {
-                        return r;
+                        return again(r);
                     };
                     Step::Done(
                         p3,

@@ -122,6 +122,7 @@ use Rattle.parser.proofs.+access+atom+begin+binop+block+body+branch+cal
 use Rattle.parser.proofs.while_do.Reads as while-do
 use Rattle.parser.proofs.while_do.Kinds as while-do-kinds
 use Rattle.parser.proofs.+access+atom+begin+binop+block+body+branch+call+caught+commas+control+decl+def+expr+field+for_in+group+if_expr+index+item+label+list+lvalue+operand+param+params+path+primary+repeat+right+stmt+sync+table+target+tuple+turn+unary+unpack+value+while_do.Lts-while_do as while-do-lts
+use Rattle.parser.proofs.again.Reads as again-reads
 use Rattle.parser.proofs.closed.Reads as closed-reads
 use Rattle.parser.proofs.fields.item_end.Reads as item-end-reads
 use Rattle.parser.proofs.fields.joined.Reads as joined-reads
@@ -541,7 +542,7 @@ abbrev pub begin-calls : ℕ → begin-lts.Claims
 begin-calls t = (look-reads.Asked, look-reads.Learnt, block-below t, block.Post)
 
 abbrev pub binop-calls : ℕ → binop-lts.Claims
-binop-calls t = (unary-below t, unary.Post, look-reads.Asked, look-reads.Learnt, op-level-reads.Asked, op-level-reads.Learnt, binop-below t, binop.Post, op-number-reads.Asked, op-number-reads.Learnt, emit-reads.Asked, emit-reads.Learnt)
+binop-calls t = (unary-below t, unary.Post, again-reads.Asked, again-reads.Learnt, look-reads.Asked, look-reads.Learnt, op-level-reads.Asked, op-level-reads.Learnt, binop-below t, binop.Post, op-number-reads.Asked, op-number-reads.Learnt, emit-reads.Asked, emit-reads.Learnt)
 
 abbrev pub block-calls : ℕ → block-lts.Claims
 block-calls t = (body-below t, body.Post, block-under-reads.Asked, block-under-reads.Learnt)
@@ -571,7 +572,7 @@ abbrev pub def-calls : ℕ → def-lts.Claims
 def-calls t = (expect-reads.Asked, expect-reads.Learnt, params-below t, params.Post, signature-end-reads.Asked, signature-end-reads.Learnt, body-below t, body.Post, block-under-reads.Asked, block-under-reads.Learnt)
 
 abbrev pub expr-calls : ℕ → expr-lts.Claims
-expr-calls t = (assign-keyword-reads.Asked, assign-keyword-reads.Learnt, tuple-below t, tuple.Post, look-reads.Asked, look-reads.Learnt, assign-code-reads.Asked, assign-code-reads.Learnt, unassigned-reads.Asked, unassigned-reads.Learnt, expect-pattern-reads.Asked, expect-pattern-reads.Learnt, right-below t, right.Post, action-reads.Asked, action-reads.Learnt, emit-reads.Asked, emit-reads.Learnt)
+expr-calls t = (assign-keyword-reads.Asked, assign-keyword-reads.Learnt, tuple-below t, tuple.Post, again-reads.Asked, again-reads.Learnt, look-reads.Asked, look-reads.Learnt, assign-code-reads.Asked, assign-code-reads.Learnt, unassigned-reads.Asked, unassigned-reads.Learnt, expect-pattern-reads.Asked, expect-pattern-reads.Learnt, right-below t, right.Post, action-reads.Asked, action-reads.Learnt, emit-reads.Asked, emit-reads.Learnt)
 
 abbrev pub field-calls : ℕ → field-lts.Claims
 field-calls t = (look-reads.Asked, look-reads.Learnt, named-field-reads.Asked, named-field-reads.Learnt, index-below t, index.Post, emit-reads.Asked, emit-reads.Learnt)
@@ -613,7 +614,7 @@ abbrev pub path-calls : ℕ → path-lts.Claims
 path-calls t = (look-reads.Asked, look-reads.Learnt, continues-reads.Asked, continues-reads.Learnt, path-end-reads.Asked, path-end-reads.Learnt, access-below t, access.Post)
 
 abbrev pub primary-calls : ℕ → primary-lts.Claims
-primary-calls t = (atom-below t, atom.Post, path-below t, path.Post)
+primary-calls t = (atom-below t, atom.Post, again-reads.Asked, again-reads.Learnt, path-below t, path.Post)
 
 abbrev pub repeat-calls : ℕ → repeat-lts.Claims
 repeat-calls t = (body-below t, body.Post, list-under-reads.Asked, list-under-reads.Learnt)
@@ -634,16 +635,16 @@ abbrev pub target-calls : ℕ → target-lts.Claims
 target-calls t = (atom-below t, atom.Post, path-below t, path.Post, expect-pattern-reads.Asked, expect-pattern-reads.Learnt)
 
 abbrev pub tuple-calls : ℕ → tuple-lts.Claims
-tuple-calls t = (binop-below t, binop.Post, look-reads.Asked, look-reads.Learnt, commas-below t, commas.Post)
+tuple-calls t = (binop-below t, binop.Post, again-reads.Asked, again-reads.Learnt, look-reads.Asked, look-reads.Learnt, commas-below t, commas.Post)
 
 abbrev pub turn-calls : ℕ → turn-lts.Claims
 turn-calls t = (is-control-reads.Asked, is-control-reads.Learnt, list-end-reads.Asked, list-end-reads.Learnt, control-below t, control.Post, control-last-reads.Asked, control-last-reads.Learnt, closed-reads.Asked, closed-reads.Learnt, caught-below t, caught.Post, resumed-reads.Asked, resumed-reads.Learnt, stmt-below t, stmt.Post)
 
 abbrev pub unary-calls : ℕ → unary-lts.Claims
-unary-calls t = (look-reads.Asked, look-reads.Learnt, unary-code-reads.Asked, unary-code-reads.Learnt, operand-below t, operand.Post, unary-below t, unary.Post, emit-reads.Asked, emit-reads.Learnt)
+unary-calls t = (look-reads.Asked, look-reads.Learnt, unary-code-reads.Asked, unary-code-reads.Learnt, operand-below t, operand.Post, unary-below t, unary.Post, again-reads.Asked, again-reads.Learnt, emit-reads.Asked, emit-reads.Learnt)
 
 abbrev pub unpack-calls : ℕ → unpack-lts.Claims
-unpack-calls t = (look-reads.Asked, look-reads.Learnt, lone-unpack-reads.Asked, lone-unpack-reads.Learnt, primary-below t, primary.Post, unpack-end-reads.Asked, unpack-end-reads.Learnt)
+unpack-calls t = (look-reads.Asked, look-reads.Learnt, lone-unpack-reads.Asked, lone-unpack-reads.Learnt, primary-below t, primary.Post, again-reads.Asked, again-reads.Learnt, unpack-end-reads.Asked, unpack-end-reads.Learnt)
 
 abbrev pub value-calls : ℕ → value-lts.Claims
 value-calls t = (look-reads.Asked, look-reads.Learnt, ends-control-reads.Asked, ends-control-reads.Learnt, emit-reads.Asked, emit-reads.Learnt, expr-below t, expr.Post)

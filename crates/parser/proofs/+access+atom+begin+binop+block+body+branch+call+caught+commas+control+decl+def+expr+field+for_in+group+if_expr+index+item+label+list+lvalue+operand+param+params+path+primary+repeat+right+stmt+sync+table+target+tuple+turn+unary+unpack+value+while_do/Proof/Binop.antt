@@ -8,7 +8,7 @@ use lib.ListN.{length, take, drop, length-drop}
 use Rattle.tree.specs.Tree.{Tree, more, records}
 use Rattle.grammar.specs.Reading.Level.{level}
 use Rattle.parser.specs.Post.{Wrote}
-use Rattle.parser.proofs.Laws.{way, here, link, goes, done, undone, did-not, taken, not-taken, fails, blind, prefix, rebased, relabel, home, made-two, as-agrees}
+use Rattle.parser.proofs.Laws.{way, here, link, goes, done, undone, did-not, taken, not-taken, fails, blind, prefix, rebased, relabel, home, made-two, as-agrees, anew}
 use Rattle.parser.proofs.PathsExpr.{binop-unary, left}
 use Rattle.parser.proofs.Climb.{climb, binop-step, climb-looks, climb-ends, climb-takes}
 use Rattle.parser.proofs.binop.Reads as reads
@@ -43,11 +43,14 @@ unary-requires-2 t c κs = omega arith
 pub enum-known-first : (t : ℕ) → lts.Need-enum-known-first (binop-calls t) (binop-at t) reads.Post Inv-loop μ-loop
 enum-known-first t c = search needs
 
+pub again-requires : (t : ℕ) → lts.Need-again-requires (binop-calls t) (binop-at t) reads.Post Inv-loop μ-loop
+again-requires t c κs = search needs
+
 pub same-length-2 : (t : ℕ) → lts.Need-same-length-2 (binop-calls t) (binop-at t) reads.Post Inv-loop μ-loop
 same-length-2 t c = search needs
 
 pub returns-2 : (t : ℕ) → lts.Need-returns-2 (binop-calls t) (binop-at t) reads.Post Inv-loop μ-loop
-returns-2 t c = did-not (fails _ (way _ (binop-step _ _ _ _ (c .before .before .before .before .before .before .if1 .left))) (undone (c .match .keys2) (c .before .before .before .unary2 .ensures)) refl (omega arith))
+returns-2 t c = anew (c .again .ensures) (did-not (fails _ (way _ (binop-step _ _ _ _ (c .before .before .before .before .before .before .before .if1 .left))) (undone (c .before .match .keys2) (c .before .before .before .before .unary2 .ensures)) refl (omega arith)))
 
 pub loop-holds : (t : ℕ) → lts.Need-loop-holds (binop-calls t) (binop-at t) reads.Post Inv-loop μ-loop
 loop-holds t c = let f = done (c .before .first .given .1) (c .before .before .before .before .before .unary2 .ensures) in
@@ -141,17 +144,20 @@ loop-again t c = let f = done (c .before .before .before .before .before .before
       kept = omega arith;
     }
 
+pub again-requires-2 : (t : ℕ) → lts.Need-again-requires-2 (binop-calls t) (binop-at t) reads.Post Inv-loop μ-loop
+again-requires-2 t c κs = search needs
+
 pub same-length-5 : (t : ℕ) → lts.Need-same-length-5 (binop-calls t) (binop-at t) reads.Post Inv-loop μ-loop
 same-length-5 t c = search needs
 
 pub returns-5 : (t : ℕ) → lts.Need-returns-5 (binop-calls t) (binop-at t) reads.Post Inv-loop μ-loop
-returns-5 t c = let f = done (c .before .before .before .before .before .before .before .before .before .before .before .before .before .before .before .first .given .1) (c .before .before .before .before .before .before .before .before .before .before .before .before .before .before .before .before .before .before .before .unary2 .ensures) in
-    let path = goes _ (way _ (binop-step _ _ _ _ (c .before .before .before .before .before .before .before .before .before .before .before .before .before .before .before .before .before .before .before .before .before .before .if1 .left))) (f .same) in
-    let i = c .before .before .before .before .before .before .before .before .before .before .before .before .before .loop .inv in
-    let g = i .run (f .what) (rebased f (omega (arith, c .before .before .before .before .before .before .before .before .before .before .before .before .before .before .before .before .before .before .before .before .before .before .before .before .before .pre))) in
-    let tk = taken (c .before .before .before .before .before .before .before .before .before .before .kind .given .1) (c .before .before .before .before .before .before .before .before .before .before .before .before .look .ensures) in
-    let on = link (g .same) (way _ (climb-takes _ _ (g .what) _ (i .fuel) _ (i .enough) tk (c .before .before .before .before .before .before .before .before .op-level .ensures) (c .before .before .before .before .before .before .before .if2 .left) (c .before .before .before .before .before .before .if3 .left) (refl))) in
-    did-not (fails _ (link path on) (undone (c .match3 .keys2) (c .before .before .before .binop .ensures)) (prefix g (omega (arith, c .before .before .before .before .before .before .before .before .before .before .before .before .before .before .before .before .before .before .before .before .before .before .before .before .before .pre, c .before .before .before .before .before .before .before .before .before .before .before .before .before .before .before .before .before .before .before .unary2 .kept .1 .0, f .moved, f .room, g .moved, g .room, tk .within)) ∙ prefix f (omega (arith, c .before .before .before .before .before .before .before .before .before .before .before .before .before .before .before .before .before .before .before .before .before .before .before .before .before .pre, c .before .before .before .before .before .before .before .before .before .before .before .before .before .before .before .before .before .before .before .unary2 .kept .1 .0, f .moved, f .room, g .moved, g .room, tk .within))) (omega (arith, c .before .before .before .before .before .before .before .before .before .before .before .before .before .before .before .before .before .before .before .before .before .before .before .before .before .pre, c .before .before .before .before .before .before .before .before .before .before .before .before .before .before .before .before .before .before .before .unary2 .kept .1 .0, f .moved, f .room, g .moved, g .room, tk .within)))
+returns-5 t c = let f = done (c .before .before .before .before .before .before .before .before .before .before .before .before .before .before .before .before .first .given .1) (c .before .before .before .before .before .before .before .before .before .before .before .before .before .before .before .before .before .before .before .before .unary2 .ensures) in
+    let path = goes _ (way _ (binop-step _ _ _ _ (c .before .before .before .before .before .before .before .before .before .before .before .before .before .before .before .before .before .before .before .before .before .before .before .if1 .left))) (f .same) in
+    let i = c .before .before .before .before .before .before .before .before .before .before .before .before .before .before .loop .inv in
+    let g = i .run (f .what) (rebased f (omega (arith, c .before .before .before .before .before .before .before .before .before .before .before .before .before .before .before .before .before .before .before .before .before .before .before .before .before .before .pre))) in
+    let tk = taken (c .before .before .before .before .before .before .before .before .before .before .before .kind .given .1) (c .before .before .before .before .before .before .before .before .before .before .before .before .before .look .ensures) in
+    let on = link (g .same) (way _ (climb-takes _ _ (g .what) _ (i .fuel) _ (i .enough) tk (c .before .before .before .before .before .before .before .before .before .op-level .ensures) (c .before .before .before .before .before .before .before .before .if2 .left) (c .before .before .before .before .before .before .before .if3 .left) (refl))) in
+    anew (c .again2 .ensures) (did-not (fails _ (link path on) (undone (c .before .match3 .keys2) (c .before .before .before .before .binop .ensures)) (prefix g (omega (arith, c .before .before .before .before .before .before .before .before .before .before .before .before .before .before .before .before .before .before .before .before .before .before .before .before .before .before .pre, c .before .before .before .before .before .before .before .before .before .before .before .before .before .before .before .before .before .before .before .before .unary2 .kept .1 .0, f .moved, f .room, g .moved, g .room, tk .within)) ∙ prefix f (omega (arith, c .before .before .before .before .before .before .before .before .before .before .before .before .before .before .before .before .before .before .before .before .before .before .before .before .before .before .pre, c .before .before .before .before .before .before .before .before .before .before .before .before .before .before .before .before .before .before .before .before .unary2 .kept .1 .0, f .moved, f .room, g .moved, g .room, tk .within))) (omega (arith, c .before .before .before .before .before .before .before .before .before .before .before .before .before .before .before .before .before .before .before .before .before .before .before .before .before .before .pre, c .before .before .before .before .before .before .before .before .before .before .before .before .before .before .before .before .before .before .before .before .unary2 .kept .1 .0, f .moved, f .room, g .moved, g .room, tk .within))))
 
 pub enum-known-s : (t : ℕ) → lts.Need-enum-known-s (binop-calls t) (binop-at t) reads.Post Inv-loop μ-loop
 enum-known-s t c = search needs

@@ -11,7 +11,7 @@ use Rattle.tree.specs.Tree.{two, count, records}
 use Rattle.grammar.specs.Reading.Look.{look, expect-pattern, action}
 use Rattle.grammar.specs.Reading.Level.{level}
 use Rattle.parser.specs.Parts.{unassigned-step}
-use Rattle.parser.proofs.Laws.{way, link, goes, done, undone, did-not, taken, not-taken, fails, lacks, blind, found, unfound, gets, prefix, relabel}
+use Rattle.parser.proofs.Laws.{way, link, goes, done, undone, did-not, taken, not-taken, fails, lacks, blind, found, unfound, gets, prefix, relabel, anew}
 use Rattle.parser.proofs.Writing.{stored, unstored, reaches, either-way, told, kids-two, made-over, before, unwrote, stands}
 use Rattle.parser.proofs.Shapes.{given, shape-small, tuple-shape}
 use Rattle.parser.proofs.PathsExpr.{left, expr-step, expr-plain, expr-alone, expr-assign}
@@ -38,15 +38,18 @@ tuple-requires t c κs = let x = found (c .before .before .before .p .given .1) 
 pub enum-known-l : (t : ℕ) → lts.Need-enum-known-l (expr-calls t) (expr-at t) reads.Post
 enum-known-l t c = search needs
 
+pub again-requires : (t : ℕ) → lts.Need-again-requires (expr-calls t) (expr-at t) reads.Post
+again-requires t c κs = search needs
+
 pub same-length : (t : ℕ) → lts.Need-same-length (expr-calls t) (expr-at t) reads.Post
 same-length t c = search needs
 
 pub returns : (t : ℕ) → lts.Need-returns (expr-calls t) (expr-at t) reads.Post
-returns t c = let x = found (c .before .before .before .before .before .before .before .p .given .1) (c .before .before .before .before .before .before .before .before .before .assign-keyword .ensures) in
+returns t c = let x = found (c .before .before .before .before .before .before .before .before .p .given .1) (c .before .before .before .before .before .before .before .before .before .before .assign-keyword .ensures) in
     let xo = x .got .on in
     let xw = x .got .within in
     let s0 = told _ x (way _ (expr-step _ _ _)) in
-    did-not (fails _ s0 (undone (c .match2 .keys2) (c .before .before .before .tuple .ensures)) refl (omega arith))
+    anew (c .again .ensures) (did-not (fails _ s0 (undone (c .before .match2 .keys2) (c .before .before .before .before .tuple .ensures)) refl (omega arith)))
 
 pub look-requires : (t : ℕ) → lts.Need-look-requires (expr-calls t) (expr-at t) reads.Post
 look-requires t c κs = let w = done (c .before .l .given .1) (c .before .before .before .before .before .tuple .ensures) in
@@ -94,22 +97,25 @@ expect-pattern-requires t c κs = let x = found (c .before .before .before .befo
 pub enum-known-t : (t : ℕ) → lts.Need-enum-known-t (expr-calls t) (expr-at t) reads.Post
 enum-known-t t c = search needs
 
+pub again-requires-2 : (t : ℕ) → lts.Need-again-requires-2 (expr-calls t) (expr-at t) reads.Post
+again-requires-2 t c κs = search needs
+
 pub same-length-3 : (t : ℕ) → lts.Need-same-length-3 (expr-calls t) (expr-at t) reads.Post
 same-length-3 t c = search needs
 
 pub returns-3 : (t : ℕ) → lts.Need-returns-3 (expr-calls t) (expr-at t) reads.Post
-returns-3 t c = let x = found (c .before .before .before .before .before .before .before .before .before .before .before .before .before .before .before .before .before .before .before .before .p .given .1) (c .before .before .before .before .before .before .before .before .before .before .before .before .before .before .before .before .before .before .before .before .before .before .assign-keyword .ensures) in
+returns-3 t c = let x = found (c .before .before .before .before .before .before .before .before .before .before .before .before .before .before .before .before .before .before .before .before .before .p .given .1) (c .before .before .before .before .before .before .before .before .before .before .before .before .before .before .before .before .before .before .before .before .before .before .before .assign-keyword .ensures) in
     let xo = x .got .on in
     let xw = x .got .within in
     let s0 = told _ x (way _ (expr-step _ _ _)) in
-    let w = done (c .before .before .before .before .before .before .before .before .before .before .before .before .l .given .1) (c .before .before .before .before .before .before .before .before .before .before .before .before .before .before .before .before .tuple .ensures) in
+    let w = done (c .before .before .before .before .before .before .before .before .before .before .before .before .before .l .given .1) (c .before .before .before .before .before .before .before .before .before .before .before .before .before .before .before .before .before .tuple .ensures) in
     let s1 = goes _ s0 (w .same) in
-    let tk = taken (c .before .before .before .before .before .before .before .before .kind .given .1) (c .before .before .before .before .before .before .before .before .before .before .look .ensures) in
+    let tk = taken (c .before .before .before .before .before .before .before .before .before .kind .given .1) (c .before .before .before .before .before .before .before .before .before .before .before .look .ensures) in
     let small = shape-small (given (tuple-shape _ _ _) (w .same)) in
-    let whole = stands w small (omega (arith, c .before .before .before .before .before .before .before .before .before .before .before .before .before .before .before .before .before .before .before .before .before .before .before .before .before .pre)) (omega (arith, c .before .before .before .before .before .before .before .before .before .before .before .before .before .before .before .before .before .before .before .before .before .before .before .before .before .pre, w .moved, w .room, xo, xw, c .before .before .before .before .before .before .before .before .before .before .before .before .before .before .before .before .tuple .kept .1 .0)) in
-    let q2 = link s1 (way _ (expr-assign (level (c .before .before .before .before .before .before .before .before .before .before .before .before .before .before .before .before .before .before .before .before .before .before .before .before .before .args .depth)) (c .before .before .before .before .before .before .before .before .before .before .before .before .before .before .before .before .before .before .before .before .p .given .0 .1 .0) (w .what) _ tk (c .before .before .before .before .before .before .assign-code .ensures .0) (c .before .before .before .before .before .if1 .left) refl)) in
-    let kept = prefix w (omega (arith, c .before .before .before .before .before .before .before .before .before .before .before .before .before .before .before .before .before .before .before .before .before .before .before .before .before .pre)) in
-    did-not (unwrote _ (unstored (c .match4 .keys2) (c .before .before .before .expect-pattern .ensures (w .what) (c .before .before .before .before .before .before .before .before .before .before .before .before .before .before .before .before .before .before .before .before .before .before .before .before .before .args .tokens .now) whole (tk .within))) q2 kept (omega (arith, c .before .before .before .before .before .before .before .before .before .before .before .before .before .before .before .before .before .before .before .before .before .before .before .before .before .pre, w .moved, xo)))
+    let whole = stands w small (omega (arith, c .before .before .before .before .before .before .before .before .before .before .before .before .before .before .before .before .before .before .before .before .before .before .before .before .before .before .pre)) (omega (arith, c .before .before .before .before .before .before .before .before .before .before .before .before .before .before .before .before .before .before .before .before .before .before .before .before .before .before .pre, w .moved, w .room, xo, xw, c .before .before .before .before .before .before .before .before .before .before .before .before .before .before .before .before .before .tuple .kept .1 .0)) in
+    let q2 = link s1 (way _ (expr-assign (level (c .before .before .before .before .before .before .before .before .before .before .before .before .before .before .before .before .before .before .before .before .before .before .before .before .before .before .args .depth)) (c .before .before .before .before .before .before .before .before .before .before .before .before .before .before .before .before .before .before .before .before .before .p .given .0 .1 .0) (w .what) _ tk (c .before .before .before .before .before .before .before .assign-code .ensures .0) (c .before .before .before .before .before .before .if1 .left) refl)) in
+    let kept = prefix w (omega (arith, c .before .before .before .before .before .before .before .before .before .before .before .before .before .before .before .before .before .before .before .before .before .before .before .before .before .before .pre)) in
+    anew (c .again2 .ensures) (did-not (unwrote _ (unstored (c .before .match4 .keys2) (c .before .before .before .before .expect-pattern .ensures (w .what) (c .before .before .before .before .before .before .before .before .before .before .before .before .before .before .before .before .before .before .before .before .before .before .before .before .before .before .args .tokens .now) whole (tk .within))) q2 kept (omega (arith, c .before .before .before .before .before .before .before .before .before .before .before .before .before .before .before .before .before .before .before .before .before .before .before .before .before .before .pre, w .moved, xo))))
 
 pub right-requires : (t : ℕ) → lts.Need-right-requires (expr-calls t) (expr-at t) reads.Post
 right-requires t c κs = let x = found (c .before .before .before .before .before .before .before .before .before .before .before .before .before .before .before .before .before .before .before .before .before .before .before .before .p .given .1) (c .before .before .before .before .before .before .before .before .before .before .before .before .before .before .before .before .before .before .before .before .before .before .before .before .before .before .assign-keyword .ensures) in
@@ -127,28 +133,31 @@ right-requires t c κs = let x = found (c .before .before .before .before .befor
 pub enum-known-r : (t : ℕ) → lts.Need-enum-known-r (expr-calls t) (expr-at t) reads.Post
 enum-known-r t c = search needs
 
+pub again-requires-3 : (t : ℕ) → lts.Need-again-requires-3 (expr-calls t) (expr-at t) reads.Post
+again-requires-3 t c κs = search needs
+
 pub same-length-4 : (t : ℕ) → lts.Need-same-length-4 (expr-calls t) (expr-at t) reads.Post
-same-length-4 t c = c .before .before .before .right .kept .1 .0 ∙ c .before .before .before .before .before .before .before .before .before .before .before .expect-pattern .kept .0 ∙ c .before .before .before .before .before .before .before .before .before .before .before .before .before .before .before .before .before .before .before .before .before .before .before .before .tuple .kept .1 .0
+same-length-4 t c = c .before .before .before .before .right .kept .1 .0 ∙ c .before .before .before .before .before .before .before .before .before .before .before .before .expect-pattern .kept .0 ∙ c .before .before .before .before .before .before .before .before .before .before .before .before .before .before .before .before .before .before .before .before .before .before .before .before .before .tuple .kept .1 .0
 
 pub returns-4 : (t : ℕ) → lts.Need-returns-4 (expr-calls t) (expr-at t) reads.Post
-returns-4 t c = let x = found (c .before .before .before .before .before .before .before .before .before .before .before .before .before .before .before .before .before .before .before .before .before .before .before .before .before .before .before .before .p .given .1) (c .before .before .before .before .before .before .before .before .before .before .before .before .before .before .before .before .before .before .before .before .before .before .before .before .before .before .before .before .before .before .assign-keyword .ensures) in
+returns-4 t c = let x = found (c .before .before .before .before .before .before .before .before .before .before .before .before .before .before .before .before .before .before .before .before .before .before .before .before .before .before .before .before .before .p .given .1) (c .before .before .before .before .before .before .before .before .before .before .before .before .before .before .before .before .before .before .before .before .before .before .before .before .before .before .before .before .before .before .before .assign-keyword .ensures) in
     let xo = x .got .on in
     let xw = x .got .within in
     let s0 = told _ x (way _ (expr-step _ _ _)) in
-    let w = done (c .before .before .before .before .before .before .before .before .before .before .before .before .before .before .before .before .before .before .before .before .l .given .1) (c .before .before .before .before .before .before .before .before .before .before .before .before .before .before .before .before .before .before .before .before .before .before .before .before .tuple .ensures) in
+    let w = done (c .before .before .before .before .before .before .before .before .before .before .before .before .before .before .before .before .before .before .before .before .before .l .given .1) (c .before .before .before .before .before .before .before .before .before .before .before .before .before .before .before .before .before .before .before .before .before .before .before .before .before .tuple .ensures) in
     let s1 = goes _ s0 (w .same) in
-    let tk = taken (c .before .before .before .before .before .before .before .before .before .before .before .before .before .before .before .before .kind .given .1) (c .before .before .before .before .before .before .before .before .before .before .before .before .before .before .before .before .before .before .look .ensures) in
+    let tk = taken (c .before .before .before .before .before .before .before .before .before .before .before .before .before .before .before .before .before .kind .given .1) (c .before .before .before .before .before .before .before .before .before .before .before .before .before .before .before .before .before .before .before .look .ensures) in
     let small = shape-small (given (tuple-shape _ _ _) (w .same)) in
-    let whole = stands w small (omega (arith, c .before .before .before .before .before .before .before .before .before .before .before .before .before .before .before .before .before .before .before .before .before .before .before .before .before .before .before .before .before .before .before .before .before .pre)) (omega (arith, c .before .before .before .before .before .before .before .before .before .before .before .before .before .before .before .before .before .before .before .before .before .before .before .before .before .before .before .before .before .before .before .before .before .pre, w .moved, w .room, xo, xw, c .before .before .before .before .before .before .before .before .before .before .before .before .before .before .before .before .before .before .before .before .before .before .before .before .tuple .kept .1 .0)) in
-    let pt = stored (c .before .before .before .before .before .before .before .t .given .1) (c .before .before .before .before .before .before .before .before .before .before .before .expect-pattern .ensures (w .what) (c .before .before .before .before .before .before .before .before .before .before .before .before .before .before .before .before .before .before .before .before .before .before .before .before .before .before .before .before .before .before .before .before .before .args .tokens .now) whole (tk .within)) in
+    let whole = stands w small (omega (arith, c .before .before .before .before .before .before .before .before .before .before .before .before .before .before .before .before .before .before .before .before .before .before .before .before .before .before .before .before .before .before .before .before .before .before .pre)) (omega (arith, c .before .before .before .before .before .before .before .before .before .before .before .before .before .before .before .before .before .before .before .before .before .before .before .before .before .before .before .before .before .before .before .before .before .before .pre, w .moved, w .room, xo, xw, c .before .before .before .before .before .before .before .before .before .before .before .before .before .before .before .before .before .before .before .before .before .before .before .before .before .tuple .kept .1 .0)) in
+    let pt = stored (c .before .before .before .before .before .before .before .before .t .given .1) (c .before .before .before .before .before .before .before .before .before .before .before .before .expect-pattern .ensures (w .what) (c .before .before .before .before .before .before .before .before .before .before .before .before .before .before .before .before .before .before .before .before .before .before .before .before .before .before .before .before .before .before .before .before .before .before .args .tokens .now) whole (tk .within)) in
     let po = pt .got .on in
     let pw = pt .got .within in
-    let q2 = link s1 (way _ (expr-assign (level (c .before .before .before .before .before .before .before .before .before .before .before .before .before .before .before .before .before .before .before .before .before .before .before .before .before .before .before .before .before .before .before .before .before .args .depth)) (c .before .before .before .before .before .before .before .before .before .before .before .before .before .before .before .before .before .before .before .before .before .before .before .before .before .before .before .before .p .given .0 .1 .0) (w .what) _ tk (c .before .before .before .before .before .before .before .before .before .before .before .before .before .before .assign-code .ensures .0) (c .before .before .before .before .before .before .before .before .before .before .before .before .before .if1 .left) refl)) in
+    let q2 = link s1 (way _ (expr-assign (level (c .before .before .before .before .before .before .before .before .before .before .before .before .before .before .before .before .before .before .before .before .before .before .before .before .before .before .before .before .before .before .before .before .before .before .args .depth)) (c .before .before .before .before .before .before .before .before .before .before .before .before .before .before .before .before .before .before .before .before .before .before .before .before .before .before .before .before .before .p .given .0 .1 .0) (w .what) _ tk (c .before .before .before .before .before .before .before .before .before .before .before .before .before .before .before .assign-code .ensures .0) (c .before .before .before .before .before .before .before .before .before .before .before .before .before .before .if1 .left) refl)) in
     let s3 = gets _ (pt .got) q2 in
-    let kept = prefix w (omega (arith, c .before .before .before .before .before .before .before .before .before .before .before .before .before .before .before .before .before .before .before .before .before .before .before .before .before .before .before .before .before .before .before .before .before .pre)) in
-    let stays = before (c .before .before .before .before .before .before .before .before .before .before .before .before .before .before .before .before .before .before .before .before .before .before .before .before .before .before .before .before .before .before .before .before .before .args .at) (c .before .before .before .before .before .before .before .before .before .before .before .before .before .before .before .before .before .before .before .before .before .before .before .before .tuple .last .1 .0) pt (omega (arith, c .before .before .before .before .before .before .before .before .before .before .before .before .before .before .before .before .before .before .before .before .before .before .before .before .before .before .before .before .before .before .before .before .before .pre, c .before .before .before .before .before .before .before .before .before .before .before .before .before .before .before .before .before .before .before .before .before .before .before .before .tuple .kept .1 .0)) ∙ kept in
-    let up = reaches (c .before .before .before .before .before .before .before .before .before .before .before .before .before .before .before .before .before .before .before .before .before .before .before .before .tuple .last .1 .0) (c .before .before .before .before .before .before .before .before .before .before .before .expect-pattern .last .0) (records (pt .got .what)) (c .before .before .before .before .before .before .before .before .before .before .before .before .before .before .before .before .before .before .before .before .before .before .before .before .before .before .before .before .before .before .before .before .before .args .at) (c .before .before .before .before .before .before .before .t .given .0 .1 .0) (pt .text) (omega (arith, c .before .before .before .before .before .before .before .before .before .before .before .before .before .before .before .before .before .before .before .before .before .before .before .before .before .before .before .before .before .before .before .before .before .pre, c .before .before .before .before .before .before .before .before .before .before .before .before .before .before .before .before .before .before .before .before .before .before .before .before .tuple .kept .1 .0)) in
-    did-not (fails _ s3 (undone (c .match5 .keys2) (c .before .before .before .right .ensures)) stays (omega (arith, c .before .before .before .before .before .before .before .before .before .before .before .before .before .before .before .before .before .before .before .before .before .before .before .before .before .before .before .before .before .before .before .before .before .pre, w .moved, w .room, xo, xw, po, pw, up)))
+    let kept = prefix w (omega (arith, c .before .before .before .before .before .before .before .before .before .before .before .before .before .before .before .before .before .before .before .before .before .before .before .before .before .before .before .before .before .before .before .before .before .before .pre)) in
+    let stays = before (c .before .before .before .before .before .before .before .before .before .before .before .before .before .before .before .before .before .before .before .before .before .before .before .before .before .before .before .before .before .before .before .before .before .before .args .at) (c .before .before .before .before .before .before .before .before .before .before .before .before .before .before .before .before .before .before .before .before .before .before .before .before .before .tuple .last .1 .0) pt (omega (arith, c .before .before .before .before .before .before .before .before .before .before .before .before .before .before .before .before .before .before .before .before .before .before .before .before .before .before .before .before .before .before .before .before .before .before .pre, c .before .before .before .before .before .before .before .before .before .before .before .before .before .before .before .before .before .before .before .before .before .before .before .before .before .tuple .kept .1 .0)) ∙ kept in
+    let up = reaches (c .before .before .before .before .before .before .before .before .before .before .before .before .before .before .before .before .before .before .before .before .before .before .before .before .before .tuple .last .1 .0) (c .before .before .before .before .before .before .before .before .before .before .before .before .expect-pattern .last .0) (records (pt .got .what)) (c .before .before .before .before .before .before .before .before .before .before .before .before .before .before .before .before .before .before .before .before .before .before .before .before .before .before .before .before .before .before .before .before .before .before .args .at) (c .before .before .before .before .before .before .before .before .t .given .0 .1 .0) (pt .text) (omega (arith, c .before .before .before .before .before .before .before .before .before .before .before .before .before .before .before .before .before .before .before .before .before .before .before .before .before .before .before .before .before .before .before .before .before .before .pre, c .before .before .before .before .before .before .before .before .before .before .before .before .before .before .before .before .before .before .before .before .before .before .before .before .before .tuple .kept .1 .0)) in
+    anew (c .again3 .ensures) (did-not (fails _ s3 (undone (c .before .match5 .keys2) (c .before .before .before .before .right .ensures)) stays (omega (arith, c .before .before .before .before .before .before .before .before .before .before .before .before .before .before .before .before .before .before .before .before .before .before .before .before .before .before .before .before .before .before .before .before .before .before .pre, w .moved, w .room, xo, xw, po, pw, up))))
 
 pub action-requires : (t : ℕ) → lts.Need-action-requires (expr-calls t) (expr-at t) reads.Post
 action-requires t c κs = search needs

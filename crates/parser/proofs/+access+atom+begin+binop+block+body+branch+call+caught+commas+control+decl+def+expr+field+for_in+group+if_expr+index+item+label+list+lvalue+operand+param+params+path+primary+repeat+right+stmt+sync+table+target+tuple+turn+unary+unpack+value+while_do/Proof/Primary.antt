@@ -4,7 +4,7 @@ use Prim.Native.Nat.{ℕ}
 use borrow.Author.Needs.{needs}
 use native.Mathlib.Omega.{arith}
 use lib.ListN.{take}
-use Rattle.parser.proofs.Laws.{way, goes, done, undone, did-not, fails, prefix}
+use Rattle.parser.proofs.Laws.{way, goes, done, undone, did-not, fails, prefix, anew}
 use Rattle.grammar.specs.Reading.Primary.{with-path}
 use Rattle.parser.proofs.PathsPrimary.{mapped, primary-step, path-under}
 use Rattle.parser.proofs.primary.Reads as reads
@@ -17,11 +17,14 @@ atom-requires t c κs = omega arith
 pub enum-known-r : (t : ℕ) → lts.Need-enum-known-r (primary-calls t) (primary-at t) reads.Post
 enum-known-r t c = search needs
 
+pub again-requires : (t : ℕ) → lts.Need-again-requires (primary-calls t) (primary-at t) reads.Post
+again-requires t c κs = search needs
+
 pub same-length : (t : ℕ) → lts.Need-same-length (primary-calls t) (primary-at t) reads.Post
 same-length t c = search needs
 
 pub returns : (t : ℕ) → lts.Need-returns (primary-calls t) (primary-at t) reads.Post
-returns t c = did-not (fails _ (way _ (primary-step _ _ _)) (undone (c .match .keys2) (c .before .before .before .atom .ensures)) refl (omega arith))
+returns t c = anew (c .again .ensures) (did-not (fails _ (way _ (primary-step _ _ _)) (undone (c .before .match .keys2) (c .before .before .before .before .atom .ensures)) refl (omega arith)))
 
 pub path-requires : (t : ℕ) → lts.Need-path-requires (primary-calls t) (primary-at t) reads.Post
 path-requires t c κs = let f = done (c .before .before .before .r .given .1) (c .before .before .before .before .before .before .before .atom .ensures) in

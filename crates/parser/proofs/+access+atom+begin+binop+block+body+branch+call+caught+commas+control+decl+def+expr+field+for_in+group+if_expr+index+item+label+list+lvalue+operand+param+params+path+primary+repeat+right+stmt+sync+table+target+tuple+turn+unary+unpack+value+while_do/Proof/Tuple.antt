@@ -4,7 +4,7 @@ use Prim.Native.Nat.{ℕ}
 use borrow.Author.Needs.{needs}
 use native.Mathlib.Omega.{arith}
 use Rattle.parser.specs.Parts.{commas}
-use Rattle.parser.proofs.Laws.{way, link, goes, done, undone, did-not, taken, not-taken, fails, blind, prefix, relabel, continued}
+use Rattle.parser.proofs.Laws.{way, link, goes, done, undone, did-not, taken, not-taken, fails, blind, prefix, relabel, continued, anew}
 use Rattle.parser.proofs.PathsExpr.{left, tuple-step, tuple-looks, tuple-one, tuple-more}
 use Rattle.parser.proofs.Trees.{tuple-text}
 use Rattle.parser.proofs.tuple.Reads as reads
@@ -17,11 +17,14 @@ binop-requires t c κs = omega arith
 pub enum-known-r : (t : ℕ) → lts.Need-enum-known-r (tuple-calls t) (tuple-at t) reads.Post
 enum-known-r t c = search needs
 
+pub again-requires : (t : ℕ) → lts.Need-again-requires (tuple-calls t) (tuple-at t) reads.Post
+again-requires t c κs = search needs
+
 pub same-length : (t : ℕ) → lts.Need-same-length (tuple-calls t) (tuple-at t) reads.Post
 same-length t c = search needs
 
 pub returns : (t : ℕ) → lts.Need-returns (tuple-calls t) (tuple-at t) reads.Post
-returns t c = did-not (fails _ (way _ (tuple-step _ _ _)) (undone (c .match .keys2) (c .before .before .before .binop .ensures)) refl (omega arith))
+returns t c = anew (c .again .ensures) (did-not (fails _ (way _ (tuple-step _ _ _)) (undone (c .before .match .keys2) (c .before .before .before .before .binop .ensures)) refl (omega arith)))
 
 pub look-requires : (t : ℕ) → lts.Need-look-requires (tuple-calls t) (tuple-at t) reads.Post
 look-requires t c κs = let w = done (c .before .r .given .1) (c .before .before .before .before .before .binop .ensures) in

@@ -3,7 +3,7 @@ use mathlib.Core.Path.{refl, _∙_}
 use Prim.Native.Nat.{ℕ}
 use borrow.Author.Needs.{needs}
 use native.Mathlib.Omega.{arith}
-use Rattle.parser.proofs.Laws.{way, ends, goes, done, undone, did-not, taken, not-taken, fails, blind, made-one, as-agrees}
+use Rattle.parser.proofs.Laws.{way, ends, goes, done, undone, did-not, taken, not-taken, fails, blind, made-one, as-agrees, anew}
 use Rattle.parser.proofs.PathsExpr.{unary-stops, unary-step, unary-looks, unary-none, unary-some, left}
 use Rattle.parser.proofs.unary.Reads as reads
 use Rattle.parser.proofs.+access+atom+begin+binop+block+body+branch+call+caught+commas+control+decl+def+expr+field+for_in+group+if_expr+index+item+label+list+lvalue+operand+param+params+path+primary+repeat+right+stmt+sync+table+target+tuple+turn+unary+unpack+value+while_do.Lts-unary as lts
@@ -48,13 +48,16 @@ unary-requires t c κs = let tk = taken (c .before .before .before .before .befo
 pub enum-known-r : (t : ℕ) → lts.Need-enum-known-r (unary-calls t) (unary-at t) reads.Post
 enum-known-r t c = search needs
 
+pub again-requires : (t : ℕ) → lts.Need-again-requires (unary-calls t) (unary-at t) reads.Post
+again-requires t c κs = search needs
+
 pub same-length-2 : (t : ℕ) → lts.Need-same-length-2 (unary-calls t) (unary-at t) reads.Post
 same-length-2 t c = search needs
 
 pub returns-3 : (t : ℕ) → lts.Need-returns-3 (unary-calls t) (unary-at t) reads.Post
-returns-3 t c = let tk = taken (c .before .before .before .before .before .before .before .before .before .kind .given .1) (c .before .before .before .before .before .before .before .before .before .before .before .look .ensures) in
-    let path = way _ (unary-step _ _ _ (c .before .before .before .before .before .before .before .before .before .before .before .before .if1 .left) ∙ unary-some _ _ tk (c .before .before .before .before .before .before .before .unary-code .ensures .0) (c .before .before .before .before .before .before .if2 .left)) in
-    did-not (fails _ path (undone (c .match2 .keys2) (c .before .before .before .unary .ensures)) refl (omega arith))
+returns-3 t c = let tk = taken (c .before .before .before .before .before .before .before .before .before .before .kind .given .1) (c .before .before .before .before .before .before .before .before .before .before .before .before .look .ensures) in
+    let path = way _ (unary-step _ _ _ (c .before .before .before .before .before .before .before .before .before .before .before .before .before .if1 .left) ∙ unary-some _ _ tk (c .before .before .before .before .before .before .before .before .unary-code .ensures .0) (c .before .before .before .before .before .before .before .if2 .left)) in
+    anew (c .again .ensures) (did-not (fails _ path (undone (c .before .match2 .keys2) (c .before .before .before .before .unary .ensures)) refl (omega arith)))
 
 pub sub-emit : (t : ℕ) → lts.Need-sub-emit (unary-calls t) (unary-at t) reads.Post
 sub-emit t c = search needs

@@ -6,7 +6,7 @@ use native.Mathlib.Omega.{arith}
 use lib.ListN.{take}
 use Rattle.tree.specs.Node
 use Rattle.parser.specs.Parts.{unpack-end}
-use Rattle.parser.proofs.Laws.{way, here, link, goes, done, undone, did-not, taken, not-taken, fails, blind, prefix, relabel}
+use Rattle.parser.proofs.Laws.{way, here, link, goes, done, undone, did-not, taken, not-taken, fails, blind, prefix, relabel, anew}
 use Rattle.parser.proofs.Writing.{taller}
 use Rattle.grammar.specs.Laws.Kinds.{level-small, primary-small}
 use Rattle.parser.proofs.PathsPrimary.{writing, unpack-looks, dots-looks, unpack-lone, unpack-some, dots-more, dots-none}
@@ -43,13 +43,16 @@ primary-requires t c κs = omega arith
 pub enum-known-r : (t : ℕ) → lts.Need-enum-known-r (unpack-calls t) (unpack-at t) reads.Post
 enum-known-r t c = search needs
 
+pub again-requires : (t : ℕ) → lts.Need-again-requires (unpack-calls t) (unpack-at t) reads.Post
+again-requires t c κs = search needs
+
 pub same-length-2 : (t : ℕ) → lts.Need-same-length-2 (unpack-calls t) (unpack-at t) reads.Post
 same-length-2 t c = search needs
 
 pub returns-2 : (t : ℕ) → lts.Need-returns-2 (unpack-calls t) (unpack-at t) reads.Post
-returns-2 t c = let tk = taken (c .before .before .before .before .before .before .before .before .kind .given .1) (c .before .before .before .before .before .before .before .before .before .before .look .ensures) in
-    let path = way _ (unpack-some _ _ tk (c .before .before .before .before .before .before .if1 .left)) in
-    did-not (fails _ path (undone (c .match2 .keys2) (c .before .before .before .primary .ensures)) refl (omega arith))
+returns-2 t c = let tk = taken (c .before .before .before .before .before .before .before .before .before .kind .given .1) (c .before .before .before .before .before .before .before .before .before .before .before .look .ensures) in
+    let path = way _ (unpack-some _ _ tk (c .before .before .before .before .before .before .before .if1 .left)) in
+    anew (c .again .ensures) (did-not (fails _ path (undone (c .before .match2 .keys2) (c .before .before .before .before .primary .ensures)) refl (omega arith)))
 
 pub look-requires-2 : (t : ℕ) → lts.Need-look-requires-2 (unpack-calls t) (unpack-at t) reads.Post
 look-requires-2 t c κs = let w = done (c .before .r .given .1) (c .before .before .before .before .before .primary .ensures) in
