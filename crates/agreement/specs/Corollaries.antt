@@ -13,8 +13,7 @@ use lib.ListN.{length, take, replicate, length-take, length-drop}
 use Rattle.tree.specs.Tree.{Tree}
 use Rattle.grammar.specs.Reading.Limit.{depth-limit, length-limit, queue-limit, store-share}
 use Rattle.grammar.specs.Reading.Result.{Error, Res, ok, bad, fail, stop, ifb}
-use Rattle.grammar.specs.Reading.Level.{next}
-use Rattle.grammar.specs.Reading.Next.{error-kind, error-answer, reader-at, Accepted, Called, bare, called, answered, next-stmt}
+use Rattle.grammar.specs.Reading.Next.{error-kind, error-answer, reader-at, Accepted, Called, bare, called, answered, next-stmt, next}
 use Rattle.grammar.specs.Laws.Numbers.{Top, t-end, t-num, n-bad, n-fail, next-numbers, waits-none}
 use Rattle.grammar.specs.Laws.Progress.{Keep, k-ok, k-bad, k-fail, Taken, Ended, next-takes}
 use Rattle.grammar.specs.Laws.Returned.{returned-accepted}

@@ -23,7 +23,7 @@ use Rattle.grammar.specs.Canonical.Write.{own, run}
 use Rattle.grammar.specs.Canonical.Need.{need}
 use Rattle.grammar.specs.Canonical.Valid.{stmt, Valids, v-none, v-more}
 use Rattle.grammar.specs.Canonical.Writing.{clean-from, clean-reading}
-use Rattle.grammar.specs.Laws.Back.Levels.{run-length}
+use Rattle.grammar.specs.Laws.Back.Depths.{run-length}
 use Rattle.grammar.specs.Sheets as Sheets
 use Rattle.grammar.specs.Theorems.{sound, decoded}
 use Rattle.grammar.specs.declared.Answer.{Answer}

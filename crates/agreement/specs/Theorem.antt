@@ -17,7 +17,7 @@ use Rattle.grammar.specs.Reading.Next.{Accepted, fresh, next-stmt}
 use Rattle.grammar.specs.Canonical.Write.{own, run}
 use Rattle.grammar.specs.Canonical.Need.{need}
 use Rattle.grammar.specs.Canonical.Valid.{stmt, Valids, v-none, v-more}
-use Rattle.grammar.specs.Laws.Back.Levels.{run-length}
+use Rattle.grammar.specs.Laws.Back.Depths.{run-length}
 use Rattle.grammar.specs.Laws.Small.{valid-small}
 use Rattle.grammar.specs.Theorems.{among-valid, same-trees}
 use Rattle.grammar.specs.declared.Reader.{Reader}

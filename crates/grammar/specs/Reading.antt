@@ -9,5 +9,5 @@ pub mod Primary
 pub mod Block
 pub mod Function
 pub mod Stmt
-pub mod Level
+pub mod Depth
 pub mod Next

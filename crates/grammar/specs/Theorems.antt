@@ -24,7 +24,8 @@ use Rattle.tree.specs.Decode.{decode}
 use Rattle.tree.specs.Records.{Small, decode-records, records-same, decode-text}
 use Rattle.grammar.specs.Reading.Limit.{depth-limit, too-deep, no-statement, short-output}
 use Rattle.grammar.specs.Reading.Result.{Error, ok, ifb}
-use Rattle.grammar.specs.Reading.Level.{level, next}
+use Rattle.grammar.specs.Reading.Depth.{at-depth}
+use Rattle.grammar.specs.Reading.Next.{next}
 use Rattle.grammar.specs.Reading.Stmt as Stmt
 use Rattle.grammar.specs.Canonical.Write.{own, statement, run}
 use Rattle.grammar.specs.Canonical.Need.{need}
@@ -40,15 +41,15 @@ use Rattle.grammar.specs.Laws.Small.{valid-small}
 use Rattle.grammar.specs.Laws.Length.{statement-length}
 use Rattle.grammar.specs.Laws.Clean.{clean-sound}
 use Rattle.grammar.specs.Laws.Sound.Base.{Sound}
-use Rattle.grammar.specs.Laws.Sound.Stmt.{level-sound}
-use Rattle.grammar.specs.Laws.Back.Levels.{next-back, stmt-back, reading-back, depth-is}
+use Rattle.grammar.specs.Laws.Sound.Stmt.{depth-sound}
+use Rattle.grammar.specs.Laws.Back.Depths.{next-back, stmt-back, reading-back, depth-is}
 
 -- 1
 pub sound : (d : ℕ) (ts : List ℕ) (f : Forest) → clean-reading d ts ≡ just f → Valids stmt f
 sound d ts f e = clean-sound d ts f e
 
-pub sound-roles : (d : ℕ) → Sound (level d)
-sound-roles d = level-sound d
+pub sound-roles : (d : ℕ) → Sound (at-depth d)
+sound-roles d = depth-sound d
 
 -- words are the same as a test says
 same-words-are : (vs ws : List ℕ) → same-words vs ws ≡ true → vs ≡ ws
@@ -69,7 +70,7 @@ unfolding need
 one-need t = le-refl (need t own)
 
 -- 2
-pub reads-back : {t : Tree} → Valid stmt t → (d : ℕ) → need t own ≤ d → (q : List Error) (r : List ℕ) → Stmt.stmt (level d) q (statement t r) ≡ ok t (Kind.Semicolon ∷ 0 ∷ r)
+pub reads-back : {t : Tree} → Valid stmt t → (d : ℕ) → need t own ≤ d → (q : List Error) (r : List ℕ) → Stmt.stmt (at-depth d) q (statement t r) ≡ ok t (Kind.Semicolon ∷ 0 ∷ r)
 unfolding reach
 reads-back h d l q r = rw (stmt-back h d q r, le-leb _ d l)
 

@@ -19,9 +19,9 @@ use Rattle.tree.specs.Node
 use Rattle.grammar.specs.Reading.Number
 use Rattle.grammar.specs.Reading.Result.{Res, ok, bad, fail, stop, then, ifb}
 use Rattle.grammar.specs.Reading.Look.{looked, look}
-use Rattle.grammar.specs.Reading.Expr.{Level, operators, binop-expr}
-use Rattle.grammar.specs.Reading.Level.{level}
-use Rattle.grammar.specs.Laws.Progress.{Keep, k-ok, k-bad, k-fail, k-stop, k-on, Keeps, here, Left, left-step, binop-keeps, level-keeps}
+use Rattle.grammar.specs.Reading.Expr.{Depth, operators, binop-expr}
+use Rattle.grammar.specs.Reading.Depth.{at-depth}
+use Rattle.grammar.specs.Laws.Progress.{Keep, k-ok, k-bad, k-fail, k-stop, k-on, Keeps, here, Left, left-step, binop-keeps, depth-keeps}
 use Rattle.grammar.specs.Laws.Count.{same-then}
 use Rattle.parser.specs.Post.{Taken}
 use Rattle.parser.proofs.Algebra.{then-fail, then-ok, then-then, then-same}
@@ -29,7 +29,7 @@ use Rattle.parser.proofs.Laws.{Looks}
 use Rattle.parser.proofs.PathsExpr.{suc-pred, left}
 
 -- the operators of the levels up to l, after a left side: the right side of one of the level k is read at the level k - 1
-unfoldable pub climb : Level → ℕ → ℕ → Tree → List ℕ → List ℕ → Res Tree
+unfoldable pub climb : Depth → ℕ → ℕ → Tree → List ℕ → List ℕ → Res Tree
 climb low l zero left q ts = fail Number.end-of-tokens q ts
 climb low l (suc n) left q ts =
     then q (look q ts) λ tok q₁ rest.
@@ -118,10 +118,10 @@ abbrev Past : ℕ → List ℕ → Type 0
 Past l ts = Ends (first-level ts) l
 
 -- one turn of the loop
-abbrev climb-on : Level → ℕ → ℕ → Tree → List ℕ → List ℕ → Token → List ℕ → List ℕ → Res Tree
+abbrev climb-on : Depth → ℕ → ℕ → Tree → List ℕ → List ℕ → Token → List ℕ → List ℕ → Res Tree
 climb-on low l n t q ts tok q₁ rest = tested (op-level (tok .kind)) l (λ _. ok t ts) λ _. then q (binop-expr low (pred (op-level (tok .kind))) q rest) λ right q₂ r. climb low l n (Node.binary-op (op-number (tok .kind)) t right) q₂ r
 
-module _ (low : Level) (K : (r : List ℕ) → Keeps (Left r) low) where
+module _ (low : Depth) (K : (r : List ℕ) → Keeps (Left r) low) where
   -- a reading of the level l ends before what is no operator of the levels up to l
   module _ (l : ℕ) (s : (q ts : List ℕ) → Keep (Past l) (λ e r. Unit {0}) (binop-expr low l q ts)) where
     operators-past : (n : ℕ) (t : Tree) (q ts : List ℕ) → Past l ts → Keep (Past (suc l)) (λ e r. Unit {0}) (operators (binop-expr low l) (suc l) n t q ts)
@@ -175,11 +175,11 @@ module _ (low : Level) (K : (r : List ℕ) → Keeps (Left r) low) where
   binop-climb (suc l) q ts = ap (λ (d : Res Tree). then q d (last (suc l))) (binop-climb l q ts) ∙ then-then q _ _ _ ∙ then-same q _ λ t q₁ r. sym (climb-more (suc l) (length r) t q₁ r (omega arith))
 
 -- as the code goes
-pub binop-step : (d l : ℕ) (q ts : List ℕ) → (l ≡ 0 → ⊥) → binop-expr (level d) l q ts ≡ then q (level d .unary q ts) (λ t q₁ r. climb (level d) l (length r) t q₁ r)
-binop-step d l q ts h = rw (← suc-pred l h) (binop-climb (level d) (λ r. level-keeps (Left r) (left-step r) d) (l - 1) q ts)
+pub binop-step : (d l : ℕ) (q ts : List ℕ) → (l ≡ 0 → ⊥) → binop-expr (at-depth d) l q ts ≡ then q (at-depth d .unary q ts) (λ t q₁ r. climb (at-depth d) l (length r) t q₁ r)
+binop-step d l q ts h = rw (← suc-pred l h) (binop-climb (at-depth d) (λ r. depth-keeps (Left r) (left-step r) d) (l - 1) q ts)
 
 -- with a count that is as long as the list the loop looks: with none, the list is empty
-module _ (low : Level) (l : ℕ) (acc : Tree) (q : List ℕ) where
+module _ (low : Depth) (l : ℕ) (acc : Tree) (q : List ℕ) where
   climb-step : (fuel : ℕ) (ts : List ℕ) → length ts ≤ fuel → climb low l fuel acc q ts ≡ then q (look q ts) (climb-on low l (fuel - 1) acc q ts)
   unfolding climb look then
   climb-step zero [] h = refl

@@ -17,17 +17,17 @@ use Rattle.tree.specs.Tree.{Tree, Forest, node, none, more, one, snoc, count, r
 use Rattle.tree.specs.Node
 use Rattle.tree.specs.Store.{Emitted}
 use Rattle.tree.specs.Records.{Small, Smalls}
-use Rattle.grammar.specs.Laws.Kinds.{Holds, h-ok, h-fail, holds-then, holds-past, holds-if, level-small, expr-small, atom-small, pattern-small}
+use Rattle.grammar.specs.Laws.Kinds.{Holds, h-ok, h-fail, holds-then, holds-past, holds-if, depth-small, expr-small, atom-small, pattern-small}
 use Rattle.grammar.specs.Reading.Number
 use Rattle.grammar.specs.Reading.Result.{Res, ok, then, ifb}
 use Rattle.grammar.specs.Reading.Look.{look, expect, expect-pattern}
 use Rattle.grammar.specs.Reading.Pattern.{to-pattern, conv, last-of, front-of, by-item, receiver}
 use Rattle.tree.specs.Maybe.{pick}
-use Rattle.grammar.specs.Reading.Expr.{Level, Stmts, expr}
+use Rattle.grammar.specs.Reading.Expr.{Depth, Stmts, expr}
 use Rattle.grammar.specs.Reading.Primary.{atom, path, with-path, indexing-expr, member-access, literal}
 use Rattle.grammar.specs.Reading.Block.{body, block-of}
 use Rattle.grammar.specs.Reading.Function.{Param, required, variadic, default, Params, variadic-param, plain-param, param, joined, params, function-param-list, function-def, function-assignment-target, target-name, function-decl-expr}
-use Rattle.grammar.specs.Reading.Level.{level}
+use Rattle.grammar.specs.Reading.Depth.{at-depth}
 use Rattle.pattern.specs.Contract.{Whole}
 use Rattle.parser.specs.Parts.{Header, h-required, h-variadic, h-default, param-name, variadic-head, param-kind, param-head, join, signature-words, path-words}
 use Rattle.parser.specs.Post.{As, clean, Moved, Room, Failed, Wrote, Agrees, Unread, Taken, Stored, Writes}
@@ -84,12 +84,12 @@ pub added-prefix : {at most r : ℕ} {words S S′ : List ℕ} → Added at most
 added-prefix {at} {most} {r} {words} {S} {S′} e h = prefix-of S S′ words at r (e .text) h
 
 -- ONE PARAMETER: its head, and what is made of it
-abbrev pub param-end : Level → Header → List ℕ → List ℕ → Res Param
+abbrev pub param-end : Depth → Header → List ℕ → List ℕ → Res Param
 param-end low (h-required v) q r = ok (required v) r
 param-end low (h-variadic v) q r = ok (variadic v) r
 param-end low (h-default v) q r = then q (expr low q r) λ e q₂ s. ok (default v e) s
 
-module _ (low : Level) (v : ℕ) (q : List ℕ) where
+module _ (low : Depth) (v : ℕ) (q : List ℕ) where
   variadic-step : (ts : List ℕ) → then q (variadic-head v q ts) (param-end low) ≡ variadic-param v q ts
   unfolding variadic-head variadic-param then
   variadic-step ts = look-then q ts _ _ _ λ tok r. then-if q _ _ _ _ ∙ if-same _ (λ u. refl) (λ u. refl)
@@ -105,12 +105,12 @@ module _ (low : Level) (v : ℕ) (q : List ℕ) where
       (λ tok r. then-if q _ _ _ _ ∙ if-same _ (λ u. variadic-step r) (λ u. then-if q _ _ _ _ ∙ if-same _ (λ u. then-ok q _) (λ u. then-ok q _)))
       ∙ look-known q ts _ _ (λ tok r e. if-same _ (λ u. refl) (λ u. sym (plain-step ts e)))
 
-pub param-step : (low : Level) (q ts : List ℕ) → param low q ts ≡ then q (param-head q ts) (param-end low)
+pub param-step : (low : Depth) (q ts : List ℕ) → param low q ts ≡ then q (param-head q ts) (param-end low)
 unfolding param param-head param-name
 param-step low q ts =
     sym (then-then q _ _ _ ∙ then-then q _ _ _ ∙ then-same q _ λ mode q₁ r. then-then q₁ _ _ _ ∙ then-same q₁ _ λ name q₂ s. then-ok q₂ _ ∙ kind-step low (Node.named (name .value) mode) q₂ s)
 
-pub param-got : (low : Level) (make : ℕ → Header) (pos : ℕ) {T : List ℕ} {least p v : ℕ} → Header-at make (λ q. param-head q (drop pos T)) T least p v → (q : List ℕ) → param low q (drop pos T) ≡ param-end low (make v) q (drop p T)
+pub param-got : (low : Depth) (make : ℕ → Header) (pos : ℕ) {T : List ℕ} {least p v : ℕ} → Header-at make (λ q. param-head q (drop pos T)) T least p v → (q : List ℕ) → param low q (drop pos T) ≡ param-end low (make v) q (drop p T)
 param-got low make pos {T} {least} {p} g q = param-step low q (drop pos T) ∙ ap (λ (d : Res Header). then q d (param-end low)) (g .got .same q) ∙ then-ok q _ ∙ ap (λ (h : Header). param-end low h q (drop p T)) (g .is)
 
 module _ {d : List ℕ → Res Header} {T : List ℕ} {pos least w p v : ℕ} {h : Head} where
@@ -215,16 +215,16 @@ module _ {D : Res Tree} {d : Res Stmts} {T : List ℕ} {pos least slack at w₀ 
 abbrev pub def-tree : ℕ → Params → Stmts → Tree
 def-tree name ps b = Node.function-def (Node.signature-def name (ps .required-list) (ps .default-list) (ps .variadic-one)) (block-of b)
 
-abbrev pub def-body : Level → ℕ → Params → List ℕ → List ℕ → Res Tree
+abbrev pub def-body : Depth → ℕ → Params → List ℕ → List ℕ → Res Tree
 def-body low name ps q u = then q (body low q u) λ b q₄ x. ok (def-tree name ps b) x
 
-abbrev pub def-close : Level → ℕ → Params → List ℕ → List ℕ → Res Tree
+abbrev pub def-close : Depth → ℕ → Params → List ℕ → List ℕ → Res Tree
 def-close low name ps q s = then q (expect Kind.CloseParen Number.params-closing q s) λ tok₂ q₃ u. def-body low name ps q₃ u
 
-abbrev pub def-params : Level → ℕ → List ℕ → List ℕ → Res Tree
+abbrev pub def-params : Depth → ℕ → List ℕ → List ℕ → Res Tree
 def-params low name q r = then q (function-param-list low q r) (def-close low name)
 
-pub def-step : (low : Level) (name : ℕ) (q ts : List ℕ) → function-def low name q ts ≡ then q (expect Kind.OpenParen Number.params-opening q ts) (λ tok q₁ r. def-params low name q₁ r)
+pub def-step : (low : Depth) (name : ℕ) (q ts : List ℕ) → function-def low name q ts ≡ then q (expect Kind.OpenParen Number.params-opening q ts) (λ tok q₁ r. def-params low name q₁ r)
 unfolding function-def
 def-step low name q ts = refl
 
@@ -241,7 +241,7 @@ stored-up {words = words} {a = a} {S′ = S′} at S s h =
     omega arith
 
 -- TARGETS
-pub target-step : (low : Level) (q ts : List ℕ) → function-assignment-target low q ts ≡ then q (atom low q ts) (λ a q₁ r. then q₁ (path low false (length r) none q₁ r) λ f q₂ s. expect-pattern Number.function-target (to-pattern (with-path a f)) q₂ s)
+pub target-step : (low : Depth) (q ts : List ℕ) → function-assignment-target low q ts ≡ then q (atom low q ts) (λ a q₁ r. then q₁ (path low false (length r) none q₁ r) λ f q₂ s. expect-pattern Number.function-target (to-pattern (with-path a f)) q₂ s)
 unfolding function-assignment-target
 target-step low q ts = refl
 
@@ -291,11 +291,11 @@ unfolding member-access Small
 member-small q ts = holds-past q (expect _ _ q ts) λ tok q₁ r. h-ok (search arith)
 
 module _ (d : ℕ) where
-  indexing-small : (q : List ℕ) (ts : List ℕ) → Holds Small (indexing-expr (level d) q ts)
+  indexing-small : (q : List ℕ) (ts : List ℕ) → Holds Small (indexing-expr (at-depth d) q ts)
   unfolding indexing-expr
-  indexing-small q ts = holds-then q (expr-small (level d) (level-small d) q ts) λ e q₁ r x. holds-past q₁ (expect _ _ q₁ r) λ tok q₂ s. h-ok x
+  indexing-small q ts = holds-then q (expr-small (at-depth d) (depth-small d) q ts) λ e q₁ r x. holds-past q₁ (expect _ _ q₁ r) λ tok q₂ s. h-ok x
 
-  path-small : (n : ℕ) (f : Forest) (q : List ℕ) (ts : List ℕ) → Smalls f → Holds Smalls (path (level d) false n f q ts)
+  path-small : (n : ℕ) (f : Forest) (q : List ℕ) (ts : List ℕ) → Smalls f → Holds Smalls (path (at-depth d) false n f q ts)
   unfolding path
   path-small zero f q ts h = h-fail
   path-small (suc n) f q ts h =
@@ -304,22 +304,22 @@ module _ (d : ℕ) where
       holds-if _ (λ _. holds-then q (indexing-small q rest) λ e q₂ r x. path-small n (snoc f (Node.index e)) q₂ r (smalls-snoc f _ h (index-small e x))) λ _.
       holds-no _ _ (holds-no _ _ (h-ok h))
 
-  pub target-small : (q : List ℕ) (ts : List ℕ) → Holds Small (function-assignment-target (level d) q ts)
+  pub target-small : (q : List ℕ) (ts : List ℕ) → Holds Small (function-assignment-target (at-depth d) q ts)
   unfolding function-assignment-target
   target-small q ts =
-      holds-then q (atom-small (level d) (level-small d) q ts) λ a q₁ r x.
+      holds-then q (atom-small (at-depth d) (depth-small d) q ts) λ a q₁ r x.
       holds-then q₁ (path-small (length r) none q₁ r no-smalls) λ f q₂ s y.
       pattern-small _ q₂ s (with-path a f) (with-path-small a f x y)
 
   -- an atom and its path in the store
-  pub stands : {T : List ℕ} {pos least slack at w₀ : ℕ} {S Q : List ℕ} {p a w : ℕ} {S₁ Q₁ : List ℕ} {least₁ slack₁ p₂ a₂ w₂ : ℕ} {S₂ Q₂ : List ℕ} (g : Wrote records (atom (level d) (take w₀ Q) (drop pos T)) clean T pos least slack at w₀ S Q p a w S₁ Q₁)
-      (h : Wrote path-words (path (level d) false (length (drop p T)) none (take w Q₁) (drop p T)) clean T p least₁ slack₁ a w S₁ Q₁ p₂ a₂ w₂ S₂ Q₂) → at ≤ length S → a ≤ length S₁ → a₂ ≤ length S₂ → Whole (with-path (g .what) (h .what)) S₂ at a₂
+  pub stands : {T : List ℕ} {pos least slack at w₀ : ℕ} {S Q : List ℕ} {p a w : ℕ} {S₁ Q₁ : List ℕ} {least₁ slack₁ p₂ a₂ w₂ : ℕ} {S₂ Q₂ : List ℕ} (g : Wrote records (atom (at-depth d) (take w₀ Q) (drop pos T)) clean T pos least slack at w₀ S Q p a w S₁ Q₁)
+      (h : Wrote path-words (path (at-depth d) false (length (drop p T)) none (take w Q₁) (drop p T)) clean T p least₁ slack₁ a w S₁ Q₁ p₂ a₂ w₂ S₂ Q₂) → at ≤ length S → a ≤ length S₁ → a₂ ≤ length S₂ → Whole (with-path (g .what) (h .what)) S₂ at a₂
   stands {at = at} {S = S} {a = a} {S₁ = S₁} {a₂ = a₂} {S₂ = S₂} g h i j k =
       let o = g .room in
       let o₂ = h .room in
       let e : take at S₂ ≡ take at S = shorter S₂ S₁ at a (o .up) (prefix h j) ∙ prefix g i in
       record {
-        small = with-path-small (g .what) (h .what) (given (atom-small (level d) (level-small d) _ _) (g .same)) (given (path-small _ none _ _ no-smalls) (h .same));
+        small = with-path-small (g .what) (h .what) (given (atom-small (at-depth d) (depth-small d) _ _) (g .same)) (given (path-small _ none _ _ no-smalls) (h .same));
         text = h .text ∙ ap (λ (y : List ℕ). y ++ path-words (h .what)) (g .text) ∙ append-assoc (take at S) (records (g .what)) (path-words (h .what)) ∙ rw (e, path-text (g .what) (h .what));
         start = omega arith;
         within = k;
@@ -336,15 +336,15 @@ joined-plain ps (required v) k q ts = plain-if _ (λ u. plain-if _ (λ u. an-ok)
 joined-plain ps (variadic v) k q ts = plain-if _ (λ u. a-fail) (λ u. plain-if _ (λ u. an-ok) (λ u. a-fail))
 joined-plain ps (default v e) k q ts = plain-if _ (λ u. an-ok) (λ u. a-fail)
 
-join-step : (low : Level) (n : ℕ) (ps : Params) (x : Param) (q ts : List ℕ) → then q (join ps x q ts) (λ ps₂ q₃ s. params low n ps₂ q₃ s) ≡ then q (look q ts) (λ tok₂ q₃ rest₂. then q (joined ps x (tok₂ .kind) q ts) λ ps₂ q₄ s. ifb (eqb (tok₂ .kind) Kind.Comma) (λ _. params low n ps₂ q rest₂) (λ _. params low n ps₂ q ts))
+join-step : (low : Depth) (n : ℕ) (ps : Params) (x : Param) (q ts : List ℕ) → then q (join ps x q ts) (λ ps₂ q₃ s. params low n ps₂ q₃ s) ≡ then q (look q ts) (λ tok₂ q₃ rest₂. then q (joined ps x (tok₂ .kind) q ts) λ ps₂ q₄ s. ifb (eqb (tok₂ .kind) Kind.Comma) (λ _. params low n ps₂ q rest₂) (λ _. params low n ps₂ q ts))
 unfolding join
 join-step low n ps x q ts =
     look-then q ts _ _ _ λ tok r. plain-then q (joined-plain ps x (tok .kind) q ts) _ _ _ λ ps₂ s. then-if q _ _ _ _ ∙ if-same _ (λ u. then-ok q _) (λ u. then-ok q _)
 
-abbrev params-go : Level → ℕ → Params → List ℕ → List ℕ → Res Params
+abbrev params-go : Depth → ℕ → Params → List ℕ → List ℕ → Res Params
 params-go low n ps q ts = then q (param low q ts) λ x q₂ r. then q₂ (join ps x q₂ r) λ ps₂ q₃ s. params low n ps₂ q₃ s
 
-module _ (low : Level) (ps : Params) (q : List ℕ) where
+module _ (low : Depth) (ps : Params) (q : List ℕ) where
   params-suc : (n : ℕ) (ts : List ℕ) → params low (suc n) ps q ts ≡ then q (look q ts) (λ tok q₁ rest. ifb (eqb (tok .kind) Kind.CloseParen) (λ _. ok ps ts) λ _. params-go low n ps q ts)
   unfolding params
   params-suc n ts = look-same q ts _ _ λ tok r. if-same _ (λ u. refl) (λ u. then-same q _ λ x q₂ s. sym (join-step low n ps x q₂ s))
@@ -401,14 +401,14 @@ join-default : (ps : Params) (x : ℕ) (e : Tree) (q ts r : List ℕ) (ps₂ : P
 join-default ps x e q ts r ps₂ i = given (joins-default ps x e q ts) (way q i)
 
 -- ONE ROUND of the loop
-pub record Round (D : Res Params) (low : Level) (fuel : ℕ) (T : List ℕ) (pos at w₀ : ℕ) (S₀ Q₀ : List ℕ) (p₀ p a w m n v : ℕ) (S Q : List ℕ) : Type 0 where
+pub record Round (D : Res Params) (low : Depth) (fuel : ℕ) (T : List ℕ) (pos at w₀ : ℕ) (S₀ Q₀ : List ℕ) (p₀ p a w m n v : ℕ) (S Q : List ℕ) : Type 0 where
   pub run : Wrote params-words D (params low fuel) T pos pos 8 at w₀ S₀ Q₀ p a w S Q
   pub fits : Fitting (run .what) m n v
   pub few : 2 * (m + n) ≤ p
   pub below : v ≤ name-bound
   pub far : p₀ + 2 ≤ p
 
-module _ {D : Res Params} (low : Level) (fuel : ℕ) {T : List ℕ} {pos at w₀ : ℕ} {S₀ Q₀ : List ℕ} {p a w m n v : ℕ} {S Q S₁ Q₁ S₂ : List ℕ} (g : Wrote params-words D (params low fuel) T pos pos 8 at w₀ S₀ Q₀ p a w S Q) (fits : Fitting (g .what) m n v) (few : 2 * (m + n) ≤ p)
+module _ {D : Res Params} (low : Depth) (fuel : ℕ) {T : List ℕ} {pos at w₀ : ℕ} {S₀ Q₀ : List ℕ} {p a w m n v : ℕ} {S Q S₁ Q₁ S₂ : List ℕ} (g : Wrote params-words D (params low fuel) T pos pos 8 at w₀ S₀ Q₀ p a w S Q) (fits : Fitting (g .what) m n v) (few : 2 * (m + n) ≤ p)
     (on : As (take w₀ Q₀) D (take w Q) (params-go low (fuel - 1) (g .what) (take w Q) (drop p T))) (start : at ≤ length S₀) (within : a ≤ length S) (same-length : length S₁ ≡ length S) (same-length₂ : length S₂ ≡ length S) (space : a + 8 * (length T - p) + 8 ≤ length S) where
   -- a parameter that writes nothing
   bare : {make : ℕ → Param} {p₁ w₁ x p₂ a₂ w₂ m₂ n₂ v₂ : ℕ} → Parameter-at make (param low (take w Q) (drop p T)) T p a w S Q p₁ w₁ x S₁ Q₁ → Joins-to (λ q. join (g .what) (make x) q (drop p₁ T)) (take at S₀) T p₁ (m + n) a w₁ S₂ p₂ a₂ w₂ m₂ n₂ v₂ → Round D low (fuel - 1) T pos at w₀ S₀ Q₀ p p₂ a₂ w₂ m₂ n₂ v₂ S₂ Q₁
@@ -525,11 +525,11 @@ unfolding records
 no-words-yet X = sym (append-nil X)
 
 -- DECLARATIONS
-pub decl-looks : (low : Level) (q ts : List ℕ) → Looks q ts (function-decl-expr low q ts)
+pub decl-looks : (low : Depth) (q ts : List ℕ) → Looks q ts (function-decl-expr low q ts)
 unfolding function-decl-expr
 decl-looks low q ts = record { go = _; is = refl }
 
-module _ (low : Level) (q : List ℕ) {T : List ℕ} {pos k n v : ℕ} (at : Taken T pos k n v) where
+module _ (low : Depth) (q : List ℕ) {T : List ℕ} {pos k n v : ℕ} (at : Taken T pos k n v) where
   pub decl-open : k ≡ Kind.OpenParen → function-decl-expr low q (drop pos T) ≡ function-def low 0 q (drop pos T)
   unfolding function-decl-expr then ifb
   decl-open e = rw (at .same, eq-eqb _ _ e)
@@ -538,7 +538,7 @@ module _ (low : Level) (q : List ℕ) {T : List ℕ} {pos k n v : ℕ} (at : Tak
   unfolding function-decl-expr then ifb
   decl-target e = rw (at .same, ne-eqb _ _ e)
 
-pub decl-name : (low : Level) (p : Tree) {n : ℕ} → n ≡ target-name p → (q r : List ℕ) → then q (function-def low (target-name p) q r) (λ d q₃ s. ok (Node.assignment 2 0 p d) s) ≡ then q (function-def low n q r) (λ d q₃ s. ok (Node.assignment 2 0 p d) s)
+pub decl-name : (low : Depth) (p : Tree) {n : ℕ} → n ≡ target-name p → (q r : List ℕ) → then q (function-def low (target-name p) q r) (λ d q₃ s. ok (Node.assignment 2 0 p d) s) ≡ then q (function-def low n q r) (λ d q₃ s. ok (Node.assignment 2 0 p d) s)
 decl-name low p e q r = ap (λ (m : ℕ). then q (function-def low m q r) (λ d q₃ s. ok (Node.assignment 2 0 p d) s)) (sym e)
 
 -- THE NAME of a target is its first token's, if it is a name alone
@@ -563,7 +563,7 @@ literal-named tok q rest =
     holds-if _ (λ _. h-ok (no-name refl)) λ _. holds-if _ (λ _. h-ok (no-name refl)) λ _. holds-if _ (λ _. h-ok (no-name refl)) λ _.
     holds-if _ (λ _. h-ok (no-name refl)) λ _. holds-if _ (λ _. h-ok (no-name refl)) λ _. holds-if _ (λ _. h-ok (no-name refl)) λ _. h-fail
 
-atom-named : (low : Level) (q : List ℕ) {T : List ℕ} {pos k n v : ℕ} → Taken T pos k n v → (k ≡ Kind.OpenParen → ⊥) → Holds (Named k v) (atom low q (drop pos T))
+atom-named : (low : Depth) (q : List ℕ) {T : List ℕ} {pos k n v : ℕ} → Taken T pos k n v → (k ≡ Kind.OpenParen → ⊥) → Holds (Named k v) (atom low q (drop pos T))
 unfolding atom then ifb
 atom-named low q {T} {pos} {k} {n} {v} at e = rw (at .same, ne-eqb _ _ e) (literal-named (record { kind = k; newline = n; value = v }) q (drop (pos + 2) T))
 
@@ -607,6 +607,6 @@ pattern-named {k} {v} e a none q ts (the-name i) = expect-name e _ q ts i (name-
 pattern-named e a none q ts (no-name j) = expect-none e _ q ts j
 pattern-named e a (more i f) q ts h = expect-other e _ q ts (path-other a i f)
 
-pub target-named : (low : Level) (q : List ℕ) {T : List ℕ} {pos k n v : ℕ} → Taken T pos k n v → (k ≡ Kind.OpenParen → ⊥) → Holds (Names k v) (function-assignment-target low q (drop pos T))
+pub target-named : (low : Depth) (q : List ℕ) {T : List ℕ} {pos k n v : ℕ} → Taken T pos k n v → (k ≡ Kind.OpenParen → ⊥) → Holds (Names k v) (function-assignment-target low q (drop pos T))
 unfolding function-assignment-target
 target-named low q at e = holds-then q (atom-named low q at e) λ a q₁ r x. holds-past q₁ (path low false (length r) none q₁ r) λ f q₂ s. pattern-named _ a f q₂ s x

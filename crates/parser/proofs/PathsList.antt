@@ -21,11 +21,11 @@ use Rattle.grammar.specs.Reading.Limit.{too-deep}
 use Rattle.grammar.specs.Reading.Number
 use Rattle.grammar.specs.Reading.Result.{Res, ok, bad, fail, stop, spoil, either, then, ifb, push, pop}
 use Rattle.grammar.specs.Reading.Look.{looked, look, try-label}
-use Rattle.grammar.specs.Reading.Expr.{Level, Stmts, expr}
+use Rattle.grammar.specs.Reading.Expr.{Depth, Stmts, expr}
 use Rattle.grammar.specs.Reading.Block.{whole, split-before, split-last, split}
 use Rattle.grammar.specs.Reading.Stmt.{ends, control-value, is-control, control-flow, starts-stmt, control-last, synchronize, synchronized, stmt, caught, stmts}
-use Rattle.grammar.specs.Reading.Level.{level}
-use Rattle.grammar.specs.Laws.Kinds.{Holds, h-ok, h-bad, h-fail, h-stop, holds-past, holds-if, stmt-small, level-small}
+use Rattle.grammar.specs.Reading.Depth.{at-depth}
+use Rattle.grammar.specs.Laws.Kinds.{Holds, h-ok, h-bad, h-fail, h-stop, holds-past, holds-if, stmt-small, depth-small}
 use Rattle.parser.specs.Post.{won, out, As, no-words, Failed, Wrote, Agrees, Taken, Missed, Queues, Resumes}
 use Rattle.parser.specs.Parts.{Place, a-stmt, a-control, a-caught, resume, turn, control-words, closed-step, resumed-step}
 use Rattle.parser.specs.Ends.{Marked, statement, no-statement}
@@ -39,11 +39,11 @@ use Rattle.parser.proofs.Laws.{Looks, way, link, spoiled, goes, shorter
 use Rattle.parser.proofs.Shapes.{given}
 
 -- the value of a control
-pub value-looks : (low : Level) (q ts : List ℕ) → Looks q ts (control-value low q ts)
+pub value-looks : (low : Depth) (q ts : List ℕ) → Looks q ts (control-value low q ts)
 unfolding control-value
 value-looks low q ts = record { go = _; is = refl }
 
-module _ (low : Level) (q : List ℕ) {T : List ℕ} {pos k n v : ℕ} (at : Taken T pos k n v) where
+module _ (low : Depth) (q : List ℕ) {T : List ℕ} {pos k n v : ℕ} (at : Taken T pos k n v) where
   pub value-none : (ends 1 k || eqb k Kind.Semicolon) ≡ true → control-value low q (drop pos T) ≡ ok Node.absent (drop pos T)
   unfolding control-value then ifb
   value-none e = rw (at .same, e)
@@ -53,10 +53,10 @@ module _ (low : Level) (q : List ℕ) {T : List ℕ} {pos k n v : ℕ} (at : Tak
   value-some e = rw (at .same, e)
 
 -- a control, behind its label
-unfoldable pub label-go : Level → ℕ → ℕ → List ℕ → List ℕ → Res Tree
+unfoldable pub label-go : Depth → ℕ → ℕ → List ℕ → List ℕ → Res Tree
 label-go low k l q r = ifb (eqb k Kind.Continue) (λ _. ok (Node.continue l) r) (λ _. then q (control-value low q r) λ e q₂ s. ok (Node.break l e) s)
 
-module _ (low : Level) (k : ℕ) (q ts : List ℕ) where
+module _ (low : Depth) (k : ℕ) (q ts : List ℕ) where
   pub control-return : k ≡ Kind.Return → control-flow low k q ts ≡ then q (control-value low q ts) (λ e q₁ r. ok (Node.return e) r)
   unfolding control-flow ifb
   control-return e = rw e
@@ -74,7 +74,7 @@ module _ (low : Level) (k : ℕ) (q ts : List ℕ) where
   unfolding control-flow label-go
   control-label e h = label-by (eqb k Kind.Continue) (eqb k Kind.Break) (eqb k Kind.Return) (try-label q ts) _ h (ne-eqb _ _ e)
 
-module _ (low : Level) (k : ℕ) (q r : List ℕ) {x l : ℕ} where
+module _ (low : Depth) (k : ℕ) (q r : List ℕ) {x l : ℕ} where
   pub label-continue : k ≡ Kind.Continue → x ≡ l → label-go low k x q r ≡ ok (Node.continue l) r
   unfolding label-go ifb
   label-continue e h = rw (e, h)
@@ -91,13 +91,13 @@ fuel-some : (T : List ℕ) (fuel p : ℕ) → length T ≤ p + fuel → p + 2 �
 fuel-some T fuel p enough h = omega arith
 
 -- resynchronization
-abbrev pub sync-no : Level → Bool → ℕ → ℕ → List ℕ → List ℕ → Res (Unit {0})
+abbrev pub sync-no : Depth → Bool → ℕ → ℕ → List ℕ → List ℕ → Res (Unit {0})
 sync-no low inside fuel e q r = synchronize low inside fuel q r
 
 abbrev halts-at : Bool → ℕ → Bool
 halts-at inside k = starts-stmt k || (inside && eqb k Kind.End)
 
-module _ (low : Level) (inside : Bool) (q : List ℕ) where
+module _ (low : Depth) (inside : Bool) (q : List ℕ) where
   sync-suc : (fuel : ℕ) (ts : List ℕ) → synchronize low inside (suc fuel) q ts
       ≡ either q (look q ts) (λ tok q₁ rest. ifb (halts-at inside (tok .kind)) (λ _. ok tt ts) (λ _. either q (expr low q ts) (λ t q₂ r. ok tt r) (sync-no low inside fuel))) (λ e q₁ r. ifb (eqb e Number.end-of-tokens) (λ _. ok tt ts) (λ _. synchronize low inside fuel q₁ r))
   unfolding synchronize
@@ -144,20 +144,20 @@ module _ (low : Level) (inside : Bool) (q : List ℕ) where
       unfolding ifb
       sync-try e = ap (λ (n : ℕ). synchronize low inside n q (drop p T)) (sym (fuel-some T fuel p enough (at .within))) ∙ sync-taken (fuel - 1) (drop p T) (at .same q) ∙ rw e
 
-sync-stops : (low : Level) (inside : Bool) (q : List ℕ) (fuel : ℕ) (ts : List ℕ) {n : ℕ} → length ts ≤ fuel → look q ts ≡ stop n → synchronize low inside fuel q ts ≡ stop n
+sync-stops : (low : Depth) (inside : Bool) (q : List ℕ) (fuel : ℕ) (ts : List ℕ) {n : ℕ} → length ts ≤ fuel → look q ts ≡ stop n → synchronize low inside fuel q ts ≡ stop n
 unfolding look
 sync-stops low inside q zero [] h l = absurd (let z : _≡_ {A = ℕ} 0 1 = cc in omega arith)
 sync-stops low inside q zero (x ∷ ts) h l = absurd (omega arith)
 sync-stops low inside q (suc fuel) ts h l = sync-halted low inside q fuel ts l
 
-pub sync-stop : (low : Level) (inside : Bool) (q T : List ℕ) (fuel p : ℕ) → length T ≤ p + fuel → (n : ℕ) → ((q : List ℕ) → look q (drop p T) ≡ stop n) → synchronize low inside fuel q (drop p T) ≡ stop n
+pub sync-stop : (low : Depth) (inside : Bool) (q T : List ℕ) (fuel p : ℕ) → length T ≤ p + fuel → (n : ℕ) → ((q : List ℕ) → look q (drop p T) ≡ stop n) → synchronize low inside fuel q (drop p T) ≡ stop n
 sync-stop low inside q T fuel p enough n l = sync-stops low inside q fuel (drop p T) (left T p fuel enough) (l q)
 
 -- catching
-abbrev pub caught-go : Level → List ℕ → List ℕ → Res (Unit {0})
+abbrev pub caught-go : Depth → List ℕ → List ℕ → Res (Unit {0})
 caught-go low ts q = then q (synchronize low true (length ts) q ts) λ u q₂ r. synchronized q₂ r
 
-module _ (low : Level) (e : ℕ) (q ts : List ℕ) where
+module _ (low : Depth) (e : ℕ) (q ts : List ℕ) where
   pub caught-out : e ≡ Number.end-of-tokens → caught low e q ts ≡ fail e q ts
   unfolding caught ifb
   caught-out h = rw (eq-eqb _ _ h)
@@ -199,7 +199,7 @@ module _ {D d : Res (Unit {0})} {T : List ℕ} {pos at w₀ p w : ℕ} {S₀ Q�
 abbrev pub Some : Tree → Type 0
 Some t = kind-of t ≡ NodeKind.Absent → ⊥
 
-pub control-held : (low : Level) (k : ℕ) (q ts : List ℕ) → Holds Some (control-flow low k q ts)
+pub control-held : (low : Depth) (k : ℕ) (q ts : List ℕ) → Holds Some (control-flow low k q ts)
 unfolding control-flow
 control-held low k q ts =
     holds-if _ (λ _. holds-past q (try-label q ts) λ l q₁ r. h-ok (λ e. omega arith)) λ _. holds-if _
@@ -207,13 +207,13 @@ control-held low k q ts =
     (λ _. holds-past q (control-value low q ts) λ e q₁ r. h-ok (λ e. omega arith))
 
 -- A PLACE of a list
-abbrev pub control-go : Level → ℕ → ℕ → Tree → List ℕ → List ℕ → Res Place
+abbrev pub control-go : Depth → ℕ → ℕ → Tree → List ℕ → List ℕ → Res Place
 control-go low end k c q r = then q (control-last end k q r) λ u q₂ s. ok (a-control c) s
 
 abbrev pub stmt-go : Tree → List ℕ → List ℕ → Res Place
 stmt-go t q r = ok (a-stmt t) r
 
-module _ (low : Level) (end k : ℕ) (rest q ts : List ℕ) where
+module _ (low : Depth) (end k : ℕ) (rest q ts : List ℕ) where
   pub turn-control : is-control k ≡ true → turn low end k rest q ts ≡ either q (control-flow low k q rest) (control-go low end k) (resume low)
   unfolding turn ifb
   turn-control e = rw e
@@ -265,7 +265,7 @@ synced-two q (w ∷ (v ∷ r)) = by (looked q r (seen-word w v))
     by (fail e q₁ s) = two-spoil q₁ (two-pop q₁ s)
     by (stop n) = t-stop
 
-pub caught-two : (low : Level) (e : ℕ) (q ts : List ℕ) → Two (caught low e q ts)
+pub caught-two : (low : Depth) (e : ℕ) (q ts : List ℕ) → Two (caught low e q ts)
 unfolding caught push
 caught-two low e q ts = two-if _ (λ _. t-fail) (λ _. two-if _ (λ _. t-stop) (λ _. two-spoil _ (two-then _ _ λ u q₂ r. synced-two q₂ r)))
 
@@ -342,33 +342,33 @@ module _ {D : Res Place} {d : Res (Unit {0})} {T : List ℕ} {pos n at w₀ p a 
   closes {r = r} i h = rw i (closes-as r h)
 
 -- A LIST
-list-zero : (end : ℕ) (q ts : List ℕ) → level 0 .list end q ts ≡ stop too-deep
-unfolding level
+list-zero : (end : ℕ) (q ts : List ℕ) → at-depth 0 .list end q ts ≡ stop too-deep
+unfolding at-depth
 list-zero end q ts = refl
 
-list-suc : (d end : ℕ) (q ts : List ℕ) → level (suc d) .list end q ts ≡ stmts (level d) end (length ts) none q ts
-unfolding level
+list-suc : (d end : ℕ) (q ts : List ℕ) → at-depth (suc d) .list end q ts ≡ stmts (at-depth d) end (length ts) none q ts
+unfolding at-depth
 list-suc d end q ts = refl
 
-pub list-ends : (d end : ℕ) (q ts : List ℕ) → d ≡ 0 → level d .list end q ts ≡ stop too-deep
+pub list-ends : (d end : ℕ) (q ts : List ℕ) → d ≡ 0 → at-depth d .list end q ts ≡ stop too-deep
 list-ends d end q ts e = rw e (list-zero end q ts)
 
-pub list-goes : (d end : ℕ) (q ts : List ℕ) → (d ≡ 0 → ⊥) → level d .list end q ts ≡ stmts (level (d - 1)) end (length ts) none q ts
+pub list-goes : (d end : ℕ) (q ts : List ℕ) → (d ≡ 0 → ⊥) → at-depth d .list end q ts ≡ stmts (at-depth (d - 1)) end (length ts) none q ts
 list-goes d end q ts h =
     let s : suc (d - 1) ≡ d = omega arith in
-    ap (λ (n : ℕ). level n .list end q ts) (sym s) ∙ list-suc (d - 1) end q ts
+    ap (λ (n : ℕ). at-depth n .list end q ts) (sym s) ∙ list-suc (d - 1) end q ts
 
 if-no : {A : Type 0} (b : Bool) (x y : Unit {0} → A) → b ≡ false → ifb b x y ≡ y tt
 unfolding ifb
 if-no b x y e = rw e
 
 -- how a list goes on from a place
-abbrev pub place-go : Level → ℕ → ℕ → Forest → Place → List ℕ → List ℕ → Res Stmts
+abbrev pub place-go : Depth → ℕ → ℕ → Forest → Place → List ℕ → List ℕ → Res Stmts
 place-go low end n f (a-stmt t) q r = stmts low end n (snoc f t) q r
 place-go low end n f (a-control c) q r = ok (record { suite = f; control = c }) r
 place-go low end n f a-caught q r = stmts low end n f q r
 
-module _ (low : Level) (end : ℕ) (f : Forest) (q : List ℕ) where
+module _ (low : Depth) (end : ℕ) (f : Forest) (q : List ℕ) where
   stmts-turns : (n k : ℕ) (rest ts : List ℕ) → then q (turn low end k rest q ts) (place-go low end n f)
       ≡ ifb (is-control k)
       (λ _. either q (control-flow low k q rest) (λ c q₂ r. then q₂ (control-last end k q₂ r) λ u q₃ s. ok (record { suite = f; control = c }) s) (λ e q₂ r. then q₂ (caught low e q₂ r) λ u q₃ s. stmts low end n f q₃ s))
@@ -456,14 +456,14 @@ held-either q (h-bad x) h g = held-spoil _ (h _ _ _ x)
 held-either q h-fail h g = held-spoil _ (g _ _ _)
 held-either q h-stop h g = h-stop
 
-turn-small : (d end k : ℕ) (rest q ts : List ℕ) → Holds Small-place (turn (level d) end k rest q ts)
+turn-small : (d end k : ℕ) (rest q ts : List ℕ) → Holds Small-place (turn (at-depth d) end k rest q ts)
 unfolding turn
 turn-small d end k rest q ts =
     holds-if _
-    (λ _. held-either q (control-held (level d) k q rest) (λ c q₁ r x. holds-past q₁ (control-last end k q₁ r) λ u q₂ s. h-ok tt) (λ e q₁ r. holds-past q₁ (caught (level d) e q₁ r) λ u q₂ s. h-ok tt))
-    (λ _. held-either q (stmt-small (level d) (level-small d) q ts) (λ t q₁ r x. h-ok x) (λ e q₁ r. holds-past q₁ (caught (level d) e q₁ r) λ u q₂ s. h-ok tt))
+    (λ _. held-either q (control-held (at-depth d) k q rest) (λ c q₁ r x. holds-past q₁ (control-last end k q₁ r) λ u q₂ s. h-ok tt) (λ e q₁ r. holds-past q₁ (caught (at-depth d) e q₁ r) λ u q₂ s. h-ok tt))
+    (λ _. held-either q (stmt-small (at-depth d) (depth-small d) q ts) (λ t q₁ r x. h-ok x) (λ e q₁ r. holds-past q₁ (caught (at-depth d) e q₁ r) λ u q₂ s. h-ok tt))
 
-pub place-small : (d end k : ℕ) (rest q ts : List ℕ) {q′ r : List ℕ} {t : Tree} → As q (turn (level d) end k rest q ts) q′ (ok (a-stmt t) r) → Small t
+pub place-small : (d end k : ℕ) (rest q ts : List ℕ) {q′ r : List ℕ} {t : Tree} → As q (turn (at-depth d) end k rest q ts) q′ (ok (a-stmt t) r) → Small t
 place-small d end k rest q ts a = given (turn-small d end k rest q ts) a
 
 -- the end of a list's statements

@@ -1,4 +1,4 @@
--- A statement at the top level (grammar's Reading/Level.antt), one step each, as the code goes. Assumes nothing.
+-- A statement at the top level (grammar's Reading/Next.antt), one step each, as the code goes. Assumes nothing.
 use mathlib.Core.Path.{_≡_, refl, _∙_}
 use mathlib.Core.Bool.{false}
 use mathlib.Core.Logic.{⊎-elim}
@@ -12,7 +12,8 @@ use Rattle.tree.specs.Tree.{Tree, records}
 use Rattle.grammar.specs.Reading.Limit.{queue-full}
 use Rattle.grammar.specs.Reading.Result.{Res, ok, fail, stop, either, then}
 use Rattle.grammar.specs.Reading.Stmt.{synchronize, stmt}
-use Rattle.grammar.specs.Reading.Level.{level, start, front, failed, next}
+use Rattle.grammar.specs.Reading.Depth.{at-depth}
+use Rattle.grammar.specs.Reading.Next.{start, front, failed, next}
 use Rattle.parser.specs.Post.{As, Agrees}
 use Rattle.parser.specs.declared.Step.{Step}
 use Rattle.parser.specs.declared.Step.the-variants.{Done, Fail, Stop}
@@ -22,7 +23,7 @@ use Rattle.parser.proofs.Waiting.{push-full, pushes}
 
 -- what follows the separators
 abbrev pub next-go : ℕ → Unit {0} → List ℕ → List ℕ → Res Tree
-next-go d u q r = either q (stmt (level d) q r) (λ t q₂ s. ok t s) (failed d)
+next-go d u q r = either q (stmt (at-depth d) q r) (λ t q₂ s. ok t s) (failed d)
 
 pub next-step : (d : ℕ) (q ts : List ℕ) → next d q ts ≡ then q (start (length ts) q ts) (next-go d)
 unfolding next
@@ -52,7 +53,7 @@ failed-full d e w Q ts h g = push-full e w Q _ h g
 
 -- the resynchronization, before the answer f
 abbrev pub shed : ℕ → List ℕ → ℕ → List ℕ → Res Tree
-shed d ts f q = then q (synchronize (level d) false (length ts) q ts) λ u q₃ r. fail f q₃ r
+shed d ts f q = then q (synchronize (at-depth d) false (length ts) q ts) λ u q₃ r. fail f q₃ r
 
 front-of : {A : Type 0} (q : List ℕ) {e : ℕ} {q′ : List ℕ} (k : ℕ → List ℕ → Res A) → q ≡ e ∷ q′ → front q k ≡ k e q′
 unfolding front
@@ -61,4 +62,4 @@ front-of q k x = rw x
 pub failed-step : (d e w : ℕ) (Q ts : List ℕ) {q q′ : List ℕ} {f : ℕ} → (w ≡ 96 → ⊥) → w ≤ length Q → q ≡ take w Q ++ e ∷ [] → q ≡ f ∷ q′ → As (take w Q) (failed d e (take w Q) ts) q′ (shed d ts f q′)
 unfolding failed
 failed-step d e w Q ts {q} {q′} {f} h g x y =
-    link (pushes e w Q (λ q₁. front q₁ (shed d ts)) h g x) (link (way q (front-of q (shed d ts) y)) (lose-as q q′ q′ f (synchronize (level d) false (length ts) q′ ts)))
+    link (pushes e w Q (λ q₁. front q₁ (shed d ts)) h g x) (link (way q (front-of q (shed d ts) y)) (lose-as q q′ q′ f (synchronize (at-depth d) false (length ts) q′ ts)))

@@ -1,4 +1,4 @@
--- The top level's passing over separators (grammar's Reading/Level.antt, `start`), one step each, as the code goes: an equation for each way through. Assumes nothing.
+-- The top level's passing over separators (grammar's Reading/Next.antt, `start`), one step each, as the code goes: an equation for each way through. Assumes nothing.
 use mathlib.Core.Path.{_≡_, refl, sym, ap, _∙_}
 use mathlib.Core.Logic.{⊎-elim}
 use mathlib.Core.List.{List, [], _∷_}
@@ -14,7 +14,7 @@ use Rattle.token.specs.declared.Token.{Token}
 use Rattle.grammar.specs.Reading.Number
 use Rattle.grammar.specs.Reading.Result.{Res, ok, fail, stop, spoil, either, ifb}
 use Rattle.grammar.specs.Reading.Look.{look}
-use Rattle.grammar.specs.Reading.Level.{start}
+use Rattle.grammar.specs.Reading.Next.{start}
 use Rattle.parser.specs.Post.{Taken, Missed, Saw, Reads}
 use Rattle.parser.specs.declared.Step.{Step}
 use Rattle.parser.specs.declared.Step.the-variants.{Done, Fail, Stop}

@@ -19,10 +19,10 @@ use Rattle.grammar.specs.Reading.Number
 use Rattle.grammar.specs.Reading.Pattern.{to-pattern, modified}
 use Rattle.grammar.specs.Reading.Result.{Res, ok, fail, then, ifb}
 use Rattle.grammar.specs.Reading.Look.{look, expect, expect-pattern, try-assign-keyword}
-use Rattle.grammar.specs.Reading.Expr.{Level, Stmts, tuple-expr, expr}
+use Rattle.grammar.specs.Reading.Expr.{Depth, Stmts, tuple-expr, expr}
 use Rattle.grammar.specs.Reading.Block.{body, block-of, block-expr, expr-label, branches}
 use Rattle.grammar.specs.Reading.Stmt.{stmt-list-of, loop, while-loop, lvalue-list, for-loop, stmt-label, stmt, is-control}
-use Rattle.grammar.specs.Reading.Level.{level}
+use Rattle.grammar.specs.Reading.Depth.{at-depth}
 use Rattle.pattern.specs.Contract.{Whole}
 use Rattle.parser.specs.Post.{As, clean, Moved, Wrote, Agrees, Taken, Stored, Writes}
 use Rattle.parser.specs.Parts.{expression-end, branch, Turning, turning, not-allowed}
@@ -50,14 +50,14 @@ within-of (Control p a w) h = record { how = h .how .run .moved .within }
 within-of (Not s) h = record { how = tt }
 
 -- the token behind a list
-body-step : (low : Level) (q ts : List ℕ) → body low q ts ≡ then q (low .list 0 q ts) (λ s q₁ r. then q₁ (look q₁ r) λ tok q₂ rest. ok s rest)
+body-step : (low : Depth) (q ts : List ℕ) → body low q ts ≡ then q (low .list 0 q ts) (λ s q₁ r. then q₁ (look q₁ r) λ tok q₂ rest. ok s rest)
 unfolding body
 body-step low q ts = refl
 
-went : (low : Level) (T : List ℕ) (pos w₀ : ℕ) (Q : List ℕ) {x : Stmts} {q r : List ℕ} → As (take w₀ Q) (low .list 0 (take w₀ Q) (drop pos T)) q (ok x r) → As (take w₀ Q) (body low (take w₀ Q) (drop pos T)) q (then q (look q r) λ tok q₂ rest. ok x rest)
+went : (low : Depth) (T : List ℕ) (pos w₀ : ℕ) (Q : List ℕ) {x : Stmts} {q r : List ℕ} → As (take w₀ Q) (low .list 0 (take w₀ Q) (drop pos T)) q (ok x r) → As (take w₀ Q) (body low (take w₀ Q) (drop pos T)) q (then q (look q r) λ tok q₂ rest. ok x rest)
 went low T pos w₀ Q s = goes _ (way _ (body-step low (take w₀ Q) (drop pos T))) s
 
-module _ (low : Level) {T : List ℕ} {pos at w₀ : ℕ} {S Q S′ Q′ : List ℕ} (whole : at ≤ length S) where
+module _ (low : Depth) {T : List ℕ} {pos at w₀ : ℕ} {S Q S′ Q′ : List ℕ} (whole : at ≤ length S) where
   pub passes-lists : (l r : Listed) → Lists (low .list 0 (take w₀ Q) (drop pos T)) T pos 8 at w₀ S Q S′ Q′ l → Passes T l r → Lists (body low (take w₀ Q) (drop pos T)) T pos 24 at w₀ S Q S′ Q′ r
   passes-lists (Suite p a w n last) r h f = to (f .how)
     where
@@ -258,7 +258,7 @@ unfolding records count
 three-words k v t u s = rw (append-nil, append-assoc, append-assoc)
 
 -- WAYS
-module _ (low : Level) (l : ℕ) (q ts : List ℕ) where
+module _ (low : Depth) (l : ℕ) (q ts : List ℕ) where
   pub block-step : block-expr low l q ts ≡ then q (body low q ts) (λ s q₁ r. ok (Node.block l (block-of s)) r)
   unfolding block-expr
   block-step = refl
@@ -275,11 +275,11 @@ module _ (low : Level) (l : ℕ) (q ts : List ℕ) where
   unfolding stmt-label
   stmt-label-looks = record { go = _; is = refl }
 
-pub stmt-looks : (low : Level) (q ts : List ℕ) → Looks q ts (stmt low q ts)
+pub stmt-looks : (low : Depth) (q ts : List ℕ) → Looks q ts (stmt low q ts)
 unfolding stmt
 stmt-looks low q ts = record { go = _; is = refl }
 
-module _ (low : Level) (q ts : List ℕ) where
+module _ (low : Depth) (q ts : List ℕ) where
   pub turning-step : turning low q ts ≡ then q (expr low q ts) (λ e q₁ r. then q₁ (expect Kind.Do Number.missing-do q₁ r) λ tok q₂ s. then q₂ (body low q₂ s) λ b q₃ u. ok (record { over = e; run = b }) u)
   unfolding turning
   turning-step = refl
@@ -297,12 +297,12 @@ module _ (low : Level) (q ts : List ℕ) where
   unfolding branch
   branch-step = refl
 
-pub for-step : (low : Level) (l : ℕ) (q ts : List ℕ) → for-loop low l q ts ≡ then q (lvalue-list low q ts) (λ pattern q₁ r. then q₁ (expect Kind.In Number.missing-do q₁ r) λ tok q₂ s.
+pub for-step : (low : Depth) (l : ℕ) (q ts : List ℕ) → for-loop low l q ts ≡ then q (lvalue-list low q ts) (λ pattern q₁ r. then q₁ (expect Kind.In Number.missing-do q₁ r) λ tok q₂ s.
     then q₂ (expr low q₂ s) λ iter q₃ u. then q₃ (expect Kind.Do Number.missing-do q₃ u) λ tok₂ q₄ x. then q₄ (body low q₄ x) λ b q₅ y. ok (Node.for-loop l pattern iter (stmt-list-of b)) y)
 unfolding for-loop
 for-step low l q ts = refl
 
-pub lvalue-step : (low : Level) (q ts : List ℕ) → lvalue-list low q ts ≡ then q (try-assign-keyword q ts) (λ m q₁ r. then q₁ (tuple-expr low q₁ r) λ t q₂ s. then q₂ (expect-pattern Number.cannot-assign (to-pattern t) q₂ s) λ p q₃ u. ok (modified m p) u)
+pub lvalue-step : (low : Depth) (q ts : List ℕ) → lvalue-list low q ts ≡ then q (try-assign-keyword q ts) (λ m q₁ r. then q₁ (tuple-expr low q₁ r) λ t q₂ s. then q₂ (expect-pattern Number.cannot-assign (to-pattern t) q₂ s) λ p q₃ u. ok (modified m p) u)
 unfolding lvalue-list
 lvalue-step low q ts = refl
 
@@ -322,7 +322,7 @@ module _ {A : Type 0} (q r : List ℕ) (z : Unit {0} → Res A) where
   control-none false false true e = absurd (let z : _≡_ {A = ℕ} 0 1 = cc in omega arith)
   control-none false false false e = refl
 
-module _ (low : Level) (q : List ℕ) {T : List ℕ} {pos k n v : ℕ} (at : Taken T pos k n v) where
+module _ (low : Depth) (q : List ℕ) {T : List ℕ} {pos k n v : ℕ} (at : Taken T pos k n v) where
   module _ (l : ℕ) where
     pub begin-is : k ≡ Kind.Begin → expr-label low l q (drop pos T) ≡ block-expr low l q (drop (pos + 2) T)
     unfolding expr-label then ifb
@@ -383,7 +383,7 @@ module _ (low : Level) (q : List ℕ) {T : List ℕ} {pos k n v : ℕ} (at : Tak
     stmt-expr i h = stmt-other ∙ control-none q (drop (pos + 2) T) _ (eqb k Kind.Continue) (eqb k Kind.Break) (eqb k Kind.Return) (sym i ∙ h)
 
 -- CONDITIONALS: behind a branch
-unfoldable pub behind : Level → ℕ → Forest → Tree → List ℕ → List ℕ → Res Tree
+unfoldable pub behind : Depth → ℕ → Forest → Tree → List ℕ → List ℕ → Res Tree
 behind low n f b q u =
     then q (look q u) λ tok q₄ rest.
     ifb (eqb (tok .kind) Kind.End) (λ _. ok (Node.if-expr (snoc f b) Node.absent) rest) λ _.
@@ -391,36 +391,36 @@ behind low n f b q u =
     (λ _. then q (body low q rest) λ e q₅ x. ok (Node.if-expr (snoc f b) (block-of e)) x)
     (λ _. branches low n (snoc f b) q rest)
 
-expr-empty : (low : Level) (q : List ℕ) → expr low q [] ≡ fail Number.end-of-tokens q []
+expr-empty : (low : Depth) (q : List ℕ) → expr low q [] ≡ fail Number.end-of-tokens q []
 unfolding expr try-assign-keyword look then
 expr-empty low q = refl
 
-branch-empty : (low : Level) (f : Tree → List ℕ → List ℕ → Res Tree) (q : List ℕ) → then q (branch low q []) f ≡ fail Number.end-of-tokens q []
+branch-empty : (low : Depth) (f : Tree → List ℕ → List ℕ → Res Tree) (q : List ℕ) → then q (branch low q []) f ≡ fail Number.end-of-tokens q []
 unfolding then
 branch-empty low f q = rw (branch-step low q [], expr-empty low q)
 
-branches-suc : (low : Level) (n : ℕ) (f : Forest) (q ts : List ℕ) → branches low (suc n) f q ts ≡ then q (branch low q ts) (λ b q₃ u. behind low n f b q₃ u)
+branches-suc : (low : Depth) (n : ℕ) (f : Forest) (q ts : List ℕ) → branches low (suc n) f q ts ≡ then q (branch low q ts) (λ b q₃ u. behind low n f b q₃ u)
 unfolding branches behind
 branches-suc low n f q ts = sym (ap (λ (d : Res Tree). then q d (λ b q₃ u. behind low n f b q₃ u)) (branch-step low q ts) ∙ then-then q (expr low q ts) _ _
     ∙ then-same q (expr low q ts) (λ e q₁ r. then-then q₁ (expect Kind.Then Number.missing-then q₁ r) _ _ ∙ then-same q₁ (expect Kind.Then Number.missing-then q₁ r) (λ tok q₂ s. then-then q₂ (low .list 1 q₂ s) _ _ ∙ then-same q₂ (low .list 1 q₂ s) (λ b q₃ u. then-ok q₃ _))))
 
-branches-zero : (low : Level) (f : Forest) (q : List ℕ) → branches low 0 f q [] ≡ fail Number.end-of-tokens q []
+branches-zero : (low : Depth) (f : Forest) (q : List ℕ) → branches low 0 f q [] ≡ fail Number.end-of-tokens q []
 unfolding branches
 branches-zero low f q = refl
 
-branches-any : (low : Level) (fuel : ℕ) (f : Forest) (q ts : List ℕ) → length ts ≤ fuel → branches low fuel f q ts ≡ then q (branch low q ts) (λ b q₃ u. behind low (fuel - 1) f b q₃ u)
+branches-any : (low : Depth) (fuel : ℕ) (f : Forest) (q ts : List ℕ) → length ts ≤ fuel → branches low fuel f q ts ≡ then q (branch low q ts) (λ b q₃ u. behind low (fuel - 1) f b q₃ u)
 branches-any low zero f q [] h = branches-zero low f q ∙ sym (branch-empty low _ q)
 branches-any low zero f q (x ∷ ts) h = absurd (omega arith)
 branches-any low (suc n) f q ts h = branches-suc low n f q ts ∙ rw (sub-one (suc n))
 
-pub branches-step : (low : Level) (fuel : ℕ) (f : Forest) (q T : List ℕ) (p : ℕ) → length T ≤ p + fuel → branches low fuel f q (drop p T) ≡ then q (branch low q (drop p T)) (λ b q₃ u. behind low (fuel - 1) f b q₃ u)
+pub branches-step : (low : Depth) (fuel : ℕ) (f : Forest) (q T : List ℕ) (p : ℕ) → length T ≤ p + fuel → branches low fuel f q (drop p T) ≡ then q (branch low q (drop p T)) (λ b q₃ u. behind low (fuel - 1) f b q₃ u)
 branches-step low fuel f q T p h = branches-any low fuel f q (drop p T) (rw length-drop (omega arith))
 
-pub behind-looks : (low : Level) (n : ℕ) (f : Forest) (b : Tree) (q ts : List ℕ) → Looks q ts (behind low n f b q ts)
+pub behind-looks : (low : Depth) (n : ℕ) (f : Forest) (b : Tree) (q ts : List ℕ) → Looks q ts (behind low n f b q ts)
 unfolding behind
 behind-looks low n f b q ts = record { go = _; is = refl }
 
-module _ (low : Level) (fuel : ℕ) (f : Forest) (b : Tree) (q : List ℕ) {T : List ℕ} {pos k n v : ℕ} (at : Taken T pos k n v) where
+module _ (low : Depth) (fuel : ℕ) (f : Forest) (b : Tree) (q : List ℕ) {T : List ℕ} {pos k n v : ℕ} (at : Taken T pos k n v) where
   pub behind-end : k ≡ Kind.End → behind low fuel f b q (drop pos T) ≡ ok (Node.if-expr (snoc f b) Node.absent) (drop (pos + 2) T)
   unfolding behind then ifb
   behind-end e = rw (at .same, e)
@@ -441,7 +441,7 @@ if-words g n c = two-words 18 0 (Node.list g) Node.absent ∙ rw (c, append-asso
 pub record Going (T S₀ Q₀ : List ℕ) (depth pos at waiting : ℕ) (S Q : List ℕ) (p a w n : ℕ) : Type 0 where
   pub fuel : ℕ
   pub enough : length T ≤ p + fuel
-  pub run : Wrote all-records (branches (level depth) (length (drop pos T)) none (take waiting Q₀) (drop pos T)) (branches (level depth) fuel) T pos pos 8 at waiting S₀ Q₀ p a w S Q
+  pub run : Wrote all-records (branches (at-depth depth) (length (drop pos T)) none (take waiting Q₀) (drop pos T)) (branches (at-depth depth) fuel) T pos pos 8 at waiting S₀ Q₀ p a w S Q
   pub many : count (run .what) ≡ n
   pub short : 2 * n ≤ p
   pub kept : length S ≡ length S₀

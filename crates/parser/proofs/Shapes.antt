@@ -14,12 +14,12 @@ use Rattle.tree.specs.Records.{Small, Smalls}
 use Rattle.grammar.specs.Reading.Result.{Error, Res, ok}
 use Rattle.grammar.specs.Reading.Look.{look, expect, expect-pattern, try-assign-keyword}
 use Rattle.grammar.specs.Reading.Pattern.{to-pattern}
-use Rattle.grammar.specs.Reading.Expr.{Level, operators, binop-expr, members, tuple-expr, expr}
+use Rattle.grammar.specs.Reading.Expr.{Depth, operators, binop-expr, members, tuple-expr, expr}
 use Rattle.grammar.specs.Reading.Primary.{group-expr, literal, atom, path, table-items, with-path, primary, unpack-expr}
 use Rattle.grammar.specs.Reading.Block.{body, block-expr, expr-label, branches}
 use Rattle.grammar.specs.Reading.Function.{params, function-def, function-assignment-target, function-decl-expr}
-use Rattle.grammar.specs.Reading.Level.{primary-expr, unary-expr, level}
-use Rattle.grammar.specs.Laws.Kinds.{Holds, h-ok, h-bad, h-fail, h-stop, holds-then, holds-past, holds-if, level-small, tuple-small, expr-small}
+use Rattle.grammar.specs.Reading.Depth.{primary-expr, unary-expr, at-depth}
+use Rattle.grammar.specs.Laws.Kinds.{Holds, h-ok, h-bad, h-fail, h-stop, holds-then, holds-past, holds-if, depth-small, tuple-small, expr-small}
 use Rattle.parser.specs.Post.{As}
 use Rattle.parser.specs.Ends.{Shape, other, a-tuple, lone, unpacked}
 
@@ -94,7 +94,7 @@ with-path-root : (a : Tree) (f : Forest) → Root a → Root (with-path a f)
 with-path-root a none h = h
 with-path-root a (more i f) h = plain refl
 
-module _ (low : Level) (U : (q : List Error) (ts : List ℕ) → Holds Root (low .unary q ts)) where
+module _ (low : Depth) (U : (q : List Error) (ts : List ℕ) → Holds Root (low .unary q ts)) where
   binop-root : (l : ℕ) (q : List Error) (ts : List ℕ) → Holds Root (binop-expr low l q ts)
   unfolding binop-expr
   binop-root zero q ts = U q ts
@@ -125,7 +125,7 @@ module _ (low : Level) (U : (q : List Error) (ts : List ℕ) → Holds Root (low
       (λ _. holds-past q₂ (expect-pattern _ (to-pattern t) q₂ rest) λ p q₄ u.
       holds-past q₂ (low .right q₂ u) λ e q₅ v. h-ok (plain refl))
 
-module _ (low : Level) where
+module _ (low : Depth) where
   atom-root : (q : List Error) (ts : List ℕ) → Holds Root (atom low q ts)
   unfolding atom group-expr
   atom-root q ts =
@@ -203,13 +203,13 @@ module _ (low : Level) where
       (λ _. primary-expr-root q ts)
       (λ _. holds-past q (low .unary q rest) λ t q₂ r. h-ok (plain refl))
 
-level-root : (d : ℕ) (q : List Error) (ts : List ℕ) → Holds Root (level d .unary q ts)
-unfolding level
-level-root zero q ts = h-stop
-level-root (suc d) q ts = unary-expr-root (level d) q ts
+depth-root : (d : ℕ) (q : List Error) (ts : List ℕ) → Holds Root (at-depth d .unary q ts)
+unfolding at-depth
+depth-root zero q ts = h-stop
+depth-root (suc d) q ts = unary-expr-root (at-depth d) q ts
 
-pub tuple-shape : (d : ℕ) (q : List Error) (ts : List ℕ) → Holds Shape (tuple-expr (level d) q ts)
-tuple-shape d q ts = holds-shape (tuple-expr-root (level d) (level-root d) q ts) (tuple-small (level d) (level-small d) q ts)
+pub tuple-shape : (d : ℕ) (q : List Error) (ts : List ℕ) → Holds Shape (tuple-expr (at-depth d) q ts)
+tuple-shape d q ts = holds-shape (tuple-expr-root (at-depth d) (depth-root d) q ts) (tuple-small (at-depth d) (depth-small d) q ts)
 
-pub expr-shape : (d : ℕ) (q : List Error) (ts : List ℕ) → Holds Shape (expr (level d) q ts)
-expr-shape d q ts = holds-shape (expr-root (level d) (level-root d) q ts) (expr-small (level d) (level-small d) q ts)
+pub expr-shape : (d : ℕ) (q : List Error) (ts : List ℕ) → Holds Shape (expr (at-depth d) q ts)
+expr-shape d q ts = holds-shape (expr-root (at-depth d) (depth-root d) q ts) (expr-small (at-depth d) (depth-small d) q ts)

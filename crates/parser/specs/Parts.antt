@@ -11,7 +11,7 @@ use Rattle.tree.specs.Node
 use Rattle.grammar.specs.Reading.Number
 use Rattle.grammar.specs.Reading.Result.{Error, Res, ok, fail, either, then, ifb}
 use Rattle.grammar.specs.Reading.Look.{look, expect}
-use Rattle.grammar.specs.Reading.Expr.{Level, Stmts, inner-expr, expr, keyword-alone}
+use Rattle.grammar.specs.Reading.Expr.{Depth, Stmts, inner-expr, expr, keyword-alone}
 use Rattle.grammar.specs.Reading.Primary.{indexing-expr, field-name, table-literal, member-access, invocation}
 use Rattle.grammar.specs.Reading.Block.{body, block-of}
 use Rattle.grammar.specs.Reading.Function.{Param, Params, param-mode, joined}
@@ -23,7 +23,7 @@ use Rattle.parser.specs.declared.Entry.{Entry}
 use Rattle.parser.specs.declared.Entry.the-variants.{Control, Caught, Not}
 
 -- the members of a tuple behind its first, after some
-unfoldable pub commas : Level → ℕ → Forest → List Error → List ℕ → Res Forest
+unfoldable pub commas : Depth → ℕ → Forest → List Error → List ℕ → Res Forest
 commas low zero f q ts = fail Number.end-of-tokens q ts
 commas low (suc n) f q ts =
     then q (look q ts) λ tok q₁ rest.
@@ -42,7 +42,7 @@ abbrev pub goes-on : Bool → ℕ → ℕ → Bool
 goes-on calls k newline = eqb k Kind.OpAccess || eqb k Kind.OpenSquare || (calls && eqb newline 0 && (eqb k Kind.OpenParen || eqb k Kind.OpenBrace))
 
 -- one access item, behind its first token, of the kind k
-unfoldable pub access : Level → ℕ → List Error → List ℕ → Res Tree
+unfoldable pub access : Depth → ℕ → List Error → List ℕ → Res Tree
 access low k q ts =
     ifb (eqb k Kind.OpAccess) (λ _. member-access q ts) λ _.
     ifb (eqb k Kind.OpenSquare) (λ _. then q (indexing-expr low q ts) λ e q₁ r. ok (Node.index e) r) λ _.
@@ -70,7 +70,7 @@ unfoldable pub expression-end : Tree → List Error → List ℕ → Res Tree
 expression-end t q ts = ifb (lone-ellipsis t) (λ _. fail Number.ellipsis-not-allowed q ts) (λ _. ok (Node.expression t) ts)
 
 -- one branch of a conditional
-unfoldable pub branch : Level → List Error → List ℕ → Res Tree
+unfoldable pub branch : Depth → List Error → List ℕ → Res Tree
 branch low q ts =
     then q (expr low q ts) λ condition q₁ r.
     then q₁ (expect Kind.Then Number.missing-then q₁ r) λ tok q₂ s.
@@ -82,7 +82,7 @@ pub record Turning : Type 0 where
   pub over : Tree
   pub run : Stmts
 
-unfoldable pub turning : Level → List Error → List ℕ → Res Turning
+unfoldable pub turning : Depth → List Error → List ℕ → Res Turning
 turning low q ts =
     then q (expr low q ts) λ e q₁ r.
     then q₁ (expect Kind.Do Number.missing-do q₁ r) λ tok q₂ s.
@@ -162,11 +162,11 @@ pub data Place : Type 0 where
   a-caught : Place
 
 -- the rest of the reading of a place, once its error was caught
-abbrev pub resume : Level → Error → List Error → List ℕ → Res Place
+abbrev pub resume : Depth → Error → List Error → List ℕ → Res Place
 resume low e q ts = then q (caught low e q ts) λ u q₁ r. ok a-caught r
 
 -- a place where a token of the kind k stands, that does not end the list; `rest` is behind that token
-unfoldable pub turn : Level → ℕ → ℕ → List ℕ → List Error → List ℕ → Res Place
+unfoldable pub turn : Depth → ℕ → ℕ → List ℕ → List Error → List ℕ → Res Place
 turn low end k rest q ts =
     ifb (is-control k)
     (λ _. either q (control-flow low k q rest)

@@ -12,8 +12,8 @@ ghost use Rattle.grammar.specs.Reading.Primary.{group-expr, atom as atom-def, i
 ghost use Rattle.grammar.specs.Reading.Block.{body as body-def, block-expr, expr-label, if-expr as if-expr-def};
 ghost use Rattle.grammar.specs.Reading.Function.{param as param-def, function-param-list, function-def, function-assignment-target, function-decl-expr};
 ghost use Rattle.grammar.specs.Reading.Stmt.{loop as loop-def, lvalue-list, for-loop, stmt-label, stmt as stmt-def, is-control as is-control-def, control-value, control-flow, synchronize, caught as caught-def};
-ghost use Rattle.grammar.specs.Reading.Level.{primary-expr, level as at-depth, failed as failed-def, next};
-ghost use Rattle.grammar.specs.Reading.Next.{error-kind as error-kind-def, is-stop as is-stop-def, queue-fits as queue-fits-def, reader-at, halted, error-answer as error-answer-def, called};
+ghost use Rattle.grammar.specs.Reading.Depth.{primary-expr, at-depth};
+ghost use Rattle.grammar.specs.Reading.Next.{error-kind as error-kind-def, is-stop as is-stop-def, queue-fits as queue-fits-def, reader-at, halted, error-answer as error-answer-def, called, failed as failed-def, next};
 ghost use Rattle.grammar.specs.Contract.{Returns};
 ghost use Rattle.parser.specs.Post.{no-words, Ready, Lent, Failed, Agrees};
 ghost use Rattle.parser.specs.Parts.{commas as commas-def, tuple-words, access as access-def, path-words, list-words, branch as branch-def, turning, turning-words, signature-words, turn as turn-def, closed-step, resumed-step};

@@ -10,7 +10,7 @@ ghost use Rattle.grammar.specs.Reading.Look.{expect as expect-def, try-label as
 ghost use Rattle.grammar.specs.Reading.Expr.{keyword-alone as keyword-alone-def};
 ghost use Rattle.grammar.specs.Reading.Primary.{atom-error as atom-error-def};
 ghost use Rattle.grammar.specs.Reading.Stmt.{ends as ends-def, is-control as is-control-def, not-last as not-last-def, starts-stmt};
-ghost use Rattle.grammar.specs.Reading.Level.{start as start-def};
+ghost use Rattle.grammar.specs.Reading.Next.{start as start-def};
 ghost use Rattle.parser.specs.Post.{Saw, Reads, Finds, itself, value-of};
 ghost use Rattle.parser.specs.Parts.{unassigned-step, goes-on, not-allowed as not-allowed-def};
 ghost use Rattle.parser.specs.Lists.{Within, Passes};

@@ -4,6 +4,26 @@ use Prim.Native.Nat.{ℕ, _+_, _*_}
 use Rattle.tree.specs.NodeKind
 use Rattle.tree.specs.Tree.{Tree, Forest, node, none, one, two, three}
 
+-- `MatchAction`, by place in the Rust's enum
+abbrev pub assign-local : ℕ
+assign-local = 0
+
+abbrev pub assign-non-local : ℕ
+assign-non-local = 1
+
+abbrev pub decl-immutable : ℕ
+decl-immutable = 2
+
+abbrev pub decl-mutable : ℕ
+decl-mutable = 3
+
+-- `Access`, likewise
+abbrev pub read-only : ℕ
+read-only = 0
+
+abbrev pub read-write : ℕ
+read-write = 1
+
 abbrev pub absent : Tree
 absent = node NodeKind.Absent 0 none
 
@@ -83,7 +103,7 @@ conditional-branch condition suite = node NodeKind.ConditionalBranch 0 (two cond
 abbrev pub signature-def : ℕ → Forest → Forest → Tree → Tree
 signature-def name required default variadic = node NodeKind.SignatureDef name (three (list required) (list default) variadic)
 
--- a name with its access, ReadOnly 0 or ReadWrite 1
+-- a name with its access
 abbrev pub named : ℕ → ℕ → ℕ
 named name access = name * 2 + access
 

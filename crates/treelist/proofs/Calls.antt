@@ -10,9 +10,8 @@ use lib.Dec.{eqb}
 use lib.ListN.{length, take, replicate, length-append}
 use Rattle.tree.specs.Tree.{Tree, records}
 use Rattle.grammar.specs.Reading.Limit.{depth-limit}
-use Rattle.grammar.specs.Reading.Level.{next}
 use Rattle.grammar.specs.Reading.Result.{Error, Res, ok, bad, fail, stop, ifb}
-use Rattle.grammar.specs.Reading.Next.{error-answer, error-kind, Accepted, Called, called, answered, next-stmt}
+use Rattle.grammar.specs.Reading.Next.{error-answer, error-kind, Accepted, Called, called, answered, next-stmt, next}
 use Rattle.grammar.specs.Laws.Returned.{returned-accepted}
 use Rattle.grammar.specs.declared.Answer.{Answer}
 use Rattle.grammar.specs.declared.Answer.the-variants.{Tree as ATree, Error as AError, End, Stopped, Refused}

@@ -10,8 +10,7 @@ use lib.ListN.{length, take, replicate, length-replicate}
 use Rattle.tree.specs.Tree.{Tree, Forest, records}
 use Rattle.grammar.specs.Reading.Limit.{depth-limit, store-share}
 use Rattle.grammar.specs.Reading.Result.{Error, Res, ok, bad, fail, stop, ifb}
-use Rattle.grammar.specs.Reading.Level.{next}
-use Rattle.grammar.specs.Reading.Next.{error-kind, error-answer, Accepted, Called, bare, called, answered, next-stmt}
+use Rattle.grammar.specs.Reading.Next.{error-kind, error-answer, Accepted, Called, bare, called, answered, next-stmt, next}
 use Rattle.grammar.specs.Laws.Returned.{returned-accepted}
 use Rattle.grammar.specs.declared.Answer.{Answer}
 use Rattle.grammar.specs.declared.Answer.the-variants.{Tree as ATree, Error as AError, End, Stopped, Refused}

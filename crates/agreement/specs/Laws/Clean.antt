@@ -15,8 +15,7 @@ use Rattle.tree.specs.Decode.{decode}
 use Rattle.tree.specs.Records.{Small, records-length, just-same, decode-records, decode-text}
 use Rattle.grammar.specs.Reading.Limit.{depth-limit, length-limit, store-share}
 use Rattle.grammar.specs.Reading.Result.{Error, Res, ok, bad, fail, stop, ifb}
-use Rattle.grammar.specs.Reading.Level.{next}
-use Rattle.grammar.specs.Reading.Next.{kind-number, error-answer, error-kind, reader-at, Accepted, called, next-stmt}
+use Rattle.grammar.specs.Reading.Next.{kind-number, error-answer, error-kind, reader-at, Accepted, called, next-stmt, next}
 use Rattle.grammar.specs.Laws.Numbers.{bad-waits}
 use Rattle.grammar.specs.Laws.Kinds.{Holds, h-ok, next-small}
 use Rattle.grammar.specs.Laws.Returned.{returned-accepted}

@@ -12,14 +12,13 @@ use Rattle.tree.specs.Tree.{Forest}
 use Rattle.tree.specs.Node
 use Rattle.grammar.specs.Reading.Limit.{depth-limit, store-share, too-deep}
 use Rattle.grammar.specs.Reading.Result.{ok}
-use Rattle.grammar.specs.Reading.Level.{next}
-use Rattle.grammar.specs.Reading.Next.{called, next-stmt}
+use Rattle.grammar.specs.Reading.Next.{called, next-stmt, next}
 use Rattle.grammar.specs.Canonical.Write.{own, run}
 use Rattle.grammar.specs.Canonical.Need.{need}
 use Rattle.grammar.specs.Canonical.Valid.{stmt, Valids, v-none, v-more}
 use Rattle.grammar.specs.Laws.Back.Steps.{reach}
 use Rattle.grammar.specs.Laws.Back.Snoc.{most-more}
-use Rattle.grammar.specs.Laws.Back.Levels.{Leads, here, behind, next-reads, run-length}
+use Rattle.grammar.specs.Laws.Back.Depths.{Leads, here, behind, next-reads, run-length}
 use Rattle.grammar.specs.declared.Reader.{Reader}
 use Rattle.agreement.specs.Answers.{Seen, stopped, seen-of, Reads, last, then, Lacks62, lacks-more, Keeps}
 use Rattle.agreement.specs.Laws.Step.{Before, before-fresh, call-is, before-next}

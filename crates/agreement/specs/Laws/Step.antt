@@ -12,8 +12,7 @@ use lib.Seq.{drop-drop}
 use Rattle.tree.specs.Tree.{Tree}
 use Rattle.grammar.specs.Reading.Limit.{depth-limit, length-limit, store-share}
 use Rattle.grammar.specs.Reading.Result.{ok, ifb}
-use Rattle.grammar.specs.Reading.Level.{next}
-use Rattle.grammar.specs.Reading.Next.{queue-fits, reader-at, fresh, Accepted, called, next-stmt}
+use Rattle.grammar.specs.Reading.Next.{queue-fits, reader-at, fresh, Accepted, called, next-stmt, next}
 use Rattle.grammar.specs.Laws.Progress.{Keep, k-ok, next-keeps}
 use Rattle.grammar.specs.Laws.Returned.{returned-accepted}
 use Rattle.grammar.specs.declared.Reader.{Reader}

@@ -8,8 +8,7 @@ use lib.Dec.{eqb, ltb}
 use lib.ListN.{length, take}
 use Rattle.grammar.specs.Reading.Limit.{depth-limit, length-limit, queue-limit, store-share, malformed, bad-reader, short-store}
 use Rattle.grammar.specs.Reading.Result.{ifb}
-use Rattle.grammar.specs.Reading.Level.{next}
-use Rattle.grammar.specs.Reading.Next.{is-stop, queue-fits, Called, bare, halted, called, answered, next-stmt}
+use Rattle.grammar.specs.Reading.Next.{is-stop, queue-fits, Called, bare, halted, called, answered, next-stmt, next}
 use Rattle.grammar.specs.declared.Answer.the-variants.{Stopped, Refused}
 use Rattle.grammar.specs.declared.Reader.{Reader}
 use Rattle.agreement.specs.Calls.{unread}

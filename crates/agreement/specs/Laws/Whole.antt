@@ -14,7 +14,7 @@ use Rattle.tree.specs.Maybe.{nothing, just}
 use Rattle.tree.specs.Records.{nothing-just, just-same, bound}
 use Rattle.grammar.specs.Reading.Limit.{depth-limit}
 use Rattle.grammar.specs.Reading.Result.{Res, ok, bad, fail, stop, ifb}
-use Rattle.grammar.specs.Reading.Level.{next}
+use Rattle.grammar.specs.Reading.Next.{next}
 use Rattle.grammar.specs.Canonical.Write.{own, run}
 use Rattle.grammar.specs.Canonical.Need.{need}
 use Rattle.grammar.specs.Canonical.Valid.{stmt, Valids}

@@ -10,7 +10,7 @@ use Rattle.tree.specs.Maybe.{Maybe, nothing, just, bindM}
 use Rattle.tree.specs.Decode.{decode}
 use Rattle.grammar.specs.Reading.Limit.{depth-limit, too-deep, no-statement, short-output}
 use Rattle.grammar.specs.Reading.Result.{Res, ok, bad, fail, stop, ifb}
-use Rattle.grammar.specs.Reading.Level.{next}
+use Rattle.grammar.specs.Reading.Next.{next}
 use Rattle.grammar.specs.Canonical.Write.{own, statement, run}
 use Rattle.grammar.specs.Canonical.Need.{need}
 use Rattle.grammar.specs.declared.Written.{Written}

@@ -11,4 +11,4 @@ pub mod Function
 pub mod Block
 pub mod Unary
 pub mod Stmt
-pub mod Levels
+pub mod Depths

@@ -14,7 +14,8 @@ use Rattle.tree.specs.Tree.{Tree, Forest, none, more}
 use Rattle.tree.specs.Maybe.{Maybe, nothing, just, bindM}
 use Rattle.grammar.specs.Reading.Result.{Error, Res, ok, bad, fail, stop, either, ifb}
 use Rattle.grammar.specs.Reading.Look.{looked, look}
-use Rattle.grammar.specs.Reading.Level.{level, start, next}
+use Rattle.grammar.specs.Reading.Depth.{at-depth}
+use Rattle.grammar.specs.Reading.Next.{start, next}
 use Rattle.grammar.specs.Canonical.Valid.{stmt, Valid, Valids, v-none, v-more}
 use Rattle.grammar.specs.Canonical.Writing.{clean-then, clean-from, clean-reading}
 use borrow.Author.Tests.{eqb-true}
@@ -22,7 +23,7 @@ use Rattle.grammar.specs.Laws.Facts.{other, and-r}
 use Rattle.grammar.specs.Laws.Post.{Post, p-ok, p-bad, p-fail, p-stop, post-then, post-either}
 use Rattle.grammar.specs.Laws.Numbers.{next-end}
 use Rattle.grammar.specs.Laws.Sound.Base.{kind-at, Saw, isnt, NotClose}
-use Rattle.grammar.specs.Laws.Sound.Stmt.{stmt-sound, level-sound}
+use Rattle.grammar.specs.Laws.Sound.Stmt.{stmt-sound, depth-sound}
 
 -- a look that fails did not see `)`
 data LookOk (ts : List ℕ) : Res Token → Type 0 where
@@ -105,7 +106,7 @@ next-post : (d : ℕ) (q : List Error) (ts : List ℕ) → Post (Began ts) (next
 unfolding next
 next-post d q ts =
     post-then q (start-post q ts) λ u q₁ r h.
-    post-either q₁ _ (stmt-sound (level d) (level-sound d) q₁ r) λ t q₂ s x. p-ok (record { valid = x .valid; start-at = h (x .start) })
+    post-either q₁ _ (stmt-sound (at-depth d) (depth-sound d) q₁ r) λ t q₂ s x. p-ok (record { valid = x .valid; start-at = h (x .start) })
 
 next-ok : (d : ℕ) (ts : List ℕ) → NextOk ts (next d [] ts)
 next-ok d ts = go (next d [] ts) refl (next-post d [] ts)

@@ -7,13 +7,14 @@ use native.Mathlib.Omega.{arith}
 use lib.ListN.{length}
 use Rattle.tree.specs.Tree.{Tree}
 use Rattle.grammar.specs.Reading.Result.{Error, Res, bad, fail, spoil, either, then, ifb}
-use Rattle.grammar.specs.Reading.Expr.{Level, operators, binop-expr, members}
+use Rattle.grammar.specs.Reading.Expr.{Depth, operators, binop-expr, members}
 use Rattle.grammar.specs.Reading.Primary.{table-items, path}
 use Rattle.grammar.specs.Reading.Block.{branches}
 use Rattle.grammar.specs.Reading.Function.{params}
 use Rattle.grammar.specs.Reading.Stmt.{synchronize, stmts}
-use Rattle.grammar.specs.Reading.Level.{level, start}
-use Rattle.grammar.specs.Laws.Progress.{Keep, k-ok, k-bad, k-fail, k-stop, Kept, Near, here, past, k-lose, First, look-keeps, expect-keeps, binop-keeps, expr-keeps, member-keeps, indexing-keeps, item-keeps, items-keeps, invocation-keeps, param-keeps, joined-keeps, control-keeps, stmt-keeps, caught-keeps, level-keeps, Left, left-step, Words, short, some, words, look-short, expr-short, start-short}
+use Rattle.grammar.specs.Reading.Depth.{at-depth}
+use Rattle.grammar.specs.Reading.Next.{start}
+use Rattle.grammar.specs.Laws.Progress.{Keep, k-ok, k-bad, k-fail, k-stop, Kept, Near, here, past, k-lose, First, look-keeps, expect-keeps, binop-keeps, expr-keeps, member-keeps, indexing-keeps, item-keeps, items-keeps, invocation-keeps, param-keeps, joined-keeps, control-keeps, stmt-keeps, caught-keeps, depth-keeps, Left, left-step, Words, short, some, words, look-short, expr-short, start-short}
 
 -- the same reading first, and ways to go on that agree where I holds; `then` hands a failure on, so that only a success counts
 
@@ -40,7 +41,7 @@ module _ (I : List ℕ → Type 0) where
   same-either q (k-fail i) f g = ap (spoil _) (g _ _ _ i)
   same-either q k-stop f g = refl
 
-ruleset same = (same-if, k-lose, look-keeps, level-keeps, here)
+ruleset same = (same-if, k-lose, look-keeps, depth-keeps, here)
 
 -- any two counts that are at least the number of words left give the same answer
 abbrev pub Enough : {A B : Type 0} → (ℕ → A → List Error → List ℕ → Res B) → Type 0
@@ -70,7 +71,7 @@ then-fails q go h = rw h
 
 ruleset fails = (then-fails, look-short, expr-short)
 
-synchronize-short : (low : Level) (inside : Bool) (n : ℕ) (q : List Error) (ts : List ℕ) → length ts < 2 → synchronize low inside n q ts ≡ bad tt q ts
+synchronize-short : (low : Depth) (inside : Bool) (n : ℕ) (q : List Error) (ts : List ℕ) → length ts < 2 → synchronize low inside n q ts ≡ bad tt q ts
 unfolding synchronize either ifb spoil
 synchronize-short low inside zero q ts s = refl
 synchronize-short low inside (suc n) q ts s = rw (look-short q ts s)
@@ -81,38 +82,38 @@ pub operators-count : {operand : List Error → List ℕ → Res Tree} → ((I :
 unfolding operators
 operators-count h l = counted _ (search fails) λ I step. search (same-then I, same, h) depth 9
 
-pub binop-count : (d k l : ℕ) → Enough (operators (binop-expr (level d) k) l)
-binop-count d k l = operators-count (search (binop-keeps, level-keeps)) l
+pub binop-count : (d k l : ℕ) → Enough (operators (binop-expr (at-depth d) k) l)
+binop-count d k l = operators-count (search (binop-keeps, depth-keeps)) l
 
 module _ (d : ℕ) where
-  pub members-count : Enough (members (level d))
+  pub members-count : Enough (members (at-depth d))
   unfolding members
   members-count = counted _ (search fails) λ I step. search (same-then I, same, binop-keeps) depth 9
 
-  pub items-count : Enough (table-items (level d))
+  pub items-count : Enough (table-items (at-depth d))
   unfolding table-items
   items-count = counted _ (search fails) λ I step. search (same-then I, same, item-keeps) depth 9
 
-  pub path-count : (calls : Bool) → Enough (path (level d) calls)
+  pub path-count : (calls : Bool) → Enough (path (at-depth d) calls)
   unfolding path
   path-count calls = counted _ (search fails) λ I step. search (same-then I, same, member-keeps, indexing-keeps, invocation-keeps, items-keeps) depth 9
 
-  pub branches-count : Enough (branches (level d))
+  pub branches-count : Enough (branches (at-depth d))
   unfolding branches
-  branches-count = counted _ (search fails) λ I step. search (same-then I, same, expr-keeps, expect-keeps, level-keeps I step d .k-list) depth 9
+  branches-count = counted _ (search fails) λ I step. search (same-then I, same, expr-keeps, expect-keeps, depth-keeps I step d .k-list) depth 9
 
-  pub params-count : Enough (params (level d))
+  pub params-count : Enough (params (at-depth d))
   unfolding params
   params-count = counted _ (search fails) λ I step. search (same-then I, same, param-keeps, joined-keeps) depth 9
 
-  pub stmts-count : (end : ℕ) → Enough (stmts (level d) end)
+  pub stmts-count : (end : ℕ) → Enough (stmts (at-depth d) end)
   unfolding stmts
   stmts-count end = counted _ (search fails) λ I step. search (same-then I, same-either I, same, control-keeps, stmt-keeps, caught-keeps) depth 9
 
-  pub synchronize-count : (inside : Bool) (n m : ℕ) (q : List Error) (ts : List ℕ) → length ts ≤ n → length ts ≤ m → synchronize (level d) inside n q ts ≡ synchronize (level d) inside m q ts
+  pub synchronize-count : (inside : Bool) (n m : ℕ) (q : List Error) (ts : List ℕ) → length ts ≤ n → length ts ≤ m → synchronize (at-depth d) inside n q ts ≡ synchronize (at-depth d) inside m q ts
   unfolding synchronize
   synchronize-count inside n m =
-      counted (λ n (u : Unit {0}). synchronize (level d) inside n) (λ n u. synchronize-short (level d) inside (suc n)) (λ I step. search (same-either I, same, expr-keeps) depth 9) n m tt
+      counted (λ n (u : Unit {0}). synchronize (at-depth d) inside n) (λ n u. synchronize-short (at-depth d) inside (suc n)) (λ I step. search (same-either I, same, expr-keeps) depth 9) n m tt
 
 pub start-count : (n m : ℕ) (q : List Error) (ts : List ℕ) → length ts ≤ n → length ts ≤ m → start n q ts ≡ start m q ts
 unfolding start

@@ -8,12 +8,13 @@ use Prim.Native.Nat.{ℕ, zero, suc, _≤_, zero-le, suc-le-suc}
 use Rattle.tree.specs.Tree.{Tree, Forest}
 use Rattle.grammar.specs.Reading.Limit.{too-deep}
 use Rattle.grammar.specs.Reading.Result.{Error, Res, ok, bad, fail, stop, spoil, either, then, ifb, push}
-use Rattle.grammar.specs.Reading.Expr.{Level, operators, binop-expr, members, tuple-expr, expr}
+use Rattle.grammar.specs.Reading.Expr.{Depth, operators, binop-expr, members, tuple-expr, expr}
 use Rattle.grammar.specs.Reading.Primary.{group-expr, atom, indexing-expr, table-field, table-item, table-items, invocation, path, primary, unpack-expr}
 use Rattle.grammar.specs.Reading.Block.{body, block-expr, expr-label, branches}
 use Rattle.grammar.specs.Reading.Function.{Params, plain-param, param, params, function-def, function-assignment-target, function-decl-expr}
 use Rattle.grammar.specs.Reading.Stmt.{loop, while-loop, lvalue-list, for-loop, stmt-label, stmt, control-value, control-flow, synchronize, caught, stmts}
-use Rattle.grammar.specs.Reading.Level.{primary-expr, unary-expr, level, front, failed, next}
+use Rattle.grammar.specs.Reading.Depth.{primary-expr, unary-expr, at-depth}
+use Rattle.grammar.specs.Reading.Next.{front, failed, next}
 
 -- what the first says, the second says, but where the first stopped with 62
 pub data Le {A : Type 0} : Res A → Res A → Type 0 where
@@ -66,7 +67,7 @@ ruleset mono = (le-same, le-then, le-either, le-if, le-push, le-front)
 abbrev pub Below : {A : Type 0} → (List Error → List ℕ → Res A) → (List Error → List ℕ → Res A) → Type 0
 Below f g = (q : List Error) (ts : List ℕ) → Le (f q ts) (g q ts)
 
-pub record Mono (low up : Level) : Type 0 where
+pub record Mono (low up : Depth) : Type 0 where
   pub m-unary : Below (low .unary) (up .unary)
   pub m-right : Below (low .right) (up .right)
   pub m-list : (end : ℕ) → Below (low .list end) (up .list end)
@@ -77,7 +78,7 @@ module _ {sub sup : List Error → List ℕ → Res Tree} (h : Below sub sup) wh
   operators-mono l zero left q ts = le-same
   operators-mono l (suc n) left q ts = search (mono, h, operators-mono l n) depth 9
 
-module _ (low up : Level) (M : Mono low up) where
+module _ (low up : Depth) (M : Mono low up) where
   binop-mono : (l : ℕ) → Below (binop-expr low l) (binop-expr up l)
   unfolding binop-expr
   binop-mono zero q ts = M .m-unary q ts
@@ -234,25 +235,25 @@ module _ (low up : Level) (M : Mono low up) where
   unfolding unary-expr
   unary-mono = search (mono, primary-expr-mono, M .m-unary)
 
-pub level-mono : {d e : ℕ} → d ≤ e → Mono (level d) (level e)
-unfolding level
-level-mono zero-le = record { m-unary = λ q ts. le-deep; m-right = λ q ts. le-deep; m-list = λ end q ts. le-deep }
-level-mono (suc-le-suc {n = d} {m = e} h) =
+pub depth-mono : {d e : ℕ} → d ≤ e → Mono (at-depth d) (at-depth e)
+unfolding at-depth
+depth-mono zero-le = record { m-unary = λ q ts. le-deep; m-right = λ q ts. le-deep; m-list = λ end q ts. le-deep }
+depth-mono (suc-le-suc {n = d} {m = e} h) =
     record {
-      m-unary = unary-mono (level d) (level e) (level-mono h);
-      m-right = expr-mono (level d) (level e) (level-mono h);
-      m-list = λ end q ts. stmts-mono (level d) (level e) (level-mono h) end _ _ q ts;
+      m-unary = unary-mono (at-depth d) (at-depth e) (depth-mono h);
+      m-right = expr-mono (at-depth d) (at-depth e) (depth-mono h);
+      m-list = λ end q ts. stmts-mono (at-depth d) (at-depth e) (depth-mono h) end _ _ q ts;
     }
 
-pub stmt-depth : {d e : ℕ} → d ≤ e → (q : List Error) (ts : List ℕ) → Le (stmt (level d) q ts) (stmt (level e) q ts)
-stmt-depth h = stmt-mono (level _) (level _) (level-mono h)
+pub stmt-depth : {d e : ℕ} → d ≤ e → (q : List Error) (ts : List ℕ) → Le (stmt (at-depth d) q ts) (stmt (at-depth e) q ts)
+stmt-depth h = stmt-mono (at-depth _) (at-depth _) (depth-mono h)
 
-pub expr-depth : {d e : ℕ} → d ≤ e → (q : List Error) (ts : List ℕ) → Le (expr (level d) q ts) (expr (level e) q ts)
-expr-depth h = expr-mono (level _) (level _) (level-mono h)
+pub expr-depth : {d e : ℕ} → d ≤ e → (q : List Error) (ts : List ℕ) → Le (expr (at-depth d) q ts) (expr (at-depth e) q ts)
+expr-depth h = expr-mono (at-depth _) (at-depth _) (depth-mono h)
 
 failed-depth : {d e : ℕ} → d ≤ e → (n : Error) (q : List Error) (ts : List ℕ) → Le (failed d n q ts) (failed e n q ts)
 unfolding failed
-failed-depth h n q ts = search (mono, synchronize-mono (level _) (level _) (level-mono h)) depth 9
+failed-depth h n q ts = search (mono, synchronize-mono (at-depth _) (at-depth _) (depth-mono h)) depth 9
 
 pub next-depth : {d e : ℕ} → d ≤ e → (q : List Error) (ts : List ℕ) → Le (next d q ts) (next e q ts)
 unfolding next

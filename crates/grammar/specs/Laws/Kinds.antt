@@ -14,12 +14,13 @@ use Rattle.tree.specs.Records.{Small, Smalls}
 use Rattle.grammar.specs.Reading.Result.{Error, Res, ok, bad, fail, stop, spoil, either, then, ifb, push}
 use Rattle.grammar.specs.Reading.Look.{look, expect, expect-pattern, try-label, try-assign-keyword}
 use Rattle.grammar.specs.Reading.Pattern.{Role, pattern, members, maybe, conv, all-conv, made, as-pattern, to-pattern, modified, grouped, over, listed, leaf, access, by-last, by-item, by-attribute, by-index, receiver, last-of, front-of}
-use Rattle.grammar.specs.Reading.Expr.{Stmts, Level, operators, binop-expr, members as members-read, tuple-expr, expr}
+use Rattle.grammar.specs.Reading.Expr.{Stmts, Depth, operators, binop-expr, members as members-read, tuple-expr, expr}
 use Rattle.grammar.specs.Reading.Primary.{with-action, group-expr, literal, atom, indexing-expr, field-name, table-field, table-item, table-items, member-access, list-members, arguments, invocation, path, with-path, primary, unpack-expr}
 use Rattle.grammar.specs.Reading.Block.{Split, whole, result, split-before, split-kids, split-last, split, block-split, block-of, body, block-expr, expr-label, branches}
 use Rattle.grammar.specs.Reading.Function.{Param, required, variadic, default, Params, param-mode, variadic-param, plain-param, param, joined, params, function-def, function-assignment-target, function-decl-expr}
 use Rattle.grammar.specs.Reading.Stmt.{loop, while-loop, lvalue-list, for-loop, stmt-label, stmt, control-value, control-flow, control-last, synchronize, caught, stmts}
-use Rattle.grammar.specs.Reading.Level.{primary-expr, unary-expr, level, front, failed, next}
+use Rattle.grammar.specs.Reading.Depth.{primary-expr, unary-expr, at-depth}
+use Rattle.grammar.specs.Reading.Next.{front, failed, next}
 
 -- P holds of what is read
 pub data Holds {A : Type 0} (P : A → Type 0) : Res A → Type 0 where
@@ -199,7 +200,7 @@ pub record SmallStmts (s : Stmts) : Type 0 where
   pub suite : Smalls (s .suite)
   pub control : Small (s .control)
 
-pub record SmallLevel (low : Level) : Type 0 where
+pub record SmallDepth (low : Depth) : Type 0 where
   pub s-unary : (q : List Error) (ts : List ℕ) → Holds Small (low .unary q ts)
   pub s-right : (q : List Error) (ts : List ℕ) → Holds Small (low .right q ts)
   pub s-list : (end : ℕ) (q : List Error) (ts : List ℕ) → Holds SmallStmts (low .list end q ts)
@@ -334,7 +335,7 @@ joined-small ps k q ts h (small-required {v = v}) = holds-if _ (λ _. holds-if _
 joined-small ps k q ts h (small-variadic {v = v}) = holds-if _ (λ _. h-fail) λ _. holds-if _ (λ _. h-ok (record { first = h .first; second = h .second; third = param-def-small v })) (λ _. h-fail)
 joined-small ps k q ts h (small-default {v = v} {e = e} x) = holds-if _ (λ _. h-ok (record { first = h .first; second = smalls-snoc _ _ (h .second) (default-def-small v e x); third = h .third })) (λ _. h-fail)
 
-module _ (low : Level) (S : SmallLevel low) where
+module _ (low : Depth) (S : SmallDepth low) where
   pub binop-small : (l : ℕ) (q : List Error) (ts : List ℕ) → Holds Small (binop-expr low l q ts)
   unfolding binop-expr
   binop-small zero q ts = S .s-unary q ts
@@ -608,13 +609,13 @@ module _ (low : Level) (S : SmallLevel low) where
       (λ t q₂ r x. stmts-small end n (snoc f t) q₂ r (smalls-snoc f t h x))
       (λ e q₂ r. holds-past q₂ (caught low e q₂ r) λ u q₃ s. stmts-small end n f q₃ s h))
 
-pub level-small : (d : ℕ) → SmallLevel (level d)
-unfolding level
-level-small zero = record { s-unary = λ q ts. h-stop; s-right = λ q ts. h-stop; s-list = λ end q ts. h-stop }
-level-small (suc d) = record {
-  s-unary = unary-small (level d) (level-small d);
-  s-right = expr-small (level d) (level-small d);
-  s-list = λ end q ts. stmts-small (level d) (level-small d) end (length ts) none q ts nothing-small;
+pub depth-small : (d : ℕ) → SmallDepth (at-depth d)
+unfolding at-depth
+depth-small zero = record { s-unary = λ q ts. h-stop; s-right = λ q ts. h-stop; s-list = λ end q ts. h-stop }
+depth-small (suc d) = record {
+  s-unary = unary-small (at-depth d) (depth-small d);
+  s-right = expr-small (at-depth d) (depth-small d);
+  s-list = λ end q ts. stmts-small (at-depth d) (depth-small d) end (length ts) none q ts nothing-small;
 }
 
 -- a statement at the top level
@@ -622,10 +623,10 @@ failed-small : (d : ℕ) (e : Error) (q : List Error) (ts : List ℕ) → Holds 
 unfolding failed push front
 failed-small d e q ts = holds-if _ (λ _. h-stop) (λ _. holds-spoil _ (go (q ++ e ∷ [])))
   where
-    go : (p : List Error) → Holds Small (front p λ f q₂. then q₂ (synchronize (level d) false (length ts) q₂ ts) λ u q₃ r. fail f q₃ r)
+    go : (p : List Error) → Holds Small (front p λ f q₂. then q₂ (synchronize (at-depth d) false (length ts) q₂ ts) λ u q₃ r. fail f q₃ r)
     go [] = h-stop
     go (f ∷ q₂) = holds-past q₂ _ λ u q₃ r. h-fail
 
 pub next-small : (d : ℕ) (q : List Error) (ts : List ℕ) → Holds Small (next d q ts)
 unfolding next
-next-small d q ts = holds-past q _ λ u q₁ r. holds-either q₁ (stmt-small (level d) (level-small d) q₁ r) (λ t q₂ s x. h-ok x) (λ e q₂ s. failed-small d e q₂ s)
+next-small d q ts = holds-past q _ λ u q₁ r. holds-either q₁ (stmt-small (at-depth d) (depth-small d) q₁ r) (λ t q₂ s x. h-ok x) (λ e q₂ s. failed-small d e q₂ s)

@@ -18,14 +18,14 @@ use Rattle.tree.specs.Maybe.{Maybe, nothing, just}
 use Rattle.grammar.specs.Reading.Limit.{queue-limit, malformed, too-deep, queue-full}
 use Rattle.grammar.specs.Reading.Result.{Error, Res, ok, bad, fail, stop, spoil, either, then, ifb, push, pop}
 use Rattle.grammar.specs.Reading.Look.{looked, look, expect, expect-pattern, try-label, try-assign-keyword}
-use Rattle.grammar.specs.Reading.Expr.{Level, operators, binop-expr, members, tuple-expr, keyword-alone, expr}
+use Rattle.grammar.specs.Reading.Expr.{Depth, operators, binop-expr, members, tuple-expr, keyword-alone, expr}
 use Rattle.grammar.specs.Reading.Primary.{group-expr, atom-error, literal, atom, indexing-expr, field-name, table-field, table-item, table-items, member-access, invocation, path, primary, unpack-expr}
 use Rattle.grammar.specs.Reading.Block.{body, block-expr, expr-label, branches}
 use Rattle.grammar.specs.Reading.Function.{Param, required, variadic, default, Params, param-mode, variadic-param, plain-param, param, joined, params, function-def, function-assignment-target, function-decl-expr}
 use Rattle.grammar.specs.Reading.Stmt.{loop, while-loop, lvalue-list, for-loop, stmt-label, stmt, control-value, control-flow, not-last, control-last, synchronize, synchronized, caught, stmts}
-use Rattle.grammar.specs.Reading.Level.{primary-expr, unary-expr, level, start, front, failed, next}
+use Rattle.grammar.specs.Reading.Depth.{primary-expr, unary-expr, at-depth}
 use Rattle.grammar.specs.Reading.Number
-use Rattle.grammar.specs.Reading.Next.{is-error, is-stop}
+use Rattle.grammar.specs.Reading.Next.{is-error, is-stop, start, front, failed, next}
 
 -- the number of an error
 abbrev pub IsError : Error → Type 0
@@ -212,7 +212,7 @@ ruleset nums = (n-ok, n-fail, n-then, n-either, n-if, n-push, c-fail, c-then, ke
 abbrev pub Numbered : {A : Type 0} → (List Error → List ℕ → Res A) → Type 0
 Numbered f = (n : ℕ) (q : List Error) (ts : List ℕ) → Waits n q → Num n (f q ts)
 
-pub record Nums (low : Level) : Type 0 where
+pub record Nums (low : Depth) : Type 0 where
   pub n-unary : Numbered (low .unary)
   pub n-right : Numbered (low .right)
   pub n-list : (end : ℕ) → Numbered (low .list end)
@@ -293,7 +293,7 @@ synchronized-nums {n} q ts w = go (look q ts) (look-nums (suc n) q ts w)
     go (fail e p r) (n-fail j v) = n-stays p (n-pop p r v)
     go (stop k) (n-stop x) = n-stop x
 
-module _ (low : Level) (N : Nums low) where
+module _ (low : Depth) (N : Nums low) where
   binop-nums : (l : ℕ) → Numbered (binop-expr low l)
   unfolding binop-expr
   binop-nums zero m q ts w = N .n-unary m q ts w
@@ -454,28 +454,28 @@ module _ (low : Level) (N : Nums low) where
   unfolding unary-expr
   unary-nums = search (nums, look-nums, primary-expr-nums, N .n-unary)
 
-pub level-numbers : (d : ℕ) → Nums (level d)
-unfolding level
-level-numbers zero =
+pub depth-numbers : (d : ℕ) → Nums (at-depth d)
+unfolding at-depth
+depth-numbers zero =
     let deep : IsStop too-deep = (refl, omega arith) in
     record { n-unary = λ n q ts w. n-stop deep; n-right = λ n q ts w. n-stop deep; n-list = λ end n q ts w. n-stop deep }
-level-numbers (suc d) =
+depth-numbers (suc d) =
     record {
-      n-unary = unary-nums (level d) (level-numbers d);
-      n-right = expr-nums (level d) (level-numbers d);
-      n-list = λ end n q ts w. stmts-nums (level d) (level-numbers d) end _ _ n q ts w;
+      n-unary = unary-nums (at-depth d) (depth-numbers d);
+      n-right = expr-nums (at-depth d) (depth-numbers d);
+      n-list = λ end n q ts w. stmts-nums (at-depth d) (depth-numbers d) end _ _ n q ts w;
     }
 
-pub stmt-numbers : (d : ℕ) → Numbered (stmt (level d))
-stmt-numbers d = stmt-nums (level d) (level-numbers d)
+pub stmt-numbers : (d : ℕ) → Numbered (stmt (at-depth d))
+stmt-numbers d = stmt-nums (at-depth d) (depth-numbers d)
 
 failed-nums : (d : ℕ) (e : Error) → IsError e → (n : ℕ) (q : List Error) (ts : List ℕ) → Waits n q → Caught n (failed d e q ts)
 unfolding failed front
 failed-nums d e j n q ts w = c-push e q j w λ q₁ v. go q₁ v
   where
-    go : (q₁ : List Error) → Waits (suc n) q₁ → Num {A = Tree} n (front q₁ λ f q₂. then q₂ (synchronize (level d) false (length ts) q₂ ts) λ u q₃ r. fail f q₃ r)
+    go : (q₁ : List Error) → Waits (suc n) q₁ → Num {A = Tree} n (front q₁ λ f q₂. then q₂ (synchronize (at-depth d) false (length ts) q₂ ts) λ u q₃ r. fail f q₃ r)
     go [] v = absurd (omega (arith, v .many))
-    go (f ∷ q₂) v = let (i, x) = waits-front v in n-caught (c-failing q₂ f i x (synchronize-nums (level d) (level-numbers d) false (length ts) n q₂ ts x))
+    go (f ∷ q₂) v = let (i, x) = waits-front v in n-caught (c-failing q₂ f i x (synchronize-nums (at-depth d) (depth-numbers d) false (length ts) n q₂ ts x))
 
 -- the same at the top level, where a failure may be the end too: error 0, with q waiting as before and X of the words that are left
 pub data Top {A : Type 0} (X : List ℕ → Type 0) (n : ℕ) (q : List Error) : Res A → Type 0 where

@@ -15,12 +15,13 @@ use Rattle.tree.specs.Maybe.{Maybe, nothing, just}
 use Rattle.grammar.specs.Reading.Number
 use Rattle.grammar.specs.Reading.Result.{Error, Res, ok, bad, fail, stop, spoil, either, then, ifb, push, pop}
 use Rattle.grammar.specs.Reading.Look.{looked, look, expect, expect-pattern, try-label, try-assign-keyword}
-use Rattle.grammar.specs.Reading.Expr.{Level, operators, binop-expr, members, tuple-expr, expr}
+use Rattle.grammar.specs.Reading.Expr.{Depth, operators, binop-expr, members, tuple-expr, expr}
 use Rattle.grammar.specs.Reading.Primary.{group-expr, literal, atom, indexing-expr, field-name, table-field, table-item, table-items, member-access, invocation, path, primary, unpack-expr}
 use Rattle.grammar.specs.Reading.Block.{body, block-expr, expr-label, branches}
 use Rattle.grammar.specs.Reading.Function.{Param, required, variadic, default, Params, param-mode, variadic-param, plain-param, param, joined, params, function-def, function-assignment-target, function-decl-expr}
 use Rattle.grammar.specs.Reading.Stmt.{loop, while-loop, lvalue-list, for-loop, stmt-label, stmt, control-value, control-flow, control-last, synchronize, synchronized, caught, stmts}
-use Rattle.grammar.specs.Reading.Level.{primary-expr, unary-expr, level, start, front, failed, next}
+use Rattle.grammar.specs.Reading.Depth.{primary-expr, unary-expr, at-depth}
+use Rattle.grammar.specs.Reading.Next.{start, front, failed, next}
 
 -- of what a success leaves I holds, of what a failure with an error leaves J
 pub data Keep {A : Type 0} (I : List ℕ → Type 0) (J : Error → List ℕ → Type 0) : Res A → Type 0 where
@@ -112,7 +113,7 @@ module _ (I : List ℕ → Type 0) where
   abbrev pub Behind : {A : Type 0} → (List Error → List ℕ → Res A) → Type 0
   Behind f = (q : List Error) (ts : List ℕ) → I ts → Keep I (λ e. I) (f q ts)
 
-  pub record Keeps (low : Level) : Type 0 where
+  pub record Keeps (low : Depth) : Type 0 where
     pub k-unary : First (low .unary)
     pub k-right : First (low .right)
     pub k-list : (end : ℕ) → Behind (low .list end)
@@ -193,7 +194,7 @@ module _ (I : List ℕ → Type 0) (step : Kept I) where
   unfolding synchronized
   synchronized-keeps = search (keeps, look-keeps)
 
-  module _ (low : Level) (K : Keeps I low) where
+  module _ (low : Depth) (K : Keeps I low) where
     pub binop-keeps : (l : ℕ) → First I (binop-expr low l)
     unfolding binop-expr
     binop-keeps zero q ts i = K .k-unary q ts i
@@ -356,19 +357,19 @@ module _ (I : List ℕ → Type 0) (step : Kept I) where
     unfolding unary-expr
     unary-keeps = search (keeps, look-keeps, primary-expr-keeps, K .k-unary)
 
-  pub level-keeps : (d : ℕ) → Keeps I (level d)
-  unfolding level
-  level-keeps zero = record { k-unary = λ q ts i. k-stop; k-right = λ q ts i. k-stop; k-list = λ end q ts i. k-stop }
-  level-keeps (suc d) =
+  pub depth-keeps : (d : ℕ) → Keeps I (at-depth d)
+  unfolding at-depth
+  depth-keeps zero = record { k-unary = λ q ts i. k-stop; k-right = λ q ts i. k-stop; k-list = λ end q ts i. k-stop }
+  depth-keeps (suc d) =
       record {
-        k-unary = unary-keeps (level d) (level-keeps d);
-        k-right = expr-keeps (level d) (level-keeps d);
-        k-list = λ end q ts i. stmts-keeps (level d) (level-keeps d) end _ _ q ts i;
+        k-unary = unary-keeps (at-depth d) (depth-keeps d);
+        k-right = expr-keeps (at-depth d) (depth-keeps d);
+        k-list = λ end q ts i. stmts-keeps (at-depth d) (depth-keeps d) end _ _ q ts i;
       }
 
   failed-keeps : (d : ℕ) (e : Error) → Behind I (failed d e)
   unfolding failed
-  failed-keeps d e = search (keeps, synchronize-keeps, level-keeps) depth 9
+  failed-keeps d e = search (keeps, synchronize-keeps, depth-keeps) depth 9
 
   start-behind : (n : ℕ) → Behind I (start n)
   unfolding start
@@ -377,7 +378,7 @@ module _ (I : List ℕ → Type 0) (step : Kept I) where
 
   pub next-keeps : (d : ℕ) → Behind I (next d)
   unfolding next
-  next-keeps d = search (keeps, start-behind, stmt-keeps, level-keeps, failed-keeps) depth 9
+  next-keeps d = search (keeps, start-behind, stmt-keeps, depth-keeps, failed-keeps) depth 9
 
 -- s is no longer than r
 abbrev pub Left : List ℕ → List ℕ → Type 0
@@ -404,11 +405,11 @@ look-short q [] h = refl
 look-short q (w ∷ []) h = refl
 look-short q (w ∷ (v ∷ r)) h = absurd (omega arith)
 
-pub expr-short : (low : Level) (q : List Error) (ts : List ℕ) → length ts < 2 → expr low q ts ≡ fail Number.end-of-tokens q ts
+pub expr-short : (low : Depth) (q : List Error) (ts : List ℕ) → length ts < 2 → expr low q ts ≡ fail Number.end-of-tokens q ts
 unfolding expr try-assign-keyword then
 expr-short low q ts h = rw (look-short q ts h)
 
-stmt-short : (low : Level) (q : List Error) (ts : List ℕ) → length ts < 2 → stmt low q ts ≡ fail Number.end-of-tokens q ts
+stmt-short : (low : Depth) (q : List Error) (ts : List ℕ) → length ts < 2 → stmt low q ts ≡ fail Number.end-of-tokens q ts
 unfolding stmt then
 stmt-short low q ts h = rw (look-short q ts h)
 
@@ -431,11 +432,11 @@ module _ {A : Type 0} (f : List Error → List ℕ → Res A) (h : (I : List ℕ
   takes q ts (short l) = rw (s q ts l) (k-fail (inr l))
   takes q (w ∷ (v ∷ r)) some = k-weaken (λ t i. omega arith) (λ e t i. inl (omega arith)) (h (Left r) (left-step r) q (w ∷ v ∷ r) (past (omega arith)))
 
-pub expr-takes : (d : ℕ) (q : List Error) (ts : List ℕ) → Takes ts (expr (level d) q ts)
-expr-takes d q ts = takes (expr (level d)) (search (expr-keeps, level-keeps)) (expr-short (level d)) q ts (words ts)
+pub expr-takes : (d : ℕ) (q : List Error) (ts : List ℕ) → Takes ts (expr (at-depth d) q ts)
+expr-takes d q ts = takes (expr (at-depth d)) (search (expr-keeps, depth-keeps)) (expr-short (at-depth d)) q ts (words ts)
 
-pub stmt-takes : (d : ℕ) (q : List Error) (ts : List ℕ) → Takes ts (stmt (level d) q ts)
-stmt-takes d q ts = takes (stmt (level d)) (search (stmt-keeps, level-keeps)) (stmt-short (level d)) q ts (words ts)
+pub stmt-takes : (d : ℕ) (q : List Error) (ts : List ℕ) → Takes ts (stmt (at-depth d) q ts)
+stmt-takes d q ts = takes (stmt (at-depth d)) (search (stmt-keeps, depth-keeps)) (stmt-short (at-depth d)) q ts (words ts)
 
 -- a failure takes a token, or it is the end, error 0
 abbrev pub Ended : List ℕ → Error → List ℕ → Type 0

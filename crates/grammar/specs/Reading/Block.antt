@@ -10,7 +10,7 @@ use Rattle.tree.specs.Node
 use Rattle.grammar.specs.Reading.Number
 use Rattle.grammar.specs.Reading.Result.{Error, Res, ok, fail, then, ifb}
 use Rattle.grammar.specs.Reading.Look.{look, expect}
-use Rattle.grammar.specs.Reading.Expr.{Level, Stmts, expr}
+use Rattle.grammar.specs.Reading.Expr.{Depth, Stmts, until-end, until-branch, expr}
 
 -- statements with a last expression statement taken off, if the last one is one
 pub data Split : Type 0 where
@@ -45,33 +45,34 @@ block-of s =
     (λ _. block-split (split (s .suite)))
     (λ _. Node.expr-block (Node.stmt-list (s .suite) (s .control)) Node.absent)
 
--- the ends of a statement list, by number: 0 `End`; 1 `Elif`, `Else` and `End`.
--- A list up to `End`, and one token, unseen: behind a control that was not last it may be any
-unfoldable pub body : Level → List Error → List ℕ → Res Stmts
+-- a list up to `End`, and one token, unseen: behind a control that was not last it may be any. Where there is none, or a lexer error, the Rust panics;
+-- here the look fails with 2 or 1
+unfoldable pub body : Depth → List Error → List ℕ → Res Stmts
 body low q ts =
-    then q (low .list 0 q ts) λ s q₁ r.
+    then q (low .list until-end q ts) λ s q₁ r.
     then q₁ (look q₁ r) λ tok q₂ rest.
     ok s rest
 
 -- `parse_block_expr`, behind `begin`, with a label, 0 or 1 + its name
-unfoldable pub block-expr : Level → ℕ → List Error → List ℕ → Res Tree
+unfoldable pub block-expr : Depth → ℕ → List Error → List ℕ → Res Tree
 block-expr low l q ts =
     then q (body low q ts) λ s q₁ r.
     ok (Node.block l (block-of s)) r
 
 -- `parse_expr_label`, behind the label
-unfoldable pub expr-label : Level → ℕ → List Error → List ℕ → Res Tree
+unfoldable pub expr-label : Depth → ℕ → List Error → List ℕ → Res Tree
 expr-label low l q ts =
     then q (look q ts) λ tok q₁ rest.
     ifb (eqb (tok .kind) Kind.Begin) (λ _. block-expr low l q rest) (λ _. fail Number.label-alone q ts)
 
--- the branches of a conditional, after some. Any token but `End` and `Else` behind a branch acts as `Elif`
-unfoldable pub branches : Level → ℕ → Forest → List Error → List ℕ → Res Tree
+-- the branches of a conditional, after some. Any token but `End` and `Else` behind a branch acts as `Elif`; where there is none, or a lexer error, the Rust
+-- panics, and here the look fails with 2 or 1
+unfoldable pub branches : Depth → ℕ → Forest → List Error → List ℕ → Res Tree
 branches low zero f q ts = fail Number.end-of-tokens q ts
 branches low (suc n) f q ts =
     then q (expr low q ts) λ condition q₁ r.
     then q₁ (expect Kind.Then Number.missing-then q₁ r) λ tok q₂ s.
-    then q₂ (low .list 1 q₂ s) λ b q₃ u.
+    then q₂ (low .list until-branch q₂ s) λ b q₃ u.
     then q₃ (look q₃ u) λ tok₂ q₄ rest.
     ifb (eqb (tok₂ .kind) Kind.End) (λ _. ok (Node.if-expr (snoc f (Node.conditional-branch condition (block-of b))) Node.absent) rest) λ _.
     ifb (eqb (tok₂ .kind) Kind.Else)
@@ -79,5 +80,5 @@ branches low (suc n) f q ts =
     (λ _. branches low n (snoc f (Node.conditional-branch condition (block-of b))) q₃ rest)
 
 -- `parse_if_expr`, behind `if`
-abbrev pub if-expr : Level → List Error → List ℕ → Res Tree
+abbrev pub if-expr : Depth → List Error → List ℕ → Res Tree
 if-expr low q ts = branches low (length ts) none q ts

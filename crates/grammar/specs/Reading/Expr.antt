@@ -19,8 +19,15 @@ pub record Stmts : Type 0 where
   pub suite : Forest
   pub control : Tree
 
--- the readings that document 01 counts for the depth: an operand, the right side of an assignment, a statement list up to its end
-pub record Level : Type 0 where
+-- where a statement list ends, by number: before `End`; in a branch of a conditional before `Elif` and `Else` too
+abbrev pub until-end : ℕ
+until-end = 0
+
+abbrev pub until-branch : ℕ
+until-branch = 1
+
+-- the readings that document 01 counts for the depth, as they are with one depth less: an operand, the right side of an assignment, a statement list up to its end
+pub record Depth : Type 0 where
   pub unary : List Error → List ℕ → Res Tree
   pub right : List Error → List ℕ → Res Tree
   pub list : ℕ → List Error → List ℕ → Res Stmts
@@ -34,19 +41,19 @@ operators operand l (suc n) left q ts =
     (λ _. then q (operand q rest) λ right q₂ r. operators operand l n (Node.binary-op (op-number (tok .kind)) left right) q₂ r)
     (λ _. ok left ts)
 
--- `parse_binop_expr_levels`
-unfoldable pub binop-expr : Level → ℕ → List Error → List ℕ → Res Tree
+-- `parse_binop_expr_levels`; level 0 is `PRECEDENCE_END`
+unfoldable pub binop-expr : Depth → ℕ → List Error → List ℕ → Res Tree
 binop-expr low zero q ts = low .unary q ts
 binop-expr low (suc l) q ts =
     then q (binop-expr low l q ts) λ left q₁ r.
     operators (binop-expr low l) (suc l) (length r) left q₁ r
 
--- `parse_inner_expr`, from `PRECEDENCE_START` on
-abbrev pub inner-expr : Level → List Error → List ℕ → Res Tree
+-- `parse_inner_expr` and `parse_binop_expr`, from `PRECEDENCE_START` on
+abbrev pub inner-expr : Depth → List Error → List ℕ → Res Tree
 inner-expr low = binop-expr low 10
 
 -- the members of a tuple, after some; a last comma counts only before `CloseParen`
-unfoldable pub members : Level → ℕ → Forest → List Error → List ℕ → Res Tree
+unfoldable pub members : Depth → ℕ → Forest → List Error → List ℕ → Res Tree
 members low zero f q ts = fail Number.end-of-tokens q ts
 members low (suc n) f q ts =
     then q (look q ts) λ tok q₁ rest.
@@ -57,7 +64,7 @@ members low (suc n) f q ts =
     (λ _. ok (Node.tuple f) ts)
 
 -- `parse_tuple_expr`
-unfoldable pub tuple-expr : Level → List Error → List ℕ → Res Tree
+unfoldable pub tuple-expr : Depth → List Error → List ℕ → Res Tree
 tuple-expr low q ts =
     then q (inner-expr low q ts) λ t q₁ r.
     then q₁ (look q₁ r) λ tok q₂ rest.
@@ -66,13 +73,13 @@ tuple-expr low q ts =
 -- a keyword, 1 + its action, that no assignment follows
 abbrev pub keyword-alone : ℕ → Error
 keyword-alone m =
-    cond (eqb m 1) Number.local-alone
-    (cond (eqb m 2) Number.nonlocal-alone
-    (cond (eqb m 3) Number.let-alone
+    cond (eqb m (suc Node.assign-local)) Number.local-alone
+    (cond (eqb m (suc Node.assign-non-local)) Number.nonlocal-alone
+    (cond (eqb m (suc Node.decl-immutable)) Number.let-alone
     Number.var-alone))
 
 -- `parse_assignment_expr`, and so `parse_expr_variant` and `parse_expr`
-unfoldable pub expr : Level → List Error → List ℕ → Res Tree
+unfoldable pub expr : Depth → List Error → List ℕ → Res Tree
 expr low q ts =
     then q (try-assign-keyword q ts) λ m q₁ r.
     then q₁ (tuple-expr low q₁ r) λ lhs q₂ s.

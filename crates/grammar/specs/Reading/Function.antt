@@ -12,7 +12,7 @@ use Rattle.grammar.specs.Reading.Pattern.{to-pattern}
 use Rattle.grammar.specs.Reading.Number
 use Rattle.grammar.specs.Reading.Result.{Error, Res, ok, fail, then, ifb}
 use Rattle.grammar.specs.Reading.Look.{look, expect, expect-pattern}
-use Rattle.grammar.specs.Reading.Expr.{Level, expr}
+use Rattle.grammar.specs.Reading.Expr.{Depth, expr}
 use Rattle.grammar.specs.Reading.Primary.{atom, path, with-path}
 use Rattle.grammar.specs.Reading.Block.{body, block-of}
 
@@ -27,13 +27,13 @@ pub record Params : Type 0 where
   pub default-list : Forest
   pub variadic-one : Tree
 
--- the access before a parameter's name; anything but a name behind it is left
+-- the access before a parameter's name: `var` and `let` are taken. Any other token is left: a name, whose access is `ReadOnly`, or what is no parameter
 unfoldable pub param-mode : List Error → List ℕ → Res ℕ
 param-mode q ts =
     then q (look q ts) λ tok q₁ rest.
-    ifb (eqb (tok .kind) Kind.Var) (λ _. ok 1 rest) λ _.
-    ifb (eqb (tok .kind) Kind.Let) (λ _. ok 0 rest) λ _.
-    ifb (eqb (tok .kind) Kind.Identifier) (λ _. ok 0 ts) λ _.
+    ifb (eqb (tok .kind) Kind.Var) (λ _. ok Node.read-write rest) λ _.
+    ifb (eqb (tok .kind) Kind.Let) (λ _. ok Node.read-only rest) λ _.
+    ifb (eqb (tok .kind) Kind.Identifier) (λ _. ok Node.read-only ts) λ _.
     fail Number.invalid-param q ts
 
 -- behind a variadic parameter: no default
@@ -43,13 +43,13 @@ variadic-param v q ts =
     ifb (eqb (tok .kind) Kind.OpAssign) (λ _. fail Number.variadic-default q ts) (λ _. ok (variadic v) ts)
 
 -- behind the name of a parameter that is not variadic: perhaps a default, which takes commas into a tuple
-unfoldable pub plain-param : Level → ℕ → List Error → List ℕ → Res Param
+unfoldable pub plain-param : Depth → ℕ → List Error → List ℕ → Res Param
 plain-param low v q ts =
     then q (look q ts) λ tok q₁ rest.
     ifb (eqb (tok .kind) Kind.OpAssign) (λ _. then q (expr low q rest) λ e q₂ r. ok (default v e) r) (λ _. ok (required v) ts)
 
 -- one parameter, up to what must be a comma or `)`
-unfoldable pub param : Level → List Error → List ℕ → Res Param
+unfoldable pub param : Depth → List Error → List ℕ → Res Param
 param low q ts =
     then q (param-mode q ts) λ mode q₁ r.
     then q₁ (expect Kind.Identifier Number.invalid-param q₁ r) λ name q₂ s.
@@ -75,7 +75,8 @@ joined ps (required v) k q ts =
     (λ _. fail Number.param-order q ts))
     (λ _. fail Number.invalid-param q ts)
 
-unfoldable pub params : Level → ℕ → Params → List Error → List ℕ → Res Params
+-- the parameters of a list, after some
+unfoldable pub params : Depth → ℕ → Params → List Error → List ℕ → Res Params
 params low zero ps q ts = fail Number.end-of-tokens q ts
 params low (suc n) ps q ts =
     then q (look q ts) λ tok q₁ rest.
@@ -86,11 +87,11 @@ params low (suc n) ps q ts =
     ifb (eqb (tok₂ .kind) Kind.Comma) (λ _. params low n ps₂ q₂ rest₂) (λ _. params low n ps₂ q₂ r)
 
 -- `parse_function_param_list`
-abbrev pub function-param-list : Level → List Error → List ℕ → Res Params
+abbrev pub function-param-list : Depth → List Error → List ℕ → Res Params
 function-param-list low q ts = params low (length ts) (record { required-list = none; default-list = none; variadic-one = Node.absent }) q ts
 
 -- `parse_function_def`; name is what the signature has for a name, 0 or 1 + it
-unfoldable pub function-def : Level → ℕ → List Error → List ℕ → Res Tree
+unfoldable pub function-def : Depth → ℕ → List Error → List ℕ → Res Tree
 function-def low name q ts =
     then q (expect Kind.OpenParen Number.params-opening q ts) λ tok q₁ r.
     then q₁ (function-param-list low q₁ r) λ ps q₂ s.
@@ -99,7 +100,7 @@ function-def low name q ts =
     ok (Node.function-def (Node.signature-def name (ps .required-list) (ps .default-list) (ps .variadic-one)) (block-of b)) x
 
 -- `parse_function_assignment_target`: no invocation in its path
-unfoldable pub function-assignment-target : Level → List Error → List ℕ → Res Tree
+unfoldable pub function-assignment-target : Depth → List Error → List ℕ → Res Tree
 function-assignment-target low q ts =
     then q (atom low q ts) λ a q₁ r.
     then q₁ (path low false (length r) none q₁ r) λ f q₂ s.
@@ -110,10 +111,10 @@ abbrev pub target-name : Tree → ℕ
 target-name (node k v f) = cond (eqb k NodeKind.IdentifierPattern) (suc v) 0
 
 -- `parse_function_decl_expr`, behind `fun`: with a target it is an assignment, as after `let`
-unfoldable pub function-decl-expr : Level → List Error → List ℕ → Res Tree
+unfoldable pub function-decl-expr : Depth → List Error → List ℕ → Res Tree
 function-decl-expr low q ts =
     then q (look q ts) λ tok q₁ rest.
     ifb (eqb (tok .kind) Kind.OpenParen) (λ _. function-def low 0 q ts) λ _.
     then q (function-assignment-target low q ts) λ p q₂ r.
     then q₂ (function-def low (target-name p) q₂ r) λ d q₃ s.
-    ok (Node.assignment 2 0 p d) s
+    ok (Node.assignment Node.decl-immutable 0 p d) s

@@ -9,18 +9,20 @@ use Rattle.token.specs.declared.Token.{Token}
 use Rattle.token.specs.declared.Seen.{Seen}
 use Rattle.token.specs.declared.Seen.the-variants.{Good, LexerError, Nothing, Bad}
 use Rattle.tree.specs.Tree.{Tree}
+use Rattle.tree.specs.Node
 use Rattle.tree.specs.Maybe.{Maybe, nothing, just}
 use Rattle.grammar.specs.Reading.Limit.{malformed}
 use Rattle.grammar.specs.Reading.Number
 use Rattle.grammar.specs.Reading.Result.{Error, Res, ok, fail, stop, then, ifb}
 
--- a lexer error is taken, also by a peek; a bad record stops the reading
+-- a lexer error is taken, also by a peek; a bad record stops the reading. Two words are never `Nothing`: that clause is never reached
 unfoldable pub looked : List Error → List ℕ → Seen → Res Token
 looked q rest (Good tok) = ok tok rest
 looked q rest LexerError = fail Number.lexer-error q rest
 looked q rest Nothing = fail Number.end-of-tokens q rest
 looked q rest Bad = stop malformed
 
+-- the next token: two words, and what stands behind them
 unfoldable pub look : List Error → List ℕ → Res Token
 look q [] = fail Number.end-of-tokens q []
 look q (w ∷ []) = fail Number.end-of-tokens q (w ∷ [])
@@ -46,10 +48,10 @@ try-label q ts =
 -- 0, or 1 + the `MatchAction` of a keyword
 abbrev pub keyword : ℕ → ℕ
 keyword k =
-    cond (eqb k Kind.Local) 1
-    (cond (eqb k Kind.NonLocal) 2
-    (cond (eqb k Kind.Let) 3
-    (cond (eqb k Kind.Var) 4
+    cond (eqb k Kind.Local) (suc Node.assign-local)
+    (cond (eqb k Kind.NonLocal) (suc Node.assign-non-local)
+    (cond (eqb k Kind.Let) (suc Node.decl-immutable)
+    (cond (eqb k Kind.Var) (suc Node.decl-mutable)
     0)))
 
 -- `try_parse_assign_keyword`: 0, or 1 + the `MatchAction`
@@ -58,7 +60,7 @@ try-assign-keyword q ts =
     then q (look q ts) λ tok q₁ rest.
     ifb (eqb (keyword (tok .kind)) 0) (λ _. ok 0 ts) (λ _. ok (keyword (tok .kind)) rest)
 
--- the action of an assignment: `AssignLocal`, 0, without a keyword
+-- the action of an assignment with this keyword, or without one
 abbrev pub action : ℕ → ℕ
-action zero = 0
+action zero = Node.assign-local
 action (suc a) = a

@@ -1,22 +1,52 @@
--- A reading call as a whole: of a reader, a sheet's words and a store of m words, the answer, the reader that comes back and every word of the store.
--- Definitions; they assume nothing.
+-- `next_stmt`: a statement at the top level, and a reading call as a whole: of a reader, a sheet's words and a store of m words, the answer, the reader that
+-- comes back and every word of the store. Definitions; they assume nothing.
 use mathlib.Core.Path.{_≡_}
 use mathlib.Core.Bool.{Bool, true, false, cond, _&&_, _||_}
 use mathlib.Core.List.{List, [], _∷_, _++_}
 use Prim.Native.Nat.{ℕ, zero, suc, _-_, _*_, _/_, _%_, _≤_}
 use lib.Dec.{eqb, leb, ltb}
 use lib.ListN.{length, take, drop, replicate}
+use Rattle.token.specs.Kind
 use Rattle.tree.specs.Tree.{Tree, records}
 use Rattle.grammar.specs.Reading.Limit.{depth-limit, length-limit, queue-limit, store-share, malformed, too-deep, queue-full, bad-reader, short-store}
 use Rattle.grammar.specs.Reading.Number
-use Rattle.grammar.specs.Reading.Result.{Error, Res, ok, bad, fail, stop, ifb}
-use Rattle.grammar.specs.Reading.Level.{next}
+use Rattle.grammar.specs.Reading.Result.{Error, Res, ok, bad, fail, stop, either, then, ifb, push}
+use Rattle.grammar.specs.Reading.Look.{look}
+use Rattle.grammar.specs.Reading.Stmt.{stmt, synchronize}
+use Rattle.grammar.specs.Reading.Depth.{at-depth}
 use Rattle.grammar.specs.declared.ErrorKind.{ErrorKind}
 use Rattle.grammar.specs.declared.ErrorKind.the-variants.{LexerError, EndofTokenStream, SyntaxError}
 use Rattle.grammar.specs.declared.Answer.{Answer}
 use Rattle.grammar.specs.declared.Answer.the-variants.{Tree as ATree, Error as AError, End, Stopped, Refused}
 use Rattle.grammar.specs.declared.Reader.{Reader}
 use Rattle.grammar.specs.declared.Stepped.{Stepped}
+
+-- at the top level separators are passed over; `EOF`, which stays unread, or no token is the end
+unfoldable pub start : ℕ → List Error → List ℕ → Res (Unit {0})
+start zero q ts = fail Number.end q ts
+start (suc n) q ts =
+    either q (look q ts)
+    (λ tok q₁ rest. ifb (eqb (tok .kind) Kind.EOF) (λ _. fail Number.end q ts) λ _.
+    ifb (eqb (tok .kind) Kind.Semicolon) (λ _. start n q rest) λ _.
+    ok tt ts)
+    (λ e q₁ r. ifb (eqb e Number.end-of-tokens) (λ _. fail Number.end q ts) (λ _. fail e q r))
+
+-- the front of the queue, and the others. The queue is not empty, since its caller has pushed an error: the first clause is never reached
+unfoldable pub front : {A : Type 0} → List Error → (Error → List Error → Res A) → Res A
+front [] k = stop queue-full
+front (e ∷ q) k = k e q
+
+-- a statement failed: its error joins the queue's back, the front is the answer, and then comes the resynchronization
+unfoldable pub failed : ℕ → Error → List Error → List ℕ → Res Tree
+failed d e q ts =
+    push e q λ q₁. front q₁ λ f q₂.
+    then q₂ (synchronize (at-depth d) false (length ts) q₂ ts) λ u q₃ r. fail f q₃ r
+
+-- `next_stmt` where no error waits, with d depths. A tree is answered before the errors that wait behind it
+unfoldable pub next : ℕ → List Error → List ℕ → Res Tree
+next d q ts =
+    then q (start (length ts) q ts) λ u q₁ r.
+    either q₁ (stmt (at-depth d) q₁ r) (λ t q₂ s. ok t s) (failed d)
 
 -- document 01's number for each case of an answer; a tree and the end have none, 0
 abbrev pub kind-number : ErrorKind → ℕ
@@ -82,9 +112,8 @@ bare m a R = record { step = record { answer = a; reader = R }; store = replicat
 abbrev pub halted : ℕ → ℕ → ℕ → Called
 halted m p n = bare m (Stopped n) (record { position = p; waiting = 0; errors = pad []; stopped = n })
 
--- error 0 is the end
 unfoldable pub error-answer : Error → Answer
-error-answer e = ifb (eqb e 0) (λ _. End) (λ _. AError (error-kind e))
+error-answer e = ifb (eqb e Number.end) (λ _. End) (λ _. AError (error-kind e))
 
 abbrev pub tree-called : ℕ → ℕ → List ℕ → List Error → Called
 tree-called m p words q = record { step = record { answer = ATree (length words / 2); reader = reader-at p q }; store = words ++ replicate (m - length words) 0 }
@@ -96,7 +125,7 @@ called n m p (bad t q r) = tree-called m (n - length r / 2) (records t) q
 called n m p (fail e q r) = bare m (error-answer e) (reader-at (n - length r / 2) q)
 called n m p (stop k) = halted m p k
 
--- the error that waited longest is answered
+-- the error that waited longest is answered. One waits: the first clause is reached only for a reader whose array has no place, and there is none
 abbrev pub answered : ℕ → Reader → List Error → Called
 answered m R [] = bare m End R
 answered m R (e ∷ q) = bare m (AError (error-kind e)) (reader-at (R .position) q)

@@ -13,7 +13,7 @@ use Rattle.tree.specs.Node
 use Rattle.grammar.specs.Reading.Number
 use Rattle.grammar.specs.Reading.Result.{Error, Res, ok, fail, then, ifb}
 use Rattle.grammar.specs.Reading.Look.{look, expect, try-assign-keyword}
-use Rattle.grammar.specs.Reading.Expr.{Level, inner-expr, expr}
+use Rattle.grammar.specs.Reading.Expr.{Depth, inner-expr, expr}
 
 -- a group's modifier, 0 or 1 + its action, is handed to an assignment inside
 abbrev pub with-action : ℕ → Tree → Tree
@@ -21,7 +21,7 @@ with-action zero e = e
 with-action (suc a) (node k v f) = cond (eqb k NodeKind.Assignment) (node k (a + 4 * (v / 4)) f) (node k v f)
 
 -- `parse_group_expr`, behind `(`
-unfoldable pub group-expr : Level → List Error → List ℕ → Res Tree
+unfoldable pub group-expr : Depth → List Error → List ℕ → Res Tree
 group-expr low q ts =
     then q (look q ts) λ tok q₁ rest.
     ifb (eqb (tok .kind) Kind.CloseParen) (λ _. ok Node.empty-tuple rest) λ _.
@@ -58,13 +58,13 @@ literal tok q rest =
     fail (atom-error (tok .kind)) q rest
 
 -- `parse_atom`
-unfoldable pub atom : Level → List Error → List ℕ → Res Tree
+unfoldable pub atom : Depth → List Error → List ℕ → Res Tree
 atom low q ts =
     then q (look q ts) λ tok q₁ rest.
     ifb (eqb (tok .kind) Kind.OpenParen) (λ _. group-expr low q rest) (λ _. literal tok q rest)
 
--- `parse_indexing_expr`, behind `[`
-unfoldable pub indexing-expr : Level → List Error → List ℕ → Res Tree
+-- `parse_indexing_expr`, behind `[`, and so `parse_index_access`
+unfoldable pub indexing-expr : Depth → List Error → List ℕ → Res Tree
 indexing-expr low q ts =
     then q (expr low q ts) λ e q₁ r.
     then q₁ (expect Kind.CloseSquare Number.index-closing q₁ r) λ tok q₂ s.
@@ -77,17 +77,17 @@ field-name access e q ts =
     ok (Node.field-attribute (Node.named (tok .value) access)) r
 
 -- `parse_table_field`
-unfoldable pub table-field : Level → List Error → List ℕ → Res Tree
+unfoldable pub table-field : Depth → List Error → List ℕ → Res Tree
 table-field low q ts =
     then q (look q ts) λ tok q₁ rest.
     ifb (eqb (tok .kind) Kind.OpenSquare) (λ _. then q (indexing-expr low q rest) λ e q₂ r. ok (Node.field-index e) r) λ _.
-    ifb (eqb (tok .kind) Kind.Var) (λ _. field-name 1 Number.name-after-var q rest) λ _.
-    ifb (eqb (tok .kind) Kind.Let) (λ _. field-name 0 Number.name-after-let q rest) λ _.
-    ifb (eqb (tok .kind) Kind.Identifier) (λ _. ok (Node.field-attribute (Node.named (tok .value) 0)) rest) λ _.
+    ifb (eqb (tok .kind) Kind.Var) (λ _. field-name Node.read-write Number.name-after-var q rest) λ _.
+    ifb (eqb (tok .kind) Kind.Let) (λ _. field-name Node.read-only Number.name-after-let q rest) λ _.
+    ifb (eqb (tok .kind) Kind.Identifier) (λ _. ok (Node.field-attribute (Node.named (tok .value) Node.read-only)) rest) λ _.
     fail Number.invalid-field q rest
 
 -- one `TableItem`
-unfoldable pub table-item : Level → List Error → List ℕ → Res Tree
+unfoldable pub table-item : Depth → List Error → List ℕ → Res Tree
 table-item low q ts =
     then q (table-field low q ts) λ field q₁ r.
     then q₁ (expect Kind.OpAssign Number.missing-assign q₁ r) λ tok q₂ s.
@@ -95,7 +95,7 @@ table-item low q ts =
     ok (Node.table-item field e) u
 
 -- the items of a table, after some
-unfoldable pub table-items : Level → ℕ → Forest → List Error → List ℕ → Res Forest
+unfoldable pub table-items : Depth → ℕ → Forest → List Error → List ℕ → Res Forest
 table-items low zero f q ts = fail Number.end-of-tokens q ts
 table-items low (suc n) f q ts =
     then q (look q ts) λ tok q₁ rest.
@@ -106,7 +106,7 @@ table-items low (suc n) f q ts =
     ifb (eqb (tok₂ .kind) Kind.CloseBrace) (λ _. ok (snoc f item) rest₂) (λ _. fail Number.table-closing q₂ rest₂)
 
 -- `parse_table_literal`, behind `{`
-abbrev pub table-literal : Level → List Error → List ℕ → Res Forest
+abbrev pub table-literal : Depth → List Error → List ℕ → Res Forest
 table-literal low q ts = table-items low (length ts) none q ts
 
 -- `parse_member_access`, behind `.`
@@ -115,7 +115,7 @@ member-access q ts =
     then q (expect Kind.Identifier Number.member-name q ts) λ tok q₁ r.
     ok (Node.attribute (tok .value)) r
 
--- the children of a list node that is alone
+-- the children of a list node that is alone, as a tuple has; the first clause is never reached
 abbrev pub list-members : Forest → Forest
 list-members none = none
 list-members (more (node k v f) g) = f
@@ -125,7 +125,7 @@ abbrev pub arguments : Tree → Forest
 arguments (node k v f) = cond (eqb k NodeKind.Tuple) (list-members f) (one (node k v f))
 
 -- `parse_invocation`, behind `(`
-unfoldable pub invocation : Level → List Error → List ℕ → Res Tree
+unfoldable pub invocation : Depth → List Error → List ℕ → Res Tree
 invocation low q ts =
     then q (look q ts) λ tok q₁ rest.
     ifb (eqb (tok .kind) Kind.CloseParen) (λ _. ok (Node.invoke none) rest) λ _.
@@ -134,7 +134,7 @@ invocation low q ts =
     ok (Node.invoke (arguments e)) s
 
 -- the access items behind an atom, after some. `calls`: invocations are allowed, where they begin on the same line
-unfoldable pub path : Level → Bool → ℕ → Forest → List Error → List ℕ → Res Forest
+unfoldable pub path : Depth → Bool → ℕ → Forest → List Error → List ℕ → Res Forest
 path low calls zero f q ts = fail Number.end-of-tokens q ts
 path low calls (suc n) f q ts =
     then q (look q ts) λ tok q₁ rest.
@@ -150,14 +150,14 @@ with-path a none = a
 with-path a (more i f) = Node.primary a (more i f)
 
 -- `parse_primary`
-unfoldable pub primary : Level → List Error → List ℕ → Res Tree
+unfoldable pub primary : Depth → List Error → List ℕ → Res Tree
 primary low q ts =
     then q (atom low q ts) λ a q₁ r.
     then q₁ (path low true (length r) none q₁ r) λ f q₂ s.
     ok (with-path a f) s
 
 -- `parse_unpack_expr`
-unfoldable pub unpack-expr : Level → List Error → List ℕ → Res Tree
+unfoldable pub unpack-expr : Depth → List Error → List ℕ → Res Tree
 unpack-expr low q ts =
     then q (look q ts) λ tok q₁ rest.
     ifb (eqb (tok .kind) Kind.Ellipsis) (λ _. ok (Node.unpack Node.absent) rest) λ _.

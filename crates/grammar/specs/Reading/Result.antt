@@ -1,5 +1,7 @@
 -- What a reading comes to, and how readings are put together. Definitions; they assume nothing.
 -- A reading takes the errors that wait and the words that are left. Every nonterminal is written with the functions of this file.
+-- A loop recurses on a count that is no less than the words left. So where the count is 0 no word is left, and the loop's clause for 0 says what a missing token
+-- leads to there (Laws/Count.antt: the count decides nothing).
 use mathlib.Core.Bool.{Bool, true, false}
 use mathlib.Core.List.{List, [], _∷_, _++_}
 use Prim.Native.Nat.{ℕ}
@@ -50,7 +52,7 @@ ifb false f g = g tt
 unfoldable pub push : {A : Type 0} → Error → List Error → (List Error → Res A) → Res A
 push e q k = ifb (eqb (length q) queue-limit) (λ _. stop queue-full) (λ _. spoil (q ++ e ∷ []) (k (q ++ e ∷ [])))
 
--- `pop_front`: the error at the queue's front is on its way; its callers have pushed one, so the queue is never empty
+-- `pop_front`: the error at the queue's front is on its way. Its callers have pushed one: the first clause is never reached
 unfoldable pub pop : {A : Type 0} → List Error → List ℕ → Res A
 pop [] r = fail Number.end-of-tokens [] r
 pop (e ∷ q) r = fail e q r

@@ -12,20 +12,20 @@ use Rattle.grammar.specs.Reading.Pattern.{to-pattern, modified}
 use Rattle.grammar.specs.Reading.Number
 use Rattle.grammar.specs.Reading.Result.{Error, Res, ok, bad, fail, either, then, ifb, push, pop}
 use Rattle.grammar.specs.Reading.Look.{look, expect, expect-pattern, try-label, try-assign-keyword}
-use Rattle.grammar.specs.Reading.Expr.{Level, Stmts, tuple-expr, expr}
+use Rattle.grammar.specs.Reading.Expr.{Depth, Stmts, until-branch, tuple-expr, expr}
 use Rattle.grammar.specs.Reading.Block.{body}
 
 abbrev pub stmt-list-of : Stmts → Tree
 stmt-list-of s = Node.stmt-list (s .suite) (s .control)
 
 -- `parse_loop`, behind `loop`, with a label, 0 or 1 + its name
-unfoldable pub loop : Level → ℕ → List Error → List ℕ → Res Tree
+unfoldable pub loop : Depth → ℕ → List Error → List ℕ → Res Tree
 loop low l q ts =
     then q (body low q ts) λ s q₁ r.
     ok (Node.loop l (stmt-list-of s)) r
 
 -- `parse_while_loop`, behind `while`
-unfoldable pub while-loop : Level → ℕ → List Error → List ℕ → Res Tree
+unfoldable pub while-loop : Depth → ℕ → List Error → List ℕ → Res Tree
 while-loop low l q ts =
     then q (expr low q ts) λ condition q₁ r.
     then q₁ (expect Kind.Do Number.missing-do q₁ r) λ tok q₂ s.
@@ -33,7 +33,7 @@ while-loop low l q ts =
     ok (Node.while-loop l condition (stmt-list-of b)) u
 
 -- `parse_lvalue_list`
-unfoldable pub lvalue-list : Level → List Error → List ℕ → Res Tree
+unfoldable pub lvalue-list : Depth → List Error → List ℕ → Res Tree
 lvalue-list low q ts =
     then q (try-assign-keyword q ts) λ m q₁ r.
     then q₁ (tuple-expr low q₁ r) λ t q₂ s.
@@ -41,7 +41,7 @@ lvalue-list low q ts =
     ok (modified m p) u
 
 -- `parse_for_loop`, behind `for`
-unfoldable pub for-loop : Level → ℕ → List Error → List ℕ → Res Tree
+unfoldable pub for-loop : Depth → ℕ → List Error → List ℕ → Res Tree
 for-loop low l q ts =
     then q (lvalue-list low q ts) λ pattern q₁ r.
     then q₁ (expect Kind.In Number.missing-do q₁ r) λ tok q₂ s.
@@ -51,7 +51,7 @@ for-loop low l q ts =
     ok (Node.for-loop l pattern iter (stmt-list-of b)) y
 
 -- `parse_stmt_label`, behind the label
-unfoldable pub stmt-label : Level → ℕ → List Error → List ℕ → Res Tree
+unfoldable pub stmt-label : Depth → ℕ → List Error → List ℕ → Res Tree
 stmt-label low l q ts =
     then q (look q ts) λ tok q₁ rest.
     ifb (eqb (tok .kind) Kind.Loop) (λ _. loop low l q rest) λ _.
@@ -63,8 +63,8 @@ stmt-label low l q ts =
 abbrev pub lone-ellipsis : Tree → Bool
 lone-ellipsis (node k v f) = eqb k NodeKind.Unpack && eqb (head-kind f) NodeKind.Absent
 
--- `parse_stmt`, whose callers have passed over separators
-unfoldable pub stmt : Level → List Error → List ℕ → Res Tree
+-- `parse_stmt`, whose callers have passed over separators, and `parse_stmt_variant`
+unfoldable pub stmt : Depth → List Error → List ℕ → Res Tree
 stmt low q ts =
     then q (look q ts) λ tok q₁ rest.
     ifb (eqb (tok .kind) Kind.Loop) (λ _. loop low 0 q rest) λ _.
@@ -80,19 +80,19 @@ stmt low q ts =
 
 -- the token that ends a list: by the number of its ends
 abbrev pub ends : ℕ → ℕ → Bool
-ends end k = eqb k Kind.End || (eqb end 1 && (eqb k Kind.Elif || eqb k Kind.Else))
+ends end k = eqb k Kind.End || (eqb end until-branch && (eqb k Kind.Elif || eqb k Kind.Else))
 
 -- the value of a break or return, or `absent`
-unfoldable pub control-value : Level → List Error → List ℕ → Res Tree
+unfoldable pub control-value : Depth → List Error → List ℕ → Res Tree
 control-value low q ts =
     then q (look q ts) λ tok q₁ rest.
-    ifb (ends 1 (tok .kind) || eqb (tok .kind) Kind.Semicolon) (λ _. ok Node.absent ts) (λ _. expr low q ts)
+    ifb (ends until-branch (tok .kind) || eqb (tok .kind) Kind.Semicolon) (λ _. ok Node.absent ts) (λ _. expr low q ts)
 
 abbrev pub is-control : ℕ → Bool
 is-control k = eqb k Kind.Continue || eqb k Kind.Break || eqb k Kind.Return
 
 -- `try_parse_control_flow`, behind a token of the kind k that is one
-unfoldable pub control-flow : Level → ℕ → List Error → List ℕ → Res Tree
+unfoldable pub control-flow : Depth → ℕ → List Error → List ℕ → Res Tree
 control-flow low k q ts =
     ifb (eqb k Kind.Continue) (λ _. then q (try-label q ts) λ l q₁ r. ok (Node.continue l) r) λ _.
     ifb (eqb k Kind.Break)
@@ -115,7 +115,7 @@ starts-stmt k =
     || is-control k || eqb k Kind.Label || eqb k Kind.Assert
 
 -- `synchronize_stmt`: an expression that reads is dropped and ends it; one that fails, and a lexer error, are passed over
-unfoldable pub synchronize : Level → Bool → ℕ → List Error → List ℕ → Res (Unit {0})
+unfoldable pub synchronize : Depth → Bool → ℕ → List Error → List ℕ → Res (Unit {0})
 synchronize low inside zero q ts = bad tt q ts
 synchronize low inside (suc n) q ts =
     either q (look q ts)
@@ -132,7 +132,7 @@ synchronized q ts =
     (λ e q₁ r. pop q₁ r)
 
 -- `catch_error_and_sync`: an error e of a statement of a list is caught, but for the end of the tokens
-unfoldable pub caught : Level → Error → List Error → List ℕ → Res (Unit {0})
+unfoldable pub caught : Depth → Error → List Error → List ℕ → Res (Unit {0})
 caught low e q ts =
     ifb (eqb e Number.end-of-tokens) (λ _. fail e q ts) λ _.
     push e q λ q₁.
@@ -140,7 +140,7 @@ caught low e q ts =
     synchronized q₂ r
 
 -- the statements of a list, after some
-unfoldable pub stmts : Level → ℕ → ℕ → Forest → List Error → List ℕ → Res Stmts
+unfoldable pub stmts : Depth → ℕ → ℕ → Forest → List Error → List ℕ → Res Stmts
 stmts low end zero f q ts = fail Number.end-of-tokens q ts
 stmts low end (suc n) f q ts =
     then q (look q ts) λ tok q₁ rest.
@@ -155,5 +155,5 @@ stmts low end (suc n) f q ts =
     (λ e q₂ r. then q₂ (caught low e q₂ r) λ u q₃ s. stmts low end n f q₃ s))
 
 -- `parse_stmt_list`
-abbrev pub stmt-list : Level → ℕ → List Error → List ℕ → Res Stmts
+abbrev pub stmt-list : Depth → ℕ → List Error → List ℕ → Res Stmts
 stmt-list low end q ts = stmts low end (length ts) none q ts

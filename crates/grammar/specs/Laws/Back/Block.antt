@@ -13,7 +13,7 @@ use Rattle.tree.specs.Node
 use Rattle.grammar.specs.Reading.Result.{Res, ok, ifb}
 use Rattle.grammar.specs.Reading.Expr.{Stmts}
 use Rattle.grammar.specs.Reading.Block.{block-split, block-of, body, branches}
-use Rattle.grammar.specs.Reading.Level.{level}
+use Rattle.grammar.specs.Reading.Depth.{at-depth}
 use Rattle.grammar.specs.Canonical.Write.{own, tokens-if, token, after-elif, write, writes}
 use Rattle.grammar.specs.Canonical.Need.{most, need, needs}
 use Rattle.grammar.specs.Canonical.Valid.{Valid, Valids, branch, else-clause, jump, block, v-branch, v-no-else, v-else, v-continue, v-break, v-break-value, v-break-label, v-return, v-return-value, v-no-control, v-control, v-block-plain, v-block-control, v-block-result, v-expression, v-none, v-more}
@@ -59,7 +59,7 @@ pub record Block (d : ℕ) (b : Tree) (x : Res Stmts) (r : List ℕ) : Type 0 wh
   pub gives : block-of stmts ≡ b
 
 module _ (d : ℕ) (R : Reads d) where
-  block-list : {b : Tree} → Valid block b → (end : ℕ) (q r : List ℕ) → Ended end r → Block d b (level d .list end q (write b own r)) r
+  block-list : {b : Tree} → Valid block b → (end : ℕ) (q r : List ℕ) → Ended end r → Block d b (at-depth d .list end q (write b own r)) r
   unfolding write need block-of block-split ifb
   block-list (v-block-plain {f = f} h e) end q r x = record {
     stmts = record { suite = f; control = Node.absent };
@@ -79,7 +79,7 @@ module _ (d : ℕ) (R : Reads d) where
     gives = ap block-split (split-snoc f e);
   }
 
-  pub block-body : {b : Tree} → Valid block b → (q r : List ℕ) → Block d b (body (level d) q (write b own (Kind.End ∷ 0 ∷ r))) r
+  pub block-body : {b : Tree} → Valid block b → (q r : List ℕ) → Block d b (body (at-depth d) q (write b own (Kind.End ∷ 0 ∷ r))) r
   unfolding body
   block-body h q r =
       let x = block-list h 0 q (Kind.End ∷ 0 ∷ r) at-end in
@@ -88,7 +88,7 @@ module _ (d : ℕ) (R : Reads d) where
   -- the branches of a conditional and what follows them, after some
   pub branches-back : (m : ℕ) (f : Forest) {t e : Tree} {g : Forest} → Valid branch t → Valids branch g → Valid else-clause e → (q r : List ℕ)
       → length (write t own (after-elif (writes g) (else-words e r))) ≤ m
-      → Needs (max (need t own) (max (most (needs g)) (need e own))) d (branches (level d) m f q (write t own (after-elif (writes g) (else-words e r)))) (ok (Node.if-expr (join f (more t g)) e) r)
+      → Needs (max (need t own) (max (most (needs g)) (need e own))) d (branches (at-depth d) m f q (write t own (after-elif (writes g) (else-words e r)))) (ok (Node.if-expr (join f (more t g)) e) r)
   unfolding branches write need
   branches-back zero f {e = e} {g = g} h hs v q r l = absurd (omega (arith, branch-longer h (after-elif (writes g) (else-words e r))))
   branches-back (suc m) f (v-branch {c = c} {b = b} h x) v-none v-no-else q r l =
@@ -112,7 +112,7 @@ module _ (d : ℕ) (R : Reads d) where
       let y = block-list x 1 q (Kind.Elif ∷ 0 ∷ w) at-elif in
       weigh (then-is _ _ (ex-back d R h q _ (after (ends refl))) (expects _ _ _ _ (fits refl) (then-is _ _ (y .reads)
       (sees _ _ _ (fits refl) (if-no _ _ refl (if-no _ _ refl
-      (along (λ b. branches (level d) m (snoc f (Node.conditional-branch c b)) q w) (y .gives)
+      (along (λ b. branches (at-depth d) m (snoc f (Node.conditional-branch c b)) q w) (y .gives)
       (lands (branches-back m (snoc f (Node.conditional-branch c b)) i is v q r (omega (arith, longer-length (longer (Node.conditional-branch c b) own (Kind.Elif ∷ 0 ∷ w)))))
       (ap (λ g. ok (Node.if-expr g e) r) (join-snoc f (Node.conditional-branch c b) (more t g)))))))))))
       (rw (most-more t g) (simp max-assoc))

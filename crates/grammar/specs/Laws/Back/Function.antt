@@ -15,7 +15,7 @@ use Rattle.grammar.specs.Reading.Result.{ok, ifb}
 use Rattle.grammar.specs.Reading.Pattern.{pattern, conv, receiver, by-item}
 use Rattle.grammar.specs.Reading.Primary.{atom, with-path}
 use Rattle.grammar.specs.Reading.Function.{required, variadic, default, Params, param-mode, variadic-param, plain-param, param, joined, params, function-def, function-assignment-target}
-use Rattle.grammar.specs.Reading.Level.{level}
+use Rattle.grammar.specs.Reading.Depth.{at-depth}
 use Rattle.grammar.specs.Canonical.Write.{own, targeted, named, after-commas, target-atom, as-row, write, writes}
 use Rattle.grammar.specs.Canonical.Need.{most, need, needs}
 use Rattle.grammar.specs.Canonical.Valid as Valid
@@ -130,12 +130,12 @@ params-need (v-more {f = f} (v-param {v = v} h) hs) = let e = params-need hs in 
 
 module _ (d : ℕ) (R : Reads d) where
   on-is : (b : Bool) (m : ℕ) (p : Params) (q s : List ℕ)
-      → Needs 0 d (ifb (eqb (sign b) Kind.Comma) (λ _. params (level d) m p q s) (λ _. params (level d) m p q (sign b ∷ 0 ∷ s))) (params (level d) m p q (on b s))
+      → Needs 0 d (ifb (eqb (sign b) Kind.Comma) (λ _. params (at-depth d) m p q s) (λ _. params (at-depth d) m p q (sign b ∷ 0 ∷ s))) (params (at-depth d) m p q (on b s))
   on-is true m p q s = if-yes _ _ refl done
   on-is false m p q s = if-no _ _ refl done
 
   -- one parameter
-  param-required : {v : ℕ} → IsNamed v → (b : Bool) (q s : List ℕ) → Needs 0 d (param (level d) q (named v (sign b ∷ 0 ∷ s))) (ok (required v) (sign b ∷ 0 ∷ s))
+  param-required : {v : ℕ} → IsNamed v → (b : Bool) (q s : List ℕ) → Needs 0 d (param (at-depth d) q (named v (sign b ∷ 0 ∷ s))) (ok (required v) (sign b ∷ 0 ∷ s))
   unfolding param plain-param
   param-required h b q s =
       let n = a-named h in
@@ -144,14 +144,14 @@ module _ (d : ℕ) (R : Reads d) where
       (sees _ _ _ (g .0) (if-no _ _ (g .2) (exactly (ap (λ v. ok (required v) (sign b ∷ 0 ∷ s)) (n .is))))))))
 
   param-default : {v : ℕ} {e : Tree} → IsNamed v → Valid (ex true true) e → (q s : List ℕ)
-      → Needs (need e own) d (param (level d) q (named v (Kind.OpAssign ∷ 0 ∷ write e own (Kind.CloseParen ∷ 0 ∷ s)))) (ok (default v e) (Kind.CloseParen ∷ 0 ∷ s))
+      → Needs (need e own) d (param (at-depth d) q (named v (Kind.OpAssign ∷ 0 ∷ write e own (Kind.CloseParen ∷ 0 ∷ s)))) (ok (default v e) (Kind.CloseParen ∷ 0 ∷ s))
   unfolding param plain-param
   param-default {e = e} h g q s =
       let n = a-named h in
       then-ok _ _ (n .mode q _) (expects _ _ _ _ (n .fits-name) (sees _ _ _ (fits refl) (if-no _ _ refl (sees _ _ _ (fits refl) (if-yes _ _ refl
       (weigh (then-is _ _ (ex-back d R g q _ close) (exactly (ap (λ v. ok (default v e) (Kind.CloseParen ∷ 0 ∷ s)) (n .is)))) (omega arith)))))))
 
-  param-variadic : {v : ℕ} → IsNamed v → (q s : List ℕ) → Needs 0 d (param (level d) q (named v (Kind.Ellipsis ∷ 0 ∷ Kind.CloseParen ∷ 0 ∷ s))) (ok (variadic v) (Kind.CloseParen ∷ 0 ∷ s))
+  param-variadic : {v : ℕ} → IsNamed v → (q s : List ℕ) → Needs 0 d (param (at-depth d) q (named v (Kind.Ellipsis ∷ 0 ∷ Kind.CloseParen ∷ 0 ∷ s))) (ok (variadic v) (Kind.CloseParen ∷ 0 ∷ s))
   unfolding param variadic-param
   param-variadic h q s =
       let n = a-named h in
@@ -159,7 +159,7 @@ module _ (d : ℕ) (R : Reads d) where
       (sees _ _ _ (fits refl) (if-no _ _ refl (exactly (ap (λ v. ok (variadic v) (Kind.CloseParen ∷ 0 ∷ s)) (n .is))))))))
 
   required-step : {t : Tree} → Valid Valid.param t → (b : Bool) (m : ℕ) (f : Forest) (q s : List ℕ)
-      → Needs 0 d (params (level d) (suc m) (so-far f) q (write t own (sign b ∷ 0 ∷ s))) (params (level d) m (so-far (snoc f t)) q (on b s))
+      → Needs 0 d (params (at-depth d) (suc m) (so-far f) q (write t own (sign b ∷ 0 ∷ s))) (params (at-depth d) m (so-far (snoc f t)) q (on b s))
   unfolding params write
   required-step (v-param {v = v} h) b m f q s =
       not-first _ _ (a-named h .starts _) λ k w u e. if-no _ _ e
@@ -169,13 +169,13 @@ module _ (d : ℕ) (R : Reads d) where
   -- required parameters and the token behind them: the reading goes on behind, with fuel enough
   required-back : {t : Tree} {g : Forest} → Valid Valid.param t → Valids Valid.param g → (b : Bool) (m : ℕ) (f : Forest) (q s : List ℕ)
       → length (write t own (after-commas (writes g) (sign b ∷ 0 ∷ s))) ≤ m
-      → (n : ℕ) × (length (on b s) ≤ n) × Needs 0 d (params (level d) m (so-far f) q (write t own (after-commas (writes g) (sign b ∷ 0 ∷ s)))) (params (level d) n (so-far (join f (more t g))) q (on b s))
+      → (n : ℕ) × (length (on b s) ≤ n) × Needs 0 d (params (at-depth d) m (so-far f) q (write t own (after-commas (writes g) (sign b ∷ 0 ∷ s)))) (params (at-depth d) n (so-far (join f (more t g))) q (on b s))
   unfolding write
   required-back h v-none b zero f q s l = absurd (omega (arith, param-longer h (sign b ∷ 0 ∷ s)))
   required-back {t} h v-none b (suc m) f q s l = (
     m,
     omega (arith, param-longer h (sign b ∷ 0 ∷ s), on-length b s),
-    lands (required-step h b m f q s) (ap (λ f. params (level d) m (so-far f) q (on b s)) (sym (join-one f t))),
+    lands (required-step h b m f q s) (ap (λ f. params (at-depth d) m (so-far f) q (on b s)) (sym (join-one f t))),
   )
   required-back h (v-more {t = u} {f = g} i is) b zero f q s l =
       absurd (omega (arith, param-longer h (Kind.Comma ∷ 0 ∷ write u own (after-commas (writes g) (sign b ∷ 0 ∷ s)))))
@@ -184,17 +184,17 @@ module _ (d : ℕ) (R : Reads d) where
       let x = required-back i is b m (snoc f t) q s (omega (arith, param-longer h (Kind.Comma ∷ 0 ∷ w))) in (
         x .0,
         x .1,
-        both (required-step h true m f q w) (lands (x .2) (ap (λ f. params (level d) (x .0) (so-far f) q (on b s)) (join-snoc f t (more u g)))),
+        both (required-step h true m f q w) (lands (x .2) (ap (λ f. params (at-depth d) (x .0) (so-far f) q (on b s)) (join-snoc f t (more u g)))),
       )
 
   -- the end of the parameters
-  params-end : (m : ℕ) (p : Params) (q s : List ℕ) → 1 ≤ m → Needs 0 d (params (level d) m p q (Kind.CloseParen ∷ 0 ∷ s)) (ok p (Kind.CloseParen ∷ 0 ∷ s))
+  params-end : (m : ℕ) (p : Params) (q s : List ℕ) → 1 ≤ m → Needs 0 d (params (at-depth d) m p q (Kind.CloseParen ∷ 0 ∷ s)) (ok p (Kind.CloseParen ∷ 0 ∷ s))
   unfolding params
   params-end zero p q s l = absurd (omega arith)
   params-end (suc m) p q s l = sees _ _ _ (fits refl) (if-yes _ _ refl done)
 
   default-end : {v : ℕ} {e : Tree} → IsNamed v → Valid (ex true true) e → (m : ℕ) (f : Forest) (q s : List ℕ) → length (named v (Kind.OpAssign ∷ 0 ∷ write e own (Kind.CloseParen ∷ 0 ∷ s))) ≤ m
-      → Needs (need e own) d (params (level d) m (so-far f) q (named v (Kind.OpAssign ∷ 0 ∷ write e own (Kind.CloseParen ∷ 0 ∷ s))))
+      → Needs (need e own) d (params (at-depth d) m (so-far f) q (named v (Kind.OpAssign ∷ 0 ∷ write e own (Kind.CloseParen ∷ 0 ∷ s))))
       (ok (record { required-list = f; default-list = one (Node.default-def v e); variadic-one = Node.absent }) (Kind.CloseParen ∷ 0 ∷ s))
   unfolding params
   default-end {e = e} h g zero f q s l = absurd (omega (arith, named-longer h (Kind.OpAssign ∷ 0 ∷ write e own (Kind.CloseParen ∷ 0 ∷ s))))
@@ -204,7 +204,7 @@ module _ (d : ℕ) (R : Reads d) where
       (weigh (then-is _ _ (param-default h g q s) (sees _ _ _ (fits refl) (then-ok _ _ (joined-default f v e q _) (if-no _ _ refl (params-end m _ q s i))))) (omega arith))
 
   variadic-end : {v : ℕ} → IsNamed v → (m : ℕ) (f : Forest) (q s : List ℕ) → length (named v (Kind.Ellipsis ∷ 0 ∷ Kind.CloseParen ∷ 0 ∷ s)) ≤ m
-      → Needs 0 d (params (level d) m (so-far f) q (named v (Kind.Ellipsis ∷ 0 ∷ Kind.CloseParen ∷ 0 ∷ s)))
+      → Needs 0 d (params (at-depth d) m (so-far f) q (named v (Kind.Ellipsis ∷ 0 ∷ Kind.CloseParen ∷ 0 ∷ s)))
       (ok (record { required-list = f; default-list = none; variadic-one = Node.param-def v }) (Kind.CloseParen ∷ 0 ∷ s))
   unfolding params
   variadic-end h zero f q s l = absurd (omega (arith, named-longer h (Kind.Ellipsis ∷ 0 ∷ Kind.CloseParen ∷ 0 ∷ s)))
@@ -215,15 +215,15 @@ module _ (d : ℕ) (R : Reads d) where
 
   -- a function behind its target, or behind `fun`
   function-with : {b : Tree} {n : ℕ} {p : Params} (name : ℕ) (x : List ℕ) → Valid block b → (q r : List ℕ)
-      → Needs n d (params (level d) (length x) (so-far none) q x) (ok p (Kind.CloseParen ∷ 0 ∷ write b own (Kind.End ∷ 0 ∷ r)))
-      → Needs (max n (need b own)) d (function-def (level d) name q (Kind.OpenParen ∷ 0 ∷ x)) (ok (Node.function-def (Node.signature-def name (p .required-list) (p .default-list) (p .variadic-one)) b) r)
+      → Needs n d (params (at-depth d) (length x) (so-far none) q x) (ok p (Kind.CloseParen ∷ 0 ∷ write b own (Kind.End ∷ 0 ∷ r)))
+      → Needs (max n (need b own)) d (function-def (at-depth d) name q (Kind.OpenParen ∷ 0 ∷ x)) (ok (Node.function-def (Node.signature-def name (p .required-list) (p .default-list) (p .variadic-one)) b) r)
   unfolding function-def
   function-with {p = p} name x h q r y =
       let u = block-body d R h q r in
       expects _ _ _ _ (fits refl) (then-is _ _ y (expects _ _ _ _ (fits refl)
       (weigh (then-is _ _ (u .reads) (exactly (ap (λ b. ok (Node.function-def (Node.signature-def name (p .required-list) (p .default-list) (p .variadic-one)) b) r) (u .gives)))) (omega arith))))
 
-  pub function-back : {n : ℕ} {t : Tree} → Valid (function n) t → (q r : List ℕ) → Needs (need t own) (suc d) (function-def (level d) n q (write t targeted r)) (ok t r)
+  pub function-back : {n : ℕ} {t : Tree} → Valid (function n) t → (q r : List ℕ) → Needs (need t own) (suc d) (function-def (at-depth d) n q (write t targeted r)) (ok t r)
   unfolding write need join
   function-back (v-function-def {n = n} v-none g) q r = weigh (inside (function-with n _ g q r (params-end _ _ q _ (omega arith)))) (omega arith)
   function-back (v-function-def {n = n} {b = b} (v-more {f = f} h hs) g) q r =
@@ -243,7 +243,7 @@ module _ (d : ℕ) (R : Reads d) where
 
   -- a path of members and indexes from an atom, as a target
   path-target : {a i : Tree} {f : Forest} → Valid Valid.atom a → Valids (item false) f → Valid (item false) i → (p : Tree) → by-item (receiver 0 a 0 f) i ≡ just p → (q s : List ℕ)
-      → Needs (max (need a own) (max (most (needs f)) (need i own))) (suc d) (function-assignment-target (level d) q (write a own (as-row (writes f) (write i own (Kind.OpenParen ∷ 0 ∷ s))))) (ok p (Kind.OpenParen ∷ 0 ∷ s))
+      → Needs (max (need a own) (max (most (needs f)) (need i own))) (suc d) (function-assignment-target (at-depth d) q (write a own (as-row (writes f) (write i own (Kind.OpenParen ∷ 0 ∷ s))))) (ok p (Kind.OpenParen ∷ 0 ∷ s))
   unfolding function-assignment-target join conv
   path-target {a} {i} {f} h g j p e q s =
       let w : List ℕ = Kind.OpenParen ∷ 0 ∷ s in
@@ -253,7 +253,7 @@ module _ (d : ℕ) (R : Reads d) where
       (exactly (converted q w _ (ap (λ t. conv t pattern) (with-snoc a f i) ∙ by-snoc 0 a 0 f i ∙ e)))))
       (omega (arith, most-snoc f i)))
 
-  pub target-back : {p : Tree} → Target p → (q s : List ℕ) → Needs (need p own) (suc d) (function-assignment-target (level d) q (write p own (Kind.OpenParen ∷ 0 ∷ s))) (ok p (Kind.OpenParen ∷ 0 ∷ s))
+  pub target-back : {p : Tree} → Target p → (q s : List ℕ) → Needs (need p own) (suc d) (function-assignment-target (at-depth d) q (write p own (Kind.OpenParen ∷ 0 ∷ s))) (ok p (Kind.OpenParen ∷ 0 ∷ s))
   unfolding write need
   target-back (t-name {n = n} h) q s =
       unfold function-assignment-target join conv in

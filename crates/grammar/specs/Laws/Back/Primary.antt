@@ -15,7 +15,7 @@ use Rattle.tree.specs.Node
 use Rattle.grammar.specs.Reading.Result.{Error, Res, ok, then, ifb}
 use Rattle.grammar.specs.Reading.Look.{look}
 use Rattle.grammar.specs.Reading.Primary.{group-expr, literal, atom, indexing-expr, field-name, table-field, table-item, table-items, member-access, arguments, invocation, path, primary}
-use Rattle.grammar.specs.Reading.Level.{level}
+use Rattle.grammar.specs.Reading.Depth.{at-depth}
 use Rattle.grammar.specs.Canonical.Write.{own, modified, keyword-of, commas, after-commas, with-commas, as-row, named, write, writes}
 use Rattle.grammar.specs.Canonical.Need.{most, need, needs}
 use Rattle.grammar.specs.Canonical.Valid as Valid
@@ -68,7 +68,7 @@ item-longer (v-invoke-table {f = f} h) r = let l = longer-length (longer (Node.l
 
 module _ (d : ℕ) (R : Reads d) where
   -- groups
-  group-back : {e : Tree} → Valid (plain true true) e → (q r : List ℕ) → Needs (need e own) d (group-expr (level d) q (write e own (Kind.CloseParen ∷ 0 ∷ r))) (ok (Node.group 0 e) r)
+  group-back : {e : Tree} → Valid (plain true true) e → (q r : List ℕ) → Needs (need e own) d (group-expr (at-depth d) q (write e own (Kind.CloseParen ∷ 0 ∷ r))) (ok (Node.group 0 e) r)
   unfolding group-expr
   group-back h q r =
       first-is _ _ (plain-starts h _) λ k v s b. if-no _ _ (isnt b Kind.CloseParen refl)
@@ -76,7 +76,7 @@ module _ (d : ℕ) (R : Reads d) where
       (weigh (then-is _ _ (plain-back d R h q _ close) (expects _ _ _ _ (fits refl) done)) (omega arith)))
 
   modified-back : {a : ℕ} {e : Tree} → a < 4 → Valid (given a) e → (q r : List ℕ)
-      → Needs (need e modified) d (group-expr (level d) q (keyword-of a ∷ 0 ∷ write e modified (Kind.CloseParen ∷ 0 ∷ r))) (ok (Node.group (suc a) e) r)
+      → Needs (need e modified) d (group-expr (at-depth d) q (keyword-of a ∷ 0 ∷ write e modified (Kind.CloseParen ∷ 0 ∷ r))) (ok (Node.group (suc a) e) r)
   unfolding group-expr
   modified-back {a = a} l h q r =
       let g = given-back d R l h q r in
@@ -84,7 +84,7 @@ module _ (d : ℕ) (R : Reads d) where
       (then-ok _ _ (keyword-seen a l q _)
       (weigh (then-is _ _ (g .1) (expects _ _ _ _ (fits refl) (exactly (ap (λ e. ok (Node.group (suc a) e) r) (g .2))))) (omega arith)))
 
-  pub atom-back : {t : Tree} → Valid Valid.atom t → (q r : List ℕ) → Needs (need t own) (suc d) (atom (level d) q (write t own r)) (ok t r)
+  pub atom-back : {t : Tree} → Valid Valid.atom t → (q r : List ℕ) → Needs (need t own) (suc d) (atom (at-depth d) q (write t own r)) (ok t r)
   unfolding atom literal write need
   atom-back v-nil q r = inside (sees _ _ _ (fits refl) (if-no _ _ refl (exactly (unfold ifb in refl))))
   atom-back v-empty-tuple q r = inside (sees _ _ _ (fits refl) (if-yes _ _ refl (unfold group-expr in sees _ _ _ (fits refl) (if-yes _ _ refl done))))
@@ -98,11 +98,11 @@ module _ (d : ℕ) (R : Reads d) where
   atom-back (v-modified l h) q r = inside (sees _ _ _ (fits refl) (if-yes _ _ refl (modified-back l h q r)))
 
   -- tables
-  index-back : {e : Tree} → Valid (ex true false) e → (q r : List ℕ) → Needs (need e own) d (indexing-expr (level d) q (write e own (Kind.CloseSquare ∷ 0 ∷ r))) (ok e r)
+  index-back : {e : Tree} → Valid (ex true false) e → (q r : List ℕ) → Needs (need e own) d (indexing-expr (at-depth d) q (write e own (Kind.CloseSquare ∷ 0 ∷ r))) (ok e r)
   unfolding indexing-expr
   index-back h q r = weigh (then-is _ _ (ex-back d R h q _ (after (ends refl))) (expects _ _ _ _ (fits refl) done)) (omega arith)
 
-  field-back : {t : Tree} → Valid field t → (q r : List ℕ) → Needs (need t own) d (table-field (level d) q (write t own r)) (ok t r)
+  field-back : {t : Tree} → Valid field t → (q r : List ℕ) → Needs (need t own) d (table-field (at-depth d) q (write t own r)) (ok t r)
   unfolding table-field field-name write need
   field-back (v-field (read-only n h)) q r = rw (named-words n r .0) (sees _ _ _ (fits h) (if-no _ _ refl (if-no _ _ refl (if-no _ _ refl (if-yes _ _ refl done)))))
   field-back (v-field (read-write n h)) q r = rw (named-words n r .1) (sees _ _ _ (fits refl) (if-no _ _ refl (if-yes _ _ refl (expects _ _ _ _ (fits h) done))))
@@ -114,7 +114,7 @@ module _ (d : ℕ) (R : Reads d) where
   item-starts (v-table-item {e = e} (v-field (read-write n h)) g) r = rw (named-words n (Kind.OpAssign ∷ 0 ∷ write e own r) .1) (other (fits refl) refl)
   item-starts (v-table-item (v-field-index h) g) r = other (fits refl) refl
 
-  table-item-back : {t : Tree} → Valid Valid.table-item t → (q r : List ℕ) → Follows 12 r → Needs (need t own) d (table-item (level d) q (write t own r)) (ok t r)
+  table-item-back : {t : Tree} → Valid Valid.table-item t → (q r : List ℕ) → Follows 12 r → Needs (need t own) d (table-item (at-depth d) q (write t own r)) (ok t r)
   unfolding table-item write need
   table-item-back (v-table-item h g) q r f =
       weigh (then-is _ _ (field-back h q _) (expects _ _ _ _ (fits refl) (then-is _ _ (inner-back d R g q r f) done))) (omega arith)
@@ -122,7 +122,7 @@ module _ (d : ℕ) (R : Reads d) where
   -- one item or more
   items-back : (m : ℕ) (f : Forest) {t : Tree} {g : Forest} → Valid Valid.table-item t → Valids Valid.table-item g → (q r : List ℕ)
       → length (write t own (after-commas (writes g) (Kind.CloseBrace ∷ 0 ∷ r))) ≤ m
-      → Needs (max (need t own) (most (needs g))) d (table-items (level d) m f q (write t own (after-commas (writes g) (Kind.CloseBrace ∷ 0 ∷ r)))) (ok (join f (more t g)) r)
+      → Needs (max (need t own) (most (needs g))) d (table-items (at-depth d) m f q (write t own (after-commas (writes g) (Kind.CloseBrace ∷ 0 ∷ r)))) (ok (join f (more t g)) r)
   unfolding table-items write need
   items-back zero f {t = t} h v-none q r l = absurd (omega (arith, longer-length (longer t own (Kind.CloseBrace ∷ 0 ∷ r))))
   items-back (suc m) f {t = t} h v-none q r l =
@@ -140,13 +140,13 @@ module _ (d : ℕ) (R : Reads d) where
       (ap (max (need t own)) (sym (most-more u g))))
 
   pub table-back : {f : Forest} → Valids Valid.table-item f → (q r : List ℕ)
-      → Needs (most (needs f)) d (table-items (level d) (length (with-commas (writes f) (Kind.CloseBrace ∷ 0 ∷ r))) none q (with-commas (writes f) (Kind.CloseBrace ∷ 0 ∷ r))) (ok f r)
+      → Needs (most (needs f)) d (table-items (at-depth d) (length (with-commas (writes f) (Kind.CloseBrace ∷ 0 ∷ r))) none q (with-commas (writes f) (Kind.CloseBrace ∷ 0 ∷ r))) (ok f r)
   unfolding table-items write need join
   table-back v-none q r = sees _ _ _ (fits refl) (if-yes _ _ refl done)
   table-back (v-more {t = t} {f = g} h hs) q r = weigh (items-back _ none h hs q r (le-refl _)) (sym (most-more t g))
 
   -- paths
-  invocation-back : {f : Forest} → Arguments f → (q r : List ℕ) → Needs (most (needs f)) d (invocation (level d) q (with-commas (writes f) (Kind.CloseParen ∷ 0 ∷ r))) (ok (Node.invoke f) r)
+  invocation-back : {f : Forest} → Arguments f → (q r : List ℕ) → Needs (most (needs f)) d (invocation (at-depth d) q (with-commas (writes f) (Kind.CloseParen ∷ 0 ∷ r))) (ok (Node.invoke f) r)
   unfolding invocation write need
   invocation-back no-argument q r = sees _ _ _ (fits refl) (if-yes _ _ refl done)
   invocation-back (one-argument {t = t} h e) q r =
@@ -156,7 +156,7 @@ module _ (d : ℕ) (R : Reads d) where
       first-is _ _ (binop-starts h _) λ k v s b. if-no _ _ (isnt b Kind.CloseParen refl)
       (weigh (then-is _ _ (plain-back d R (v-tuple {close = true} h g i) q _ close) (expects _ _ _ _ (fits refl) done)) (omega arith))
 
-  item-step : {c : Bool} {t : Tree} (m : ℕ) (f : Forest) → Valid (item c) t → (q r : List ℕ) → Needs (need t own) (suc d) (path (level d) c (suc m) f q (write t own r)) (path (level d) c m (snoc f t) q r)
+  item-step : {c : Bool} {t : Tree} (m : ℕ) (f : Forest) → Valid (item c) t → (q r : List ℕ) → Needs (need t own) (suc d) (path (at-depth d) c (suc m) f q (write t own r)) (path (at-depth d) c m (snoc f t) q r)
   unfolding path member-access write need
   item-step m f (v-attribute h) q r = sees _ _ _ (fits refl) (if-yes _ _ refl (then-ok _ _ (enough (expects _ _ _ _ (fits h) done) (le-refl 0)) done))
   item-step m f (v-index h) q r = sees _ _ _ (fits refl) (if-no _ _ refl (if-yes _ _ refl (then-on _ _ (inside (index-back h q r)))))
@@ -164,7 +164,7 @@ module _ (d : ℕ) (R : Reads d) where
   item-step m f (v-invoke-table h) q r = sees _ _ _ (fits refl) (if-no _ _ refl (if-no _ _ refl (if-no _ _ refl (if-yes _ _ refl (then-on _ _ (inside (table-back h q r)))))))
 
   pub path-back : {c : Bool} (m : ℕ) (f : Forest) {g : Forest} → Valids (item c) g → (q r : List ℕ) → Stops c r → length (as-row (writes g) r) ≤ m
-      → Needs (most (needs g)) (suc d) (path (level d) c m f q (as-row (writes g) r)) (ok (join f g) r)
+      → Needs (most (needs g)) (suc d) (path (at-depth d) c m f q (as-row (writes g) r)) (ok (join f g) r)
   unfolding write need
   path-back zero f v-none q r (stops a b c e g) l = absurd (omega arith)
   path-back (suc m) f v-none q r (stops {k = k} a b c e g) l =
@@ -175,7 +175,7 @@ module _ (d : ℕ) (R : Reads d) where
       (rw (sym (join-snoc f t g)) (path-back m (snoc f t) hs q r s (omega (arith, item-longer h (as-row (writes g) r))))))
       (sym (most-more t g))
 
-  pub primary-back : {t : Tree} → Valid prim t → (q r : List ℕ) → Follows 1 r → Needs (need t own) (suc d) (primary (level d) q (write t own r)) (ok t r)
+  pub primary-back : {t : Tree} → Valid prim t → (q r : List ℕ) → Follows 1 r → Needs (need t own) (suc d) (primary (at-depth d) q (write t own r)) (ok t r)
   unfolding primary write need join
   primary-back (v-atom h) q r f =
       weigh (then-is _ _ (atom-back h q r) (then-is _ _ (path-back _ none v-none q r (follows-stops f) (le-refl _)) done)) (omega arith)

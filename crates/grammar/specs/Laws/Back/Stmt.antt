@@ -16,7 +16,7 @@ use Rattle.grammar.specs.Reading.Look.{look, try-label}
 use Rattle.grammar.specs.Reading.Expr.{Stmts}
 use Rattle.grammar.specs.Reading.Block as Block
 use Rattle.grammar.specs.Reading.Stmt.{loop, while-loop, lvalue-list, for-loop, stmt-label, stmt, ends, control-value, is-control, stmt-list-of, control-flow, control-last, stmts}
-use Rattle.grammar.specs.Reading.Level.{level}
+use Rattle.grammar.specs.Reading.Depth.{at-depth}
 use Rattle.grammar.specs.Canonical.Write.{own, label, as-suite, write, writes}
 use Rattle.grammar.specs.Canonical.Need.{most, need, needs}
 use Rattle.grammar.specs.Canonical.Valid as Valid
@@ -93,19 +93,19 @@ label-seen q (a-label n) h = label-there q n
 
 module _ (d : ℕ) (R : Reads d) where
   -- loops, behind their first token
-  body-back : {b : Tree} → Valid body b → (q r : List ℕ) → (s : Stmts) × Needs (need b own) d (Block.body (level d) q (write b own (Kind.End ∷ 0 ∷ r))) (ok s r) × (stmt-list-of s ≡ b)
+  body-back : {b : Tree} → Valid body b → (q r : List ℕ) → (s : Stmts) × Needs (need b own) d (Block.body (at-depth d) q (write b own (Kind.End ∷ 0 ∷ r))) (ok s r) × (stmt-list-of s ≡ b)
   unfolding Block.body write need
   body-back (v-body {f = f} {c = c} h j) q r =
       (record { suite = f; control = c }, weigh (then-is _ _ (R .r-list h j 0 q _ at-end) (sees _ _ _ (fits refl) done)) (omega arith), refl)
 
-  loop-back : {b : Tree} (l : ℕ) → Valid body b → (q r : List ℕ) → Needs (need b own) d (loop (level d) l q (write b own (Kind.End ∷ 0 ∷ r))) (ok (Node.loop l b) r)
+  loop-back : {b : Tree} (l : ℕ) → Valid body b → (q r : List ℕ) → Needs (need b own) d (loop (at-depth d) l q (write b own (Kind.End ∷ 0 ∷ r))) (ok (Node.loop l b) r)
   unfolding loop
   loop-back l h q r =
       let u = body-back h q r in
       weigh (then-is _ _ (u .1) (exactly (ap (λ b. ok (Node.loop l b) r) (u .2)))) (omega arith)
 
   while-back : {c b : Tree} (l : ℕ) → Valid (ex true false) c → Valid body b → (q r : List ℕ)
-      → Needs (max (need c own) (need b own)) d (while-loop (level d) l q (write c own (Kind.Do ∷ 0 ∷ write b own (Kind.End ∷ 0 ∷ r)))) (ok (Node.while-loop l c b) r)
+      → Needs (max (need c own) (need b own)) d (while-loop (at-depth d) l q (write c own (Kind.Do ∷ 0 ∷ write b own (Kind.End ∷ 0 ∷ r)))) (ok (Node.while-loop l c b) r)
   unfolding while-loop
   while-back {c} l g h q r =
       let u = body-back h q r in
@@ -113,7 +113,7 @@ module _ (d : ℕ) (R : Reads d) where
       (then-is _ _ (u .1) (exactly (ap (λ b. ok (Node.while-loop l c b) r) (u .2)))))) (omega arith)
 
   for-back : {p e b : Tree} (l : ℕ) → Pattern p → Valid (ex true false) e → Valid body b → (q r : List ℕ)
-      → Needs (max (need p own) (max (need e own) (need b own))) d (for-loop (level d) l q (write p own (Kind.In ∷ 0 ∷ write e own (Kind.Do ∷ 0 ∷ write b own (Kind.End ∷ 0 ∷ r))))) (ok (Node.for-loop l p e b) r)
+      → Needs (max (need p own) (max (need e own) (need b own))) d (for-loop (at-depth d) l q (write p own (Kind.In ∷ 0 ∷ write e own (Kind.Do ∷ 0 ∷ write b own (Kind.End ∷ 0 ∷ r))))) (ok (Node.for-loop l p e b) r)
   unfolding for-loop lvalue-list
   for-back {p} {e} l i g h q r =
       let u = body-back h q r in
@@ -123,7 +123,7 @@ module _ (d : ℕ) (R : Reads d) where
       (then-is _ _ (u .1) (exactly (ap (λ b. ok (Node.for-loop l p e b) r) (u .2)))))))) (omega arith)
 
   -- statements
-  pub stmt-reads : {t : Tree} → Valid Valid.stmt t → (q r : List ℕ) → Follows 14 r → Needs (need t own) d (stmt (level d) q (write t own r)) (ok t r)
+  pub stmt-reads : {t : Tree} → Valid Valid.stmt t → (q r : List ℕ) → Follows 14 r → Needs (need t own) d (stmt (at-depth d) q (write t own r)) (ok t r)
   unfolding stmt stmt-label write need
   stmt-reads (v-expression h e) q r f =
       first-is _ _ (ex-starts h r) λ k v s b.
@@ -144,18 +144,18 @@ module _ (d : ℕ) (R : Reads d) where
       (weigh (then-is _ _ (ex-back d R h q r (after f)) done) (omega arith)))))))
 
   -- the value of `break` and `return`
-  no-value : {end : ℕ} {r : List ℕ} (q : List Error) → Ended end r → Needs 0 d (control-value (level d) q r) (ok Node.absent r)
+  no-value : {end : ℕ} {r : List ℕ} (q : List Error) → Ended end r → Needs 0 d (control-value (at-depth d) q r) (ok Node.absent r)
   unfolding control-value
   no-value q h = end-first q _ h λ k s e. if-yes _ _ (rw (e .of-value)) done
 
-  a-value : {b : Bool} {t : Tree} → Valid (ex b false) t → (q r : List ℕ) → Follows 14 r → Needs (need t own) d (control-value (level d) q (write t own r)) (ok t r)
+  a-value : {b : Bool} {t : Tree} → Valid (ex b false) t → (q r : List ℕ) → Follows 14 r → Needs (need t own) d (control-value (at-depth d) q (write t own r)) (ok t r)
   unfolding control-value
   a-value h q r f =
       first-is q _ (ex-starts h r) λ k v s e. if-no _ _ (rw (isnt e Kind.End refl, isnt e Kind.Elif refl, isnt e Kind.Else refl, isnt e Kind.Semicolon refl)) (ex-back d R h q r (after f))
 
   -- a control, behind its token
   jump-back : {c : Tree} → Valid jump c → (end : ℕ) (q r : List ℕ) → Ended end r
-      → (k : ℕ) × (s : List ℕ) × (write c own r ≡ k ∷ 0 ∷ s) × Jump k × Needs (need c own) d (control-flow (level d) k q s) (ok c r)
+      → (k : ℕ) × (s : List ℕ) × (write c own r ≡ k ∷ 0 ∷ s) × Jump k × Needs (need c own) d (control-flow (at-depth d) k q s) (ok c r)
   unfolding control-flow write need
   jump-back (v-continue l) end q r e = (Kind.Continue, _, refl, continues, if-yes _ _ refl (then-ok _ _ (label-seen q l e) done))
   jump-back (v-break l) end q r e = (Kind.Break, _, refl, breaks, if-no _ _ refl (if-yes _ _ refl (then-ok _ _ (label-seen q l e) (then-is _ _ (no-value q e) done))))
@@ -168,35 +168,35 @@ module _ (d : ℕ) (R : Reads d) where
       (Kind.Return, _, refl, returns, if-no _ _ refl (if-no _ _ refl (weigh (then-is _ _ (a-value h q r (end-follows e)) done) (omega arith))))
 
   -- a control, or none, ends a list
-  jump-reads : {n k end : ℕ} {c : Tree} {r : List ℕ} (m : ℕ) (f : Forest) (q s : List ℕ) → Jump k → Ended end r → Needs n d (control-flow (level d) k q s) (ok c r)
-      → Needs n d (stmts (level d) end (suc m) f q (k ∷ 0 ∷ s)) (ok (record { suite = f; control = c }) r)
+  jump-reads : {n k end : ℕ} {c : Tree} {r : List ℕ} (m : ℕ) (f : Forest) (q s : List ℕ) → Jump k → Ended end r → Needs n d (control-flow (at-depth d) k q s) (ok c r)
+      → Needs n d (stmts (at-depth d) end (suc m) f q (k ∷ 0 ∷ s)) (ok (record { suite = f; control = c }) r)
   unfolding stmts control-last
   jump-reads {end = end} m f q s j e h =
       sees _ _ _ (j .seen) (if-no _ _ (j .no-semicolon) (if-no _ _ (j .no-list end) (if-yes _ _ (j .a-control)
       (weigh (either-is _ _ _ h (then-ok _ _ (enough (end-first q _ e λ k s g. if-yes _ _ (g .of-list) done) (le-refl 0)) done)) (omega arith)))))
 
   control-reads : {c : Tree} → Valid control c → (end m : ℕ) (f : Forest) (q r : List ℕ) → Ended end r
-      → Needs (need c own) d (stmts (level d) end (suc m) f q (write c own r)) (ok (record { suite = f; control = c }) r)
+      → Needs (need c own) d (stmts (at-depth d) end (suc m) f q (write c own r)) (ok (record { suite = f; control = c }) r)
   unfolding stmts write need
   control-reads v-no-control end m f q r e = end-first q _ e λ k s g. if-no _ _ (g .no-semicolon) (if-yes _ _ (g .of-list) done)
   control-reads (v-control h) end m f q r e = let j = jump-back h end q r e in rw (j .2) (jump-reads m f q (j .1) (j .3) e (j .4))
 
   -- a statement joins those before it, and a semicolon is passed over
   stmt-joins : {t : Tree} → Valid Valid.stmt t → (end m : ℕ) (f : Forest) (q s : List ℕ)
-      → Needs (need t own) d (stmts (level d) end (suc m) f q (write t own (Kind.Semicolon ∷ 0 ∷ s))) (stmts (level d) end m (snoc f t) q (Kind.Semicolon ∷ 0 ∷ s))
+      → Needs (need t own) d (stmts (at-depth d) end (suc m) f q (write t own (Kind.Semicolon ∷ 0 ∷ s))) (stmts (at-depth d) end m (snoc f t) q (Kind.Semicolon ∷ 0 ∷ s))
   unfolding stmts
   stmt-joins h end m f q s =
       first-is _ _ (stmt-starts h _) λ k v r b. if-no _ _ (isnt b Kind.Semicolon refl) (if-no _ _ (no-end end k (isnt b Kind.End refl) (isnt b Kind.Elif refl) (isnt b Kind.Else refl))
       (if-no _ _ (rw (isnt b Kind.Continue refl, isnt b Kind.Break refl, isnt b Kind.Return refl)) (weigh (either-is _ _ _ (stmt-reads h q _ (Follow.ends refl)) done) (omega arith))))
 
-  semicolon : {n : ℕ} {y : Res Stmts} (end m : ℕ) (f : Forest) (q s : List ℕ) → suc (length s) ≤ m → ((i : ℕ) → length s ≤ i → Needs n d (stmts (level d) end i f q s) y) → Needs n d (stmts (level d) end m f q (Kind.Semicolon ∷ 0 ∷ s)) y
+  semicolon : {n : ℕ} {y : Res Stmts} (end m : ℕ) (f : Forest) (q s : List ℕ) → suc (length s) ≤ m → ((i : ℕ) → length s ≤ i → Needs n d (stmts (at-depth d) end i f q s) y) → Needs n d (stmts (at-depth d) end m f q (Kind.Semicolon ∷ 0 ∷ s)) y
   unfolding stmts
   semicolon end zero f q s l h = absurd (omega arith)
   semicolon end (suc m) f q s l h = sees _ _ _ (fits refl) (if-yes _ _ refl (h m (omega arith)))
 
   -- the statements of a list, after some, and its control
   pub stmts-reads : {g : Forest} {c : Tree} → Valids Valid.stmt g → Valid control c → (end m : ℕ) (f : Forest) (q r : List ℕ) → Ended end r → length (as-suite (writes g) (write c own r)) ≤ m
-      → Needs (max (most (needs g)) (need c own)) d (stmts (level d) end m f q (as-suite (writes g) (write c own r))) (ok (record { suite = join f g; control = c }) r)
+      → Needs (max (most (needs g)) (need c own)) d (stmts (at-depth d) end m f q (as-suite (writes g) (write c own r))) (ok (record { suite = join f g; control = c }) r)
   unfolding write need
   stmts-reads {c = c} v-none j end zero f q r e l = absurd (omega (arith, longer-length (longer c own r), end-length e))
   stmts-reads {c = c} v-none j end (suc m) f q r e l =

@@ -15,7 +15,7 @@ use Rattle.grammar.specs.Reading.Result.{Res, ok}
 use Rattle.grammar.specs.Reading.Primary.{unpack-expr}
 use Rattle.grammar.specs.Reading.Block.{block-expr, expr-label}
 use Rattle.grammar.specs.Reading.Function.{function-decl-expr, target-name}
-use Rattle.grammar.specs.Reading.Level.{primary-expr, unary-expr, level}
+use Rattle.grammar.specs.Reading.Depth.{primary-expr, unary-expr, at-depth}
 use Rattle.grammar.specs.Canonical.Write.{own, targeted, write}
 use Rattle.grammar.specs.Canonical.Need.{most, need, needs}
 use Rattle.grammar.specs.Canonical.Valid.{Valid, Target, atom, prim, tight, unary, function, block, v-nil, v-empty-tuple, v-identifier, v-true, v-false, v-integer, v-float, v-string, v-group, v-modified, v-atom, v-primary, v-prim, v-unpack, v-ellipsis, v-table, v-function, v-target, v-if, v-block, v-labelled, v-tight, v-unary-op, v-function-def, v-function-default, v-function-variadic}
@@ -97,46 +97,46 @@ no-unary h = rw (isnt h Kind.OpAdd refl, isnt h Kind.OpSub refl, isnt h Kind.OpI
 
 module _ (d : ℕ) (R : Reads d) where
   -- a path and perhaps an ellipsis
-  unpack-first : {n : ℕ} {r : List ℕ} {y : Res Tree} (q : List ℕ) → Starts false 1 r → Needs n (suc d) (unpack-expr (level d) q r) y → Needs n (suc d) (primary-expr (level d) q r) y
+  unpack-first : {n : ℕ} {r : List ℕ} {y : Res Tree} (q : List ℕ) → Starts false 1 r → Needs n (suc d) (unpack-expr (at-depth d) q r) y → Needs n (suc d) (primary-expr (at-depth d) q r) y
   unfolding primary-expr
   unpack-first q h g =
       first-is _ _ h λ k v s e. if-no _ _ (isnt e Kind.Class refl) (if-no _ _ (isnt e Kind.Fun refl) (if-no _ _ (isnt e Kind.If refl)
       (if-no _ _ (isnt e Kind.Begin refl) (if-no _ _ (isnt e Kind.OpenBrace refl) (if-no _ _ (isnt e Kind.Label refl) g)))))
 
-  prim-back : {t : Tree} → Valid prim t → (q r : List ℕ) → Follows 2 r → Needs (need t own) (suc d) (unpack-expr (level d) q (write t own r)) (ok t r)
+  prim-back : {t : Tree} → Valid prim t → (q r : List ℕ) → Follows 2 r → Needs (need t own) (suc d) (unpack-expr (at-depth d) q (write t own r)) (ok t r)
   unfolding unpack-expr
   prim-back h q r (follows {k = k} a f) =
       first-is _ _ (prim-starts h _) λ i v s e. if-no _ _ (isnt e Kind.Ellipsis refl)
       (weigh (then-is _ _ (primary-back d R h q r (weaker (omega arith) (follows a f))) (sees _ _ _ (symbol k a) (if-no _ _ (no-ellipsis k f) done))) (omega arith))
 
-  unpack-back : {t : Tree} → Valid prim t → (q r : List ℕ) → Needs (need t own) (suc d) (unpack-expr (level d) q (write t own (Kind.Ellipsis ∷ 0 ∷ r))) (ok (Node.unpack t) r)
+  unpack-back : {t : Tree} → Valid prim t → (q r : List ℕ) → Needs (need t own) (suc d) (unpack-expr (at-depth d) q (write t own (Kind.Ellipsis ∷ 0 ∷ r))) (ok (Node.unpack t) r)
   unfolding unpack-expr
   unpack-back h q r =
       first-is _ _ (prim-starts h _) λ i v s e. if-no _ _ (isnt e Kind.Ellipsis refl)
       (weigh (then-is _ _ (primary-back d R h q _ ellipsis) (sees _ _ _ (fits refl) (if-yes _ _ refl (if-no _ _ (prim-kind h) done)))) (omega arith))
 
   -- functions
-  fun-back : {t : Tree} → Valid (function 0) t → (q r : List ℕ) → Needs (need t own) (suc d) (function-decl-expr (level d) q (write t targeted r)) (ok t r)
+  fun-back : {t : Tree} → Valid (function 0) t → (q r : List ℕ) → Needs (need t own) (suc d) (function-decl-expr (at-depth d) q (write t targeted r)) (ok t r)
   unfolding function-decl-expr
   fun-back h q r =
       let o = function-words h r in
       rw (o .1) (sees _ _ _ (fits refl) (if-yes _ _ refl (rw (o .1) at (function-back d R h q r))))
 
   fun-target : {p t : Tree} → Target p → Valid (function (target-name p)) t → (q r : List ℕ)
-      → Needs (max (need p own) (need t own)) (suc d) (function-decl-expr (level d) q (write p own (write t targeted r))) (ok (Node.assignment 2 0 p t) r)
+      → Needs (max (need p own) (need t own)) (suc d) (function-decl-expr (at-depth d) q (write p own (write t targeted r))) (ok (Node.assignment 2 0 p t) r)
   unfolding function-decl-expr
   fun-target {p} g h q r =
       let o = function-words h r in
       rw (o .1) (not-first _ _ (target-starts g _) λ k v s e. if-no _ _ e
       (weigh (then-is _ _ (target-back d R g q (o .0)) (then-is _ _ (rw (o .1) at (function-back d R h q r)) done)) (omega arith)))
 
-  block-back : {b : Tree} (l : ℕ) → Valid block b → (q r : List ℕ) → Needs (need b own) d (block-expr (level d) l q (write b own (Kind.End ∷ 0 ∷ r))) (ok (Node.block l b) r)
+  block-back : {b : Tree} (l : ℕ) → Valid block b → (q r : List ℕ) → Needs (need b own) d (block-expr (at-depth d) l q (write b own (Kind.End ∷ 0 ∷ r))) (ok (Node.block l b) r)
   unfolding block-expr
   block-back l h q r =
       let u = block-body d R h q r in
       weigh (then-is _ _ (u .reads) (exactly (ap (λ b. ok (Node.block l b) r) (u .gives)))) (omega arith)
 
-  tight-back : {b : Bool} {t : Tree} → Valid (tight b) t → (q r : List ℕ) → Follows 2 r → Needs (need t own) (suc d) (primary-expr (level d) q (write t own r)) (ok t r)
+  tight-back : {b : Bool} {t : Tree} → Valid (tight b) t → (q r : List ℕ) → Follows 2 r → Needs (need t own) (suc d) (primary-expr (at-depth d) q (write t own r)) (ok t r)
   unfolding primary-expr unpack-expr expr-label write need join
   tight-back (v-prim h) q r f = unpack-first q (prim-starts h _) (prim-back h q r f)
   tight-back (v-unpack h) q r f = weigh (unpack-first q (prim-starts h _) (unpack-back h q r)) (omega (arith, prim-need h))
@@ -160,7 +160,7 @@ module _ (d : ℕ) (R : Reads d) where
       inside (sees _ _ _ (fits l) (if-no _ _ refl (if-no _ _ refl (if-no _ _ refl (if-no _ _ refl (if-no _ _ refl (if-yes _ _ refl
       (sees _ _ _ (fits refl) (if-yes _ _ refl (block-back (suc n) h q r))))))))))
 
-  pub unary-back : {b : Bool} {t : Tree} → Valid (unary b) t → (q r : List ℕ) → Follows 2 r → Needs (need t own) (suc d) (unary-expr (level d) q (write t own r)) (ok t r)
+  pub unary-back : {b : Bool} {t : Tree} → Valid (unary b) t → (q r : List ℕ) → Follows 2 r → Needs (need t own) (suc d) (unary-expr (at-depth d) q (write t own r)) (ok t r)
   unfolding unary-expr write need
   unary-back (v-tight h) q r f = first-is _ _ (tight-starts h _) λ k v s e. if-yes _ _ (no-unary e) (tight-back h q r f)
   unary-back {t = t} (v-unary-op {t = u} k e h) q r f =

@@ -17,7 +17,7 @@ use Rattle.tree.specs.Maybe.{Maybe, nothing, just}
 use Rattle.grammar.specs.Reading.Result.{Error, Res}
 use Rattle.grammar.specs.Reading.Look.{looked, look, expect, expect-pattern, keyword, try-assign-keyword, action}
 use Rattle.grammar.specs.Reading.Pattern.{conv, to-pattern}
-use Rattle.grammar.specs.Reading.Expr.{Stmts, Level, operators}
+use Rattle.grammar.specs.Reading.Expr.{Stmts, Depth, operators}
 use Rattle.grammar.specs.Canonical.Write.{own, fun-gives, has-function}
 use Rattle.grammar.specs.Canonical.Valid.{IsName, Role, unary, binop, assign, plain, ex, stmt, control, Valid, Valids, Pattern, v-unary, v-up, v-tight, v-binary-op, v-assign, v-inner, v-single, v-tuple, v-local, v-plain, v-keyword, v-none, v-more, v-target, tight}
 use borrow.Author.Tests.{eqb-true}
@@ -110,7 +110,7 @@ pub record ListOk (s : Stmts) : Type 0 where
   pub suite : Valids stmt (s .suite)
   pub jump : Valid control (s .control)
 
-pub record Sound (low : Level) : Type 0 where
+pub record Sound (low : Depth) : Type 0 where
   pub s-unary : (q : List Error) (ts : List ℕ) → Post (λ t r. OperandOk unary ts t) (low .unary q ts)
   pub s-right : (q : List Error) (ts : List ℕ) → Post (AnyOk ts) (low .right q ts)
   pub s-list : (end : ℕ) (q : List Error) (ts : List ℕ) → Post (λ s r. ListOk s) (low .list end q ts)

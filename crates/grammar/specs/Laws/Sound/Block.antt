@@ -10,7 +10,7 @@ use Rattle.tree.specs.Node
 use Rattle.grammar.specs.Reading.Number
 use Rattle.grammar.specs.Reading.Result.{Error, ifb}
 use Rattle.grammar.specs.Reading.Pattern.{conv}
-use Rattle.grammar.specs.Reading.Expr.{Level, Stmts}
+use Rattle.grammar.specs.Reading.Expr.{Depth, Stmts}
 use Rattle.grammar.specs.Reading.Block.{Split, whole, result, split-before, split-kids, split-last, split, block-split, block-of, body as body-read, block-expr, expr-label, branches}
 use Rattle.grammar.specs.Canonical.Valid.{IsName, tight, branch, else-clause, jump, control, block, stmt, Valid, Valids, v-if, v-block, v-labelled, v-branch, v-no-else, v-else, v-continue, v-break, v-break-value, v-break-label, v-return, v-return-value, v-no-control, v-control, v-block-plain, v-block-control, v-block-result, v-expression, v-loop, v-while, v-for, v-assert, v-none, v-more}
 use Rattle.grammar.specs.Laws.Post.{Post, p-ok, p-fail, post-then, post-if, post-map}
@@ -80,7 +80,7 @@ unfolding snoc
 if-made none t (v-more h f) e = v-if h f e
 if-made (more u g) t (v-more h f) e = v-if h f e
 
-module _ (low : Level) (S : Sound low) where
+module _ (low : Depth) (S : Sound low) where
   pub body-sound : (q : List Error) (ts : List ℕ) → Post (λ s r. ListOk s) (body-read low q ts)
   unfolding body-read
   body-sound q ts = post-then q (S .s-list 0 q ts) λ s q₁ r x. post-then q₁ (look-saw q₁ r) λ tok q₂ rest w. p-ok x

@@ -8,13 +8,13 @@ use Rattle.token.specs.Kind
 use Rattle.tree.specs.Tree.{Forest, one, snoc}
 use Rattle.grammar.specs.Reading.Number
 use Rattle.grammar.specs.Reading.Result.{Error}
-use Rattle.grammar.specs.Reading.Expr.{Level, binop-expr, members, tuple-expr, expr}
+use Rattle.grammar.specs.Reading.Expr.{Depth, binop-expr, members, tuple-expr, expr}
 use Rattle.grammar.specs.Canonical.Valid.{binop, plain, v-unary, v-up, v-inner}
 use Rattle.grammar.specs.Laws.Facts.{clash}
 use Rattle.grammar.specs.Laws.Post.{Post, p-ok, p-fail, post-then, post-if, post-map}
 use Rattle.grammar.specs.Laws.Sound.Base.{look-saw, isnt, not-at, is-at, OperandOk, ExprOk, AnyOk, Sound, anyhow, operators-sound, MembersOk, first, members-snoc, tuple-made, keyword-sound, pattern-sound, plain-any, assigned}
 
-module _ (low : Level) (S : Sound low) where
+module _ (low : Depth) (S : Sound low) where
   pub binop-sound : (l : ℕ) (q : List Error) (ts : List ℕ) → Post (λ t r. OperandOk (λ b. binop b l) ts t) (binop-expr low l q ts)
   unfolding binop-expr
   binop-sound zero q ts = post-map (λ t r x. record { valid = λ b h. v-unary (x .valid b h); converts = x .converts; start = x .start }) (S .s-unary q ts)

@@ -13,7 +13,7 @@ use Rattle.tree.specs.Maybe.{Maybe, nothing, just}
 use Rattle.grammar.specs.Reading.Number
 use Rattle.grammar.specs.Reading.Result.{Error}
 use Rattle.grammar.specs.Reading.Look.{expect-pattern}
-use Rattle.grammar.specs.Reading.Expr.{Level}
+use Rattle.grammar.specs.Reading.Expr.{Depth}
 use Rattle.grammar.specs.Reading.Primary.{literal, atom as atom-read, with-path}
 use Rattle.grammar.specs.Reading.Pattern.{conv, to-pattern, by-item}
 use Rattle.grammar.specs.Reading.Function.{Param, required, variadic, default, Params, param-mode, variadic-param, plain-param, param as param-read, joined, params, function-def, function-assignment-target, target-name, function-decl-expr}
@@ -134,7 +134,7 @@ target-sound (v-group x) e v-none = clash e refl
 target-sound (v-modified a x) e v-none = clash e refl
 target-sound h e (v-more i f) = item-target h e (front-valid i f) (last-valid i f)
 
-module _ (low : Level) (S : Sound low) where
+module _ (low : Depth) (S : Sound low) where
   plain-sound : {v : ℕ} (q : List Error) (ts : List ℕ) → IsNamed v → Post (λ p r. ParamOk r p) (plain-param low v q ts)
   unfolding plain-param
   plain-sound q ts h =

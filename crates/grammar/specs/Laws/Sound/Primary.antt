@@ -14,7 +14,7 @@ use Rattle.tree.specs.Node
 use Rattle.grammar.specs.Reading.Number
 use Rattle.grammar.specs.Reading.Result.{Error}
 use Rattle.grammar.specs.Reading.Pattern.{conv}
-use Rattle.grammar.specs.Reading.Expr.{Level}
+use Rattle.grammar.specs.Reading.Expr.{Depth}
 use Rattle.grammar.specs.Reading.Primary.{with-action, group-expr, literal, atom as atom-read, indexing-expr, field-name, table-field, table-item as table-item-read, table-items, member-access, invocation, path, with-path, primary, unpack-expr}
 use Rattle.grammar.specs.Canonical.Valid.{IsName, IsNamed, read-only, read-write, Role, atom, prim, tight, ex, item, field, table-item, Valid, Valids, v-nil, v-empty-tuple, v-identifier, v-true, v-false, v-integer, v-float, v-string, v-group, v-modified, v-atom, v-primary, v-prim, v-unpack, v-ellipsis, v-attribute, v-index, v-invoke, v-invoke-table, v-field, v-field-index, v-table-item, v-none, v-more, no-argument}
 use borrow.Author.Tests.{eqb-true}
@@ -54,7 +54,7 @@ with-action-converts a (node k v f) x = go (eqb k NodeKind.Assignment) refl
     go true e = none-sound (rw (eqb-true k NodeKind.Assignment e))
     go false e = x
 
-module _ (low : Level) (S : Sound low) where
+module _ (low : Depth) (S : Sound low) where
   grouped : {ts r s : List ℕ} {m : ℕ} {e : Tree} → Keyed ts m r → AnyOk r e s → (Valid atom (Node.group m (with-action m e))) × Converts (Node.group m (with-action m e))
   grouped (no-keyword k) x = (v-group (x .bare k true true anyhow anyhow), group-sound (x .all .converts))
   grouped (a-keyword h k n) x = (v-modified h (given-ex h (x .all .valid true true anyhow anyhow)), modified-sound h (with-action-converts _ _ (x .all .converts)))

@@ -15,9 +15,9 @@ use Rattle.grammar.specs.Reading.Number
 use Rattle.grammar.specs.Reading.Result.{Error}
 use Rattle.grammar.specs.Reading.Look.{try-label}
 use Rattle.grammar.specs.Reading.Pattern.{conv, modified}
-use Rattle.grammar.specs.Reading.Expr.{Level, Stmts}
+use Rattle.grammar.specs.Reading.Expr.{Depth, Stmts}
 use Rattle.grammar.specs.Reading.Stmt.{loop, while-loop, lvalue-list, for-loop, stmt-label, stmt as stmt-read, ends, control-value, control-flow, control-last, is-control, stmts}
-use Rattle.grammar.specs.Reading.Level.{primary-expr, unary-expr, level}
+use Rattle.grammar.specs.Reading.Depth.{primary-expr, unary-expr, at-depth}
 use Rattle.grammar.specs.Canonical.Valid.{IsName, IsLabel, no-label, a-label, tight, unary, ex, jump, control, body, stmt, Valid, Valids, Pattern, v-table, v-tight, v-unary-op, v-continue, v-break, v-break-value, v-break-label, v-return, v-return-value, v-no-control, v-control, v-body, v-expression, v-loop, v-while, v-for, v-assert, v-none, p-modifier}
 use borrow.Author.Tests.{eqb-true, ne-eqb}
 use Rattle.grammar.specs.Laws.Facts.{clash, apart}
@@ -64,7 +64,7 @@ close-code : eqb (unary-code Kind.CloseParen) 0 ≡ true
 unfolding unary-code which-unary-op
 close-code = refl
 
-module _ (low : Level) (S : Sound low) where
+module _ (low : Depth) (S : Sound low) where
   loop-sound : (l : ℕ) (q : List Error) (ts : List ℕ) → IsLabel l → Post (λ t r. Valid stmt t) (loop low l q ts)
   unfolding loop
   loop-sound l q ts h = post-then q (body-sound low S q ts) λ s q₁ r x. p-ok (v-loop h (body-of x))
@@ -208,11 +208,11 @@ module _ (low : Level) (S : Sound low) where
         start = rw (sym (s .at)) (operator-close (tok .kind) e);
       }))
 
-pub level-sound : (d : ℕ) → Sound (level d)
-unfolding level
-level-sound zero = record { s-unary = λ q ts. p-stop; s-right = λ q ts. p-stop; s-list = λ end q ts. p-stop }
-level-sound (suc d) = record {
-  s-unary = unary-sound (level d) (level-sound d);
-  s-right = expr-sound (level d) (level-sound d);
-  s-list = λ end q ts. stmts-sound (level d) (level-sound d) end (length ts) none q ts (λ _. v-none);
+pub depth-sound : (d : ℕ) → Sound (at-depth d)
+unfolding at-depth
+depth-sound zero = record { s-unary = λ q ts. p-stop; s-right = λ q ts. p-stop; s-list = λ end q ts. p-stop }
+depth-sound (suc d) = record {
+  s-unary = unary-sound (at-depth d) (depth-sound d);
+  s-right = expr-sound (at-depth d) (depth-sound d);
+  s-list = λ end q ts. stmts-sound (at-depth d) (depth-sound d) end (length ts) none q ts (λ _. v-none);
 }

@@ -6,7 +6,7 @@ use borrow.Author.Needs.{needs}
 use native.Mathlib.Omega.{arith}
 use lib.ListN.{length, take, drop, length-drop}
 use Rattle.tree.specs.Tree.{Tree, more, records}
-use Rattle.grammar.specs.Reading.Level.{level}
+use Rattle.grammar.specs.Reading.Depth.{at-depth}
 use Rattle.parser.specs.Post.{Wrote}
 use Rattle.parser.proofs.Laws.{way, here, link, goes, done, undone, did-not, taken, not-taken, fails, blind, prefix, rebased, relabel, home, made-two, as-agrees, anew}
 use Rattle.parser.proofs.PathsExpr.{binop-unary, left}
@@ -19,7 +19,7 @@ use Rattle.parser.proofs.+access+atom+begin+binop+block+body+branch+cal
 pub record Going (T S₀ Q₀ : List ℕ) (depth l pos at p₀ a₀ w₀ : ℕ) (S Q : List ℕ) (p a w : ℕ) : Type 0 where
   pub fuel : ℕ
   pub enough : length T ≤ p + fuel
-  pub run : (t₀ : Tree) → take a₀ S₀ ≡ take at S₀ ++ records t₀ → Wrote records (climb (level depth) l (length (drop p₀ T)) t₀ (take w₀ Q₀) (drop p₀ T)) (climb (level depth) l fuel) T pos (pos + 2) 20 at w₀ S₀ Q₀ p a w S Q
+  pub run : (t₀ : Tree) → take a₀ S₀ ≡ take at S₀ ++ records t₀ → Wrote records (climb (at-depth depth) l (length (drop p₀ T)) t₀ (take w₀ Q₀) (drop p₀ T)) (climb (at-depth depth) l fuel) T pos (pos + 2) 20 at w₀ S₀ Q₀ p a w S Q
   pub kept : length S ≡ length S₀
 
 abbrev pub Inv-loop : lts.InvT-loop

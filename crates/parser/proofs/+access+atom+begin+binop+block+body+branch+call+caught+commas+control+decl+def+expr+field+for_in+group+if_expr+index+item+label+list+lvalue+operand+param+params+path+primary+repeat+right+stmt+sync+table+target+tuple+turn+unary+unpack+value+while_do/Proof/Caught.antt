@@ -5,7 +5,7 @@ use borrow.Author.Needs.{needs}
 use native.Mathlib.Omega.{arith}
 use lib.ListN.{drop}
 use Rattle.grammar.specs.Reading.Result.{push}
-use Rattle.grammar.specs.Reading.Level.{level}
+use Rattle.grammar.specs.Reading.Depth.{at-depth}
 use Rattle.parser.proofs.Laws.{way, link, ends, goes, done, undone, did-not, taken, fails, prefix}
 use Rattle.parser.proofs.PathsList.{caught-go, caught-out, caught-push, resumes}
 use Rattle.parser.proofs.caught.Reads as reads
@@ -34,7 +34,7 @@ same-length t c = search needs
 
 pub returns-3 : (t : ℕ) → lts.Need-returns-3 (caught-calls t) (caught-at t) reads.Post
 returns-3 t c = let u = c .before .before .before .before .before .before .push .ensures in
-    let path = link (way _ (caught-push _ _ _ _ (c .before .before .before .before .before .before .before .before .before .if1 .left))) (pushes (c .before .before .before .before .before .before .before .before .before .before .before .before .args .e) (c .before .before .before .before .before .before .before .before .before .before .before .before .args .waiting) (c .before .before .before .before .before .before .before .before .before .before .before .before .args .queue .now) (caught-go (level (c .before .before .before .before .before .before .before .before .before .before .before .before .args .depth)) (drop (c .before .before .before .before .before .before .before .before .before .before .before .before .args .pos) (c .before .before .before .before .before .before .before .before .before .before .before .before .args .tokens .now))) (c .before .before .before .before .before .before .before .before .if2 .left) (omega (arith, c .before .before .before .before .before .before .before .before .before .before .before .before .pre)) (u .text)) in
+    let path = link (way _ (caught-push _ _ _ _ (c .before .before .before .before .before .before .before .before .before .if1 .left))) (pushes (c .before .before .before .before .before .before .before .before .before .before .before .before .args .e) (c .before .before .before .before .before .before .before .before .before .before .before .before .args .waiting) (c .before .before .before .before .before .before .before .before .before .before .before .before .args .queue .now) (caught-go (at-depth (c .before .before .before .before .before .before .before .before .before .before .before .before .args .depth)) (drop (c .before .before .before .before .before .before .before .before .before .before .before .before .args .pos) (c .before .before .before .before .before .before .before .before .before .before .before .before .args .tokens .now))) (c .before .before .before .before .before .before .before .before .if2 .left) (omega (arith, c .before .before .before .before .before .before .before .before .before .before .before .before .pre)) (u .text)) in
     did-not (fails _ path (undone (c .match .keys2) (c .before .before .before .sync .ensures)) refl (omega arith))
 
 pub synchronized-requires : (t : ℕ) → lts.Need-synchronized-requires (caught-calls t) (caught-at t) reads.Post
@@ -48,6 +48,6 @@ same-length-2 t c = search needs
 pub returns-4 : (t : ℕ) → lts.Need-returns-4 (caught-calls t) (caught-at t) reads.Post
 returns-4 t c = let u = c .before .before .before .before .before .before .before .before .before .before .push .ensures in
     let s1 = done (c .before .before .before .r .given .1) (c .before .before .before .before .before .before .before .sync .ensures) in
-    let path = link (way _ (caught-push _ _ _ _ (c .before .before .before .before .before .before .before .before .before .before .before .before .before .if1 .left))) (pushes (c .before .before .before .before .before .before .before .before .before .before .before .before .before .before .before .before .args .e) (c .before .before .before .before .before .before .before .before .before .before .before .before .before .before .before .before .args .waiting) (c .before .before .before .before .before .before .before .before .before .before .before .before .before .before .before .before .args .queue .now) (caught-go (level (c .before .before .before .before .before .before .before .before .before .before .before .before .before .before .before .before .args .depth)) (drop (c .before .before .before .before .before .before .before .before .before .before .before .before .before .before .before .before .args .pos) (c .before .before .before .before .before .before .before .before .before .before .before .before .before .before .before .before .args .tokens .now))) (c .before .before .before .before .before .before .before .before .before .before .before .before .if2 .left) (omega (arith, c .before .before .before .before .before .before .before .before .before .before .before .before .before .before .before .before .pre)) (u .text)) in
+    let path = link (way _ (caught-push _ _ _ _ (c .before .before .before .before .before .before .before .before .before .before .before .before .before .if1 .left))) (pushes (c .before .before .before .before .before .before .before .before .before .before .before .before .before .before .before .before .args .e) (c .before .before .before .before .before .before .before .before .before .before .before .before .before .before .before .before .args .waiting) (c .before .before .before .before .before .before .before .before .before .before .before .before .before .before .before .before .args .queue .now) (caught-go (at-depth (c .before .before .before .before .before .before .before .before .before .before .before .before .before .before .before .before .args .depth)) (drop (c .before .before .before .before .before .before .before .before .before .before .before .before .before .before .before .before .args .pos) (c .before .before .before .before .before .before .before .before .before .before .before .before .before .before .before .before .args .tokens .now))) (c .before .before .before .before .before .before .before .before .before .before .before .before .if2 .left) (omega (arith, c .before .before .before .before .before .before .before .before .before .before .before .before .before .before .before .before .pre)) (u .text)) in
     let on = goes _ path (s1 .same) in
     resumes on (prefix s1 (omega (arith, c .before .before .before .before .before .before .before .before .before .before .before .before .before .before .before .before .pre))) (omega (arith, c .before .before .before .before .before .before .before .before .before .before .before .before .before .before .before .before .pre, u .next, s1 .moved)) (c .synchronized .ensures)

@@ -6,7 +6,7 @@ use borrow.Author.Needs.{needs}
 use native.Mathlib.Omega.{arith}
 use lib.ListN.{length, take, drop, length-drop}
 use Rattle.tree.specs.Tree.{none, snoc, count, records, all-records}
-use Rattle.grammar.specs.Reading.Level.{level}
+use Rattle.grammar.specs.Reading.Depth.{at-depth}
 use Rattle.parser.specs.Post.{Wrote}
 use Rattle.parser.specs.Parts.{commas}
 use Rattle.parser.proofs.Laws.{way, here, link, goes, done, undone, did-not, taken, not-taken, fails, blind, prefix, joined, remade, count-snoc}
@@ -19,7 +19,7 @@ use Rattle.parser.proofs.+access+atom+begin+binop+block+body+branch+cal
 pub record Going (T S₀ Q₀ : List ℕ) (depth pos at waiting : ℕ) (S Q : List ℕ) (p a w n : ℕ) : Type 0 where
   pub fuel : ℕ
   pub enough : length T ≤ p + fuel
-  pub run : Wrote all-records (commas (level depth) (length (drop pos T)) none (take waiting Q₀) (drop pos T)) (commas (level depth) fuel) T pos pos 8 at waiting S₀ Q₀ p a w S Q
+  pub run : Wrote all-records (commas (at-depth depth) (length (drop pos T)) none (take waiting Q₀) (drop pos T)) (commas (at-depth depth) fuel) T pos pos 8 at waiting S₀ Q₀ p a w S Q
   pub many : suc (count (run .what)) ≡ n
   pub few : 2 * n ≤ p + 2
   pub kept : length S ≡ length S₀

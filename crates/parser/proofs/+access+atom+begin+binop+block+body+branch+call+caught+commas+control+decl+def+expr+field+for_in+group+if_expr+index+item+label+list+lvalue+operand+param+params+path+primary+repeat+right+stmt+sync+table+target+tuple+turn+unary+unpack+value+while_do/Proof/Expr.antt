@@ -9,7 +9,7 @@ use native.Mathlib.Omega.{arith}
 use lib.ListN.{take}
 use Rattle.tree.specs.Tree.{two, count, records}
 use Rattle.grammar.specs.Reading.Look.{look, expect-pattern, action}
-use Rattle.grammar.specs.Reading.Level.{level}
+use Rattle.grammar.specs.Reading.Depth.{at-depth}
 use Rattle.parser.specs.Parts.{unassigned-step}
 use Rattle.parser.proofs.Laws.{way, link, goes, done, undone, did-not, taken, not-taken, fails, lacks, blind, found, unfound, gets, prefix, relabel, anew}
 use Rattle.parser.proofs.Writing.{stored, unstored, reaches, either-way, told, kids-two, made-over, before, unwrote, stands}
@@ -77,8 +77,8 @@ returns-2 t c = let x = found (c .before .before .before .before .before .before
     let s1 = goes _ s0 (w .same) in
     let tk = taken (c .before .before .before .before .kind .given .1) (c .before .before .before .before .before .before .look .ensures) in
     either-way (eqb (c .before .before .before .before .before .before .before .before .before .before .before .before .before .before .before .before .p .given .0 .1 .0) 0)
-    (λ e. record { how = relabel w (w .what) refl (link s1 (way _ (expr-plain (level (c .before .before .before .before .before .before .before .before .before .before .before .before .before .before .before .before .before .before .before .before .before .args .depth)) (c .before .before .before .before .before .before .before .before .before .before .before .before .before .before .before .before .p .given .0 .1 .0) (w .what) _ tk (c .before .before .assign-code .ensures .0) (c .before .if1 .taken) (eqb-true _ _ e)))) (omega (arith, c .before .before .before .before .before .before .before .before .before .before .before .before .before .before .before .before .before .before .before .before .before .pre, w .moved, xo)) (omega (arith, c .before .before .before .before .before .before .before .before .before .before .before .before .before .before .before .before .before .before .before .before .before .pre, w .moved, w .room, xo)) })
-    (λ e. record { how = record { how = record { same = link s1 (way _ (expr-alone (level (c .before .before .before .before .before .before .before .before .before .before .before .before .before .before .before .before .before .before .before .before .before .args .depth)) (c .before .before .before .before .before .before .before .before .before .before .before .before .before .before .before .before .p .given .0 .1 .0) (w .what) _ tk (c .before .before .assign-code .ensures .0) (c .before .if1 .taken) (eqb-false _ _ e))); moved = omega (arith, c .before .before .before .before .before .before .before .before .before .before .before .before .before .before .before .before .before .before .before .before .before .pre, w .moved, xo); far = omega (arith, c .before .before .before .before .before .before .before .before .before .before .before .before .before .before .before .before .before .before .before .before .before .pre, w .moved, xo); text = prefix w (omega (arith, c .before .before .before .before .before .before .before .before .before .before .before .before .before .before .before .before .before .before .before .before .before .pre)) } } })
+    (λ e. record { how = relabel w (w .what) refl (link s1 (way _ (expr-plain (at-depth (c .before .before .before .before .before .before .before .before .before .before .before .before .before .before .before .before .before .before .before .before .before .args .depth)) (c .before .before .before .before .before .before .before .before .before .before .before .before .before .before .before .before .p .given .0 .1 .0) (w .what) _ tk (c .before .before .assign-code .ensures .0) (c .before .if1 .taken) (eqb-true _ _ e)))) (omega (arith, c .before .before .before .before .before .before .before .before .before .before .before .before .before .before .before .before .before .before .before .before .before .pre, w .moved, xo)) (omega (arith, c .before .before .before .before .before .before .before .before .before .before .before .before .before .before .before .before .before .before .before .before .before .pre, w .moved, w .room, xo)) })
+    (λ e. record { how = record { how = record { same = link s1 (way _ (expr-alone (at-depth (c .before .before .before .before .before .before .before .before .before .before .before .before .before .before .before .before .before .before .before .before .before .args .depth)) (c .before .before .before .before .before .before .before .before .before .before .before .before .before .before .before .before .p .given .0 .1 .0) (w .what) _ tk (c .before .before .assign-code .ensures .0) (c .before .if1 .taken) (eqb-false _ _ e))); moved = omega (arith, c .before .before .before .before .before .before .before .before .before .before .before .before .before .before .before .before .before .before .before .before .before .pre, w .moved, xo); far = omega (arith, c .before .before .before .before .before .before .before .before .before .before .before .before .before .before .before .before .before .before .before .before .before .pre, w .moved, xo); text = prefix w (omega (arith, c .before .before .before .before .before .before .before .before .before .before .before .before .before .before .before .before .before .before .before .before .before .pre)) } } })
     (c .unassigned .ensures)
 
 pub add-expect-pattern : (t : ℕ) → lts.Need-add-expect-pattern (expr-calls t) (expr-at t) reads.Post
@@ -113,7 +113,7 @@ returns-3 t c = let x = found (c .before .before .before .before .before .before
     let tk = taken (c .before .before .before .before .before .before .before .before .before .kind .given .1) (c .before .before .before .before .before .before .before .before .before .before .before .look .ensures) in
     let small = shape-small (given (tuple-shape _ _ _) (w .same)) in
     let whole = stands w small (omega (arith, c .before .before .before .before .before .before .before .before .before .before .before .before .before .before .before .before .before .before .before .before .before .before .before .before .before .before .pre)) (omega (arith, c .before .before .before .before .before .before .before .before .before .before .before .before .before .before .before .before .before .before .before .before .before .before .before .before .before .before .pre, w .moved, w .room, xo, xw, c .before .before .before .before .before .before .before .before .before .before .before .before .before .before .before .before .before .tuple .kept .1 .0)) in
-    let q2 = link s1 (way _ (expr-assign (level (c .before .before .before .before .before .before .before .before .before .before .before .before .before .before .before .before .before .before .before .before .before .before .before .before .before .before .args .depth)) (c .before .before .before .before .before .before .before .before .before .before .before .before .before .before .before .before .before .before .before .before .before .p .given .0 .1 .0) (w .what) _ tk (c .before .before .before .before .before .before .before .assign-code .ensures .0) (c .before .before .before .before .before .before .if1 .left) refl)) in
+    let q2 = link s1 (way _ (expr-assign (at-depth (c .before .before .before .before .before .before .before .before .before .before .before .before .before .before .before .before .before .before .before .before .before .before .before .before .before .before .args .depth)) (c .before .before .before .before .before .before .before .before .before .before .before .before .before .before .before .before .before .before .before .before .before .p .given .0 .1 .0) (w .what) _ tk (c .before .before .before .before .before .before .before .assign-code .ensures .0) (c .before .before .before .before .before .before .if1 .left) refl)) in
     let kept = prefix w (omega (arith, c .before .before .before .before .before .before .before .before .before .before .before .before .before .before .before .before .before .before .before .before .before .before .before .before .before .before .pre)) in
     anew (c .again2 .ensures) (did-not (unwrote _ (unstored (c .before .match4 .keys2) (c .before .before .before .before .expect-pattern .ensures (w .what) (c .before .before .before .before .before .before .before .before .before .before .before .before .before .before .before .before .before .before .before .before .before .before .before .before .before .before .args .tokens .now) whole (tk .within))) q2 kept (omega (arith, c .before .before .before .before .before .before .before .before .before .before .before .before .before .before .before .before .before .before .before .before .before .before .before .before .before .before .pre, w .moved, xo))))
 
@@ -152,7 +152,7 @@ returns-4 t c = let x = found (c .before .before .before .before .before .before
     let pt = stored (c .before .before .before .before .before .before .before .before .t .given .1) (c .before .before .before .before .before .before .before .before .before .before .before .before .expect-pattern .ensures (w .what) (c .before .before .before .before .before .before .before .before .before .before .before .before .before .before .before .before .before .before .before .before .before .before .before .before .before .before .before .before .before .before .before .before .before .before .args .tokens .now) whole (tk .within)) in
     let po = pt .got .on in
     let pw = pt .got .within in
-    let q2 = link s1 (way _ (expr-assign (level (c .before .before .before .before .before .before .before .before .before .before .before .before .before .before .before .before .before .before .before .before .before .before .before .before .before .before .before .before .before .before .before .before .before .before .args .depth)) (c .before .before .before .before .before .before .before .before .before .before .before .before .before .before .before .before .before .before .before .before .before .before .before .before .before .before .before .before .before .p .given .0 .1 .0) (w .what) _ tk (c .before .before .before .before .before .before .before .before .before .before .before .before .before .before .before .assign-code .ensures .0) (c .before .before .before .before .before .before .before .before .before .before .before .before .before .before .if1 .left) refl)) in
+    let q2 = link s1 (way _ (expr-assign (at-depth (c .before .before .before .before .before .before .before .before .before .before .before .before .before .before .before .before .before .before .before .before .before .before .before .before .before .before .before .before .before .before .before .before .before .before .args .depth)) (c .before .before .before .before .before .before .before .before .before .before .before .before .before .before .before .before .before .before .before .before .before .before .before .before .before .before .before .before .before .p .given .0 .1 .0) (w .what) _ tk (c .before .before .before .before .before .before .before .before .before .before .before .before .before .before .before .assign-code .ensures .0) (c .before .before .before .before .before .before .before .before .before .before .before .before .before .before .if1 .left) refl)) in
     let s3 = gets _ (pt .got) q2 in
     let kept = prefix w (omega (arith, c .before .before .before .before .before .before .before .before .before .before .before .before .before .before .before .before .before .before .before .before .before .before .before .before .before .before .before .before .before .before .before .before .before .before .pre)) in
     let stays = before (c .before .before .before .before .before .before .before .before .before .before .before .before .before .before .before .before .before .before .before .before .before .before .before .before .before .before .before .before .before .before .before .before .before .before .args .at) (c .before .before .before .before .before .before .before .before .before .before .before .before .before .before .before .before .before .before .before .before .before .before .before .before .before .tuple .last .1 .0) pt (omega (arith, c .before .before .before .before .before .before .before .before .before .before .before .before .before .before .before .before .before .before .before .before .before .before .before .before .before .before .before .before .before .before .before .before .before .before .pre, c .before .before .before .before .before .before .before .before .before .before .before .before .before .before .before .before .before .before .before .before .before .before .before .before .before .tuple .kept .1 .0)) ∙ kept in
@@ -215,7 +215,7 @@ returns-5 t c = let x = found (c .before .before .before .before .before .before
     let kept = prefix w (omega (arith, c .before .before .before .before .before .before .before .before .before .before .before .before .before .before .before .before .before .before .before .before .before .before .before .before .before .before .before .before .before .before .before .before .before .before .before .before .before .before .before .before .pre)) in
     let up = reaches (c .before .before .before .before .before .before .before .before .before .before .before .before .before .before .before .before .before .before .before .before .before .before .before .before .before .before .before .before .before .before .before .tuple .last .1 .0) (c .before .before .before .before .before .before .before .before .before .before .before .before .before .before .before .before .before .before .expect-pattern .last .0) (records (pt .got .what)) (c .before .before .before .before .before .before .before .before .before .before .before .before .before .before .before .before .before .before .before .before .before .before .before .before .before .before .before .before .before .before .before .before .before .before .before .before .before .before .before .before .args .at) (c .before .before .before .before .before .before .before .before .before .before .before .before .before .before .t .given .0 .1 .0) (pt .text) (omega (arith, c .before .before .before .before .before .before .before .before .before .before .before .before .before .before .before .before .before .before .before .before .before .before .before .before .before .before .before .before .before .before .before .before .before .before .before .before .before .before .before .before .pre, c .before .before .before .before .before .before .before .before .before .before .before .before .before .before .before .before .before .before .before .before .before .before .before .before .before .before .before .before .before .before .before .tuple .kept .1 .0)) in
     let u = done (c .before .before .before .before .before .before .r .given .1) (c .before .before .before .before .before .before .before .before .before .before .right .ensures) in
-    let q4 = link s1 (way _ (expr-assign (level (c .before .before .before .before .before .before .before .before .before .before .before .before .before .before .before .before .before .before .before .before .before .before .before .before .before .before .before .before .before .before .before .before .before .before .before .before .before .before .before .before .args .depth)) (c .before .before .before .before .before .before .before .before .before .before .before .before .before .before .before .before .before .before .before .before .before .before .before .before .before .before .before .before .before .before .before .before .before .before .before .p .given .0 .1 .0) (w .what) _ tk (c .before .before .before .before .before .before .before .before .before .before .before .before .before .before .before .before .before .before .before .before .before .assign-code .ensures .0) (c .before .before .before .before .before .before .before .before .before .before .before .before .before .before .before .before .before .before .before .before .if1 .left) (c .before .before .before .action .ensures))) in
+    let q4 = link s1 (way _ (expr-assign (at-depth (c .before .before .before .before .before .before .before .before .before .before .before .before .before .before .before .before .before .before .before .before .before .before .before .before .before .before .before .before .before .before .before .before .before .before .before .before .before .before .before .before .args .depth)) (c .before .before .before .before .before .before .before .before .before .before .before .before .before .before .before .before .before .before .before .before .before .before .before .before .before .before .before .before .before .before .before .before .before .before .before .p .given .0 .1 .0) (w .what) _ tk (c .before .before .before .before .before .before .before .before .before .before .before .before .before .before .before .before .before .before .before .before .before .assign-code .ensures .0) (c .before .before .before .before .before .before .before .before .before .before .before .before .before .before .before .before .before .before .before .before .if1 .left) (c .before .before .before .action .ensures))) in
     let e = c .before .before .emit .ensures in
     let en = e .next in
     let text = pt .text ∙ ap (λ (l : List ℕ). l ++ records (pt .got .what)) kept in

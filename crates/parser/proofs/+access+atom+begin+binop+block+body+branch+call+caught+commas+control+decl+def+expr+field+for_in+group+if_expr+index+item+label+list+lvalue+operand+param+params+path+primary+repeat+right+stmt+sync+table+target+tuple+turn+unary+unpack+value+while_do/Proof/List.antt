@@ -7,7 +7,7 @@ use native.Mathlib.Omega.{arith}
 use lib.ListN.{length, take, drop, length-drop}
 use Rattle.tree.specs.Tree.{none, snoc, count, records, all-records}
 use Rattle.tree.specs.Node
-use Rattle.grammar.specs.Reading.Level.{level}
+use Rattle.grammar.specs.Reading.Depth.{at-depth}
 use Rattle.parser.specs.Post.{Wrote}
 use Rattle.parser.proofs.Laws.{way, link, ends, goes, taken, not-taken, fails, blind, prefix, relabel, joined, count-snoc}
 use Rattle.grammar.specs.Reading.Stmt.{stmts}
@@ -21,7 +21,7 @@ use Rattle.parser.proofs.+access+atom+begin+binop+block+body+branch+cal
 pub record Going (T S₀ Q₀ : List ℕ) (depth end pos at waiting : ℕ) (S Q : List ℕ) (p a w n last : ℕ) : Type 0 where
   pub fuel : ℕ
   pub enough : length T ≤ p + fuel
-  pub run : Wrote all-records (level depth .list end (take waiting Q₀) (drop pos T)) (stmts (level (depth - 1)) end fuel) T pos pos 8 at waiting S₀ Q₀ p a w S Q
+  pub run : Wrote all-records (at-depth depth .list end (take waiting Q₀) (drop pos T)) (stmts (at-depth (depth - 1)) end fuel) T pos pos 8 at waiting S₀ Q₀ p a w S Q
   pub many : count (run .what) ≡ n
   pub short : 2 * n ≤ p
   pub back : last ≤ a

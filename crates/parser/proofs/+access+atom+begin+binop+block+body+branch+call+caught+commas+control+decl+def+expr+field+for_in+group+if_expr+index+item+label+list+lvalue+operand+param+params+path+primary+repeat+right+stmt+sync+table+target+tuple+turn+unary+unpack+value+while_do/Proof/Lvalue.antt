@@ -7,7 +7,7 @@ use lib.ListN.{take}
 use Rattle.parser.proofs.Laws.{way, goes, done, undone, did-not, fails, lacks, found, unfound, gets, prefix}
 use Rattle.parser.proofs.Tokens.{unread}
 use Rattle.grammar.specs.Reading.Pattern.{modified}
-use Rattle.grammar.specs.Laws.Kinds.{tuple-small, level-small}
+use Rattle.grammar.specs.Laws.Kinds.{tuple-small, depth-small}
 use Rattle.parser.proofs.PathsStmt.{whole-of, up-of, ended-text, modified-text, lvalue-step}
 use Rattle.parser.proofs.lvalue.Reads as reads
 use Rattle.parser.proofs.+access+atom+begin+binop+block+body+branch+call+caught+commas+control+decl+def+expr+field+for_in+group+if_expr+index+item+label+list+lvalue+operand+param+params+path+primary+repeat+right+stmt+sync+table+target+tuple+turn+unary+unpack+value+while_do.Lts-lvalue as lts
@@ -49,7 +49,7 @@ expect-pattern-requires t c κs = let f = found (c .before .before .before .befo
     let gon = g .on in
     let gwithin = g .within in
     let w = done (c .before .before .r .given .1) (c .before .before .before .before .before .before .tuple .ensures) in
-    let small = given (tuple-small _ (level-small _) _ _) (w .same) in
+    let small = given (tuple-small _ (depth-small _) _ _) (w .same) in
     record { tree = w .what; whole = whole-of w small (omega (arith, c .before .before .before .before .before .before .before .before .before .before .before .before .before .before .before .pre, gon, gwithin)) (omega (arith, c .before .before .before .before .before .before .before .before .before .before .before .before .before .before .before .pre, gon, gwithin, w .moved, w .room, c .before .before .before .before .before .before .tuple .kept .1 .0)) }
 
 pub enum-known-t : (t : ℕ) → lts.Need-enum-known-t (lvalue-calls t) (lvalue-at t) reads.Post
@@ -67,7 +67,7 @@ returns-2 t c = let f = found (c .before .before .before .before .before .before
     let on = gets _ g path in
     let w = done (c .before .before .before .before .before .before .r .given .1) (c .before .before .before .before .before .before .before .before .before .before .tuple .ensures) in
     let on2 = goes _ on (w .same) in
-    let small = given (tuple-small _ (level-small _) _ _) (w .same) in
+    let small = given (tuple-small _ (depth-small _) _ _) (w .same) in
     let inside = whole-of w small (omega (arith, c .before .before .before .before .before .before .before .before .before .before .before .before .before .before .before .before .before .before .before .pre, gon, gwithin)) (omega (arith, c .before .before .before .before .before .before .before .before .before .before .before .before .before .before .before .before .before .before .before .pre, gon, gwithin, w .moved, w .room, c .before .before .before .before .before .before .before .before .before .before .tuple .kept .1 .0)) in
     let ep = c .before .before .before .expect-pattern .ensures (w .what) (c .before .before .before .before .before .before .before .before .before .before .before .before .before .before .before .before .before .before .before .args .tokens .now) inside (w .moved .within) in
     let u = unstored (c .match3 .keys2) ep in
@@ -79,7 +79,7 @@ modified-requires t c κs = let f = found (c .before .before .before .before .be
     let gon = g .on in
     let gwithin = g .within in
     let w = done (c .before .before .before .before .before .before .before .before .before .r .given .1) (c .before .before .before .before .before .before .before .before .before .before .before .before .before .tuple .ensures) in
-    let small = given (tuple-small _ (level-small _) _ _) (w .same) in
+    let small = given (tuple-small _ (depth-small _) _ _) (w .same) in
     let inside = whole-of w small (omega (arith, c .before .before .before .before .before .before .before .before .before .before .before .before .before .before .before .before .before .before .before .before .before .before .pre, gon, gwithin)) (omega (arith, c .before .before .before .before .before .before .before .before .before .before .before .before .before .before .before .before .before .before .before .before .before .before .pre, gon, gwithin, w .moved, w .room, c .before .before .before .before .before .before .before .before .before .before .before .before .before .tuple .kept .1 .0)) in
     let ep = c .before .before .before .before .before .before .expect-pattern .ensures (w .what) (c .before .before .before .before .before .before .before .before .before .before .before .before .before .before .before .before .before .before .before .before .before .before .args .tokens .now) inside (w .moved .within) in
     let st = stored (c .before .before .t .given .1) ep in
@@ -101,7 +101,7 @@ returns-3 t c = let f = found (c .before .before .before .before .before .before
     let on = gets _ g path in
     let w = done (c .before .before .before .before .before .before .before .before .before .before .before .before .r .given .1) (c .before .before .before .before .before .before .before .before .before .before .before .before .before .before .before .before .tuple .ensures) in
     let on2 = goes _ on (w .same) in
-    let small = given (tuple-small _ (level-small _) _ _) (w .same) in
+    let small = given (tuple-small _ (depth-small _) _ _) (w .same) in
     let inside = whole-of w small (omega (arith, c .before .before .before .before .before .before .before .before .before .before .before .before .before .before .before .before .before .before .before .before .before .before .before .before .before .pre, gon, gwithin)) (omega (arith, c .before .before .before .before .before .before .before .before .before .before .before .before .before .before .before .before .before .before .before .before .before .before .before .before .before .pre, gon, gwithin, w .moved, w .room, c .before .before .before .before .before .before .before .before .before .before .before .before .before .before .before .before .tuple .kept .1 .0)) in
     let ep = c .before .before .before .before .before .before .before .before .before .expect-pattern .ensures (w .what) (c .before .before .before .before .before .before .before .before .before .before .before .before .before .before .before .before .before .before .before .before .before .before .before .before .before .args .tokens .now) inside (w .moved .within) in
     let st = stored (c .before .before .before .before .before .t .given .1) ep in

@@ -5,7 +5,7 @@ use Prim.Native.Nat.{ℕ, _+_, _*_, _-_, _≤_}
 use borrow.Author.Needs.{needs}
 use native.Mathlib.Omega.{arith}
 use lib.ListN.{length, take, drop, length-drop}
-use Rattle.grammar.specs.Reading.Level.{level}
+use Rattle.grammar.specs.Reading.Depth.{at-depth}
 use Rattle.parser.specs.Post.{Wrote}
 use Rattle.parser.proofs.Laws.{way, here, link, did-not, taken, not-taken, blind, prefix, joined}
 use Rattle.grammar.specs.Reading.Function.{params, function-param-list}
@@ -19,7 +19,7 @@ use Rattle.parser.proofs.+access+atom+begin+binop+block+body+branch+cal
 pub record Going (T S₀ Q₀ : List ℕ) (depth pos at waiting : ℕ) (S Q : List ℕ) (p a w m n v : ℕ) : Type 0 where
   pub fuel : ℕ
   pub enough : length T ≤ p + fuel
-  pub run : Wrote params-words (function-param-list (level depth) (take waiting Q₀) (drop pos T)) (params (level depth) fuel) T pos pos 8 at waiting S₀ Q₀ p a w S Q
+  pub run : Wrote params-words (function-param-list (at-depth depth) (take waiting Q₀) (drop pos T)) (params (at-depth depth) fuel) T pos pos 8 at waiting S₀ Q₀ p a w S Q
   pub fits : Fitting (run .what) m n v
   pub few : 2 * (m + n) ≤ p
   pub below : v ≤ name-bound
@@ -78,7 +78,7 @@ loop-less t c = let i = c .before .before .before .before .before .before .befor
     let g = i .run in
     let tk = taken (c .before .before .before .before .before .before .before .before .before .before .before .before .before .before .kind .given .1) (c .before .before .before .before .before .before .before .before .before .before .before .before .before .before .before .before .look .ensures) in
     let on = link (g .same) (way _ (params-more _ (g .what) _ (i .fuel) _ (i .enough) tk (c .before .before .before .before .before .before .before .before .before .before .before .before .if1 .left))) in
-    let rd = round (level (c .before .before .before .before .before .before .before .before .before .before .before .before .before .before .before .before .before .before .before .before .args .depth)) (i .fuel) g (i .fits) (i .few) on (omega (arith, c .before .before .before .before .before .before .before .before .before .before .before .before .before .before .before .before .before .before .before .before .pre)) (omega (arith, c .before .before .before .before .before .before .before .before .before .before .before .before .before .before .before .before .before .before .before .before .pre)) (omega (arith, c .before .before .before .before .before .before .before .before .before .before .before .before .before .before .before .before .before .before .before .before .pre)) (omega (arith, c .before .before .before .before .before .before .before .before .before .before .before .before .before .before .before .before .before .before .before .before .pre)) (omega (arith, c .before .before .before .before .before .before .before .before .before .before .before .before .before .before .before .before .before .before .before .before .pre)) (c .before .p2 .given .1) (c .before .before .before .before .before .before .before .before .before .param .ensures) (c .before .before .before .before .before .joined .ensures) in
+    let rd = round (at-depth (c .before .before .before .before .before .before .before .before .before .before .before .before .before .before .before .before .before .before .before .before .args .depth)) (i .fuel) g (i .fits) (i .few) on (omega (arith, c .before .before .before .before .before .before .before .before .before .before .before .before .before .before .before .before .before .before .before .before .pre)) (omega (arith, c .before .before .before .before .before .before .before .before .before .before .before .before .before .before .before .before .before .before .before .before .pre)) (omega (arith, c .before .before .before .before .before .before .before .before .before .before .before .before .before .before .before .before .before .before .before .before .pre)) (omega (arith, c .before .before .before .before .before .before .before .before .before .before .before .before .before .before .before .before .before .before .before .before .pre)) (omega (arith, c .before .before .before .before .before .before .before .before .before .before .before .before .before .before .before .before .before .before .before .before .pre)) (c .before .p2 .given .1) (c .before .before .before .before .before .before .before .before .before .param .ensures) (c .before .before .before .before .before .joined .ensures) in
     omega (arith, rd .far, rd .run .moved .within)
 
 pub loop-again : (t : ℕ) → lts.Need-loop-again (params-calls t) (params-at t) reads.Post Inv-loop μ-loop
@@ -86,7 +86,7 @@ loop-again t c = let i = c .before .before .before .before .before .before .befo
     let g = i .run in
     let tk = taken (c .before .before .before .before .before .before .before .before .before .before .before .before .before .before .kind .given .1) (c .before .before .before .before .before .before .before .before .before .before .before .before .before .before .before .before .look .ensures) in
     let on = link (g .same) (way _ (params-more _ (g .what) _ (i .fuel) _ (i .enough) tk (c .before .before .before .before .before .before .before .before .before .before .before .before .if1 .left))) in
-    let rd = round (level (c .before .before .before .before .before .before .before .before .before .before .before .before .before .before .before .before .before .before .before .before .args .depth)) (i .fuel) g (i .fits) (i .few) on (omega (arith, c .before .before .before .before .before .before .before .before .before .before .before .before .before .before .before .before .before .before .before .before .pre)) (omega (arith, c .before .before .before .before .before .before .before .before .before .before .before .before .before .before .before .before .before .before .before .before .pre)) (omega (arith, c .before .before .before .before .before .before .before .before .before .before .before .before .before .before .before .before .before .before .before .before .pre)) (omega (arith, c .before .before .before .before .before .before .before .before .before .before .before .before .before .before .before .before .before .before .before .before .pre)) (omega (arith, c .before .before .before .before .before .before .before .before .before .before .before .before .before .before .before .before .before .before .before .before .pre)) (c .before .p2 .given .1) (c .before .before .before .before .before .before .before .before .before .param .ensures) (c .before .before .before .before .before .joined .ensures) in
+    let rd = round (at-depth (c .before .before .before .before .before .before .before .before .before .before .before .before .before .before .before .before .before .before .before .before .args .depth)) (i .fuel) g (i .fits) (i .few) on (omega (arith, c .before .before .before .before .before .before .before .before .before .before .before .before .before .before .before .before .before .before .before .before .pre)) (omega (arith, c .before .before .before .before .before .before .before .before .before .before .before .before .before .before .before .before .before .before .before .before .pre)) (omega (arith, c .before .before .before .before .before .before .before .before .before .before .before .before .before .before .before .before .before .before .before .before .pre)) (omega (arith, c .before .before .before .before .before .before .before .before .before .before .before .before .before .before .before .before .before .before .before .before .pre)) (omega (arith, c .before .before .before .before .before .before .before .before .before .before .before .before .before .before .before .before .before .before .before .before .pre)) (c .before .p2 .given .1) (c .before .before .before .before .before .before .before .before .before .param .ensures) (c .before .before .before .before .before .joined .ensures) in
     record { fuel = i .fuel - 1; enough = omega (arith, i .enough, rd .far); run = rd .run; fits = rd .fits; few = rd .few; below = rd .below; kept = omega arith }
 
 pub enum-known-s : (t : ℕ) → lts.Need-enum-known-s (params-calls t) (params-at t) reads.Post Inv-loop μ-loop
@@ -100,7 +100,7 @@ returns-2 t c = let i = c .before .before .before .before .before .before .befor
     let g = i .run in
     let tk = taken (c .before .before .before .before .before .before .before .before .before .before .before .before .before .before .kind .given .1) (c .before .before .before .before .before .before .before .before .before .before .before .before .before .before .before .before .look .ensures) in
     let on = link (g .same) (way _ (params-more _ (g .what) _ (i .fuel) _ (i .enough) tk (c .before .before .before .before .before .before .before .before .before .before .before .before .if1 .left))) in
-    did-not (unjoined (level (c .before .before .before .before .before .before .before .before .before .before .before .before .before .before .before .before .before .before .before .before .args .depth)) (i .fuel) g (i .fits) (i .few) on (omega (arith, c .before .before .before .before .before .before .before .before .before .before .before .before .before .before .before .before .before .before .before .before .pre)) (omega (arith, c .before .before .before .before .before .before .before .before .before .before .before .before .before .before .before .before .before .before .before .before .pre)) (omega (arith, c .before .before .before .before .before .before .before .before .before .before .before .before .before .before .before .before .before .before .before .before .pre)) (omega (arith, c .before .before .before .before .before .before .before .before .before .before .before .before .before .before .before .before .before .before .before .before .pre)) (omega (arith, c .before .before .before .before .before .before .before .before .before .before .before .before .before .before .before .before .before .before .before .before .pre)) (c .before .s .given .1) (c .before .before .before .before .before .before .before .before .before .param .ensures) (c .before .before .before .before .before .joined .ensures))
+    did-not (unjoined (at-depth (c .before .before .before .before .before .before .before .before .before .before .before .before .before .before .before .before .before .before .before .before .args .depth)) (i .fuel) g (i .fits) (i .few) on (omega (arith, c .before .before .before .before .before .before .before .before .before .before .before .before .before .before .before .before .before .before .before .before .pre)) (omega (arith, c .before .before .before .before .before .before .before .before .before .before .before .before .before .before .before .before .before .before .before .before .pre)) (omega (arith, c .before .before .before .before .before .before .before .before .before .before .before .before .before .before .before .before .before .before .before .before .pre)) (omega (arith, c .before .before .before .before .before .before .before .before .before .before .before .before .before .before .before .before .before .before .before .before .pre)) (omega (arith, c .before .before .before .before .before .before .before .before .before .before .before .before .before .before .before .before .before .before .before .before .pre)) (c .before .s .given .1) (c .before .before .before .before .before .before .before .before .before .param .ensures) (c .before .before .before .before .before .joined .ensures))
 
 pub enum-known-s-2 : (t : ℕ) → lts.Need-enum-known-s-2 (params-calls t) (params-at t) reads.Post Inv-loop μ-loop
 enum-known-s-2 t c = search needs

@@ -8,7 +8,7 @@ use borrow.Author.Tests.{not-true, not-false}
 use native.Mathlib.Omega.{arith}
 use lib.ListN.{length, take, drop, length-drop}
 use Rattle.tree.specs.Tree.{none, snoc, count, records, all-records}
-use Rattle.grammar.specs.Reading.Level.{level}
+use Rattle.grammar.specs.Reading.Depth.{at-depth}
 use Rattle.parser.specs.Post.{Wrote}
 use Rattle.parser.specs.Parts.{access}
 use Rattle.parser.proofs.Laws.{way, here, link, goes, done, undone, did-not, taken, not-taken, fails, blind, prefix, joined, count-snoc}
@@ -22,7 +22,7 @@ use Rattle.parser.proofs.+access+atom+begin+binop+block+body+branch+cal
 pub record Going (T S₀ Q₀ : List ℕ) (depth : ℕ) (calls : Bool) (pos at waiting : ℕ) (S Q : List ℕ) (p a w n : ℕ) : Type 0 where
   pub fuel : ℕ
   pub enough : length T ≤ p + fuel
-  pub run : Wrote all-records (path-def (level depth) calls (length (drop pos T)) none (take waiting Q₀) (drop pos T)) (path-def (level depth) calls fuel) T pos pos 8 at waiting S₀ Q₀ p a w S Q
+  pub run : Wrote all-records (path-def (at-depth depth) calls (length (drop pos T)) none (take waiting Q₀) (drop pos T)) (path-def (at-depth depth) calls fuel) T pos pos 8 at waiting S₀ Q₀ p a w S Q
   pub many : count (run .what) ≡ n
   pub short : 2 * n ≤ p
   pub spare : a + 8 * pos + 14 * n ≤ at + 8 * p

@@ -7,7 +7,7 @@ use borrow.Author.Needs.{needs}
 use native.Mathlib.Omega.{arith}
 use lib.ListN.{length, take, drop, length-drop}
 use Rattle.grammar.specs.Reading.Expr.{expr}
-use Rattle.grammar.specs.Reading.Level.{level}
+use Rattle.grammar.specs.Reading.Depth.{at-depth}
 use Rattle.parser.specs.Post.{As, Moved}
 use Rattle.parser.proofs.Laws.{way, here, link, wins, loses, halts, done, missed, stops, did-not, taken, not-taken, lacks, blinded, unseen, prefix}
 use Rattle.grammar.specs.Reading.Stmt.{synchronize}
@@ -20,7 +20,7 @@ use Rattle.parser.proofs.+access+atom+begin+binop+block+body+branch+cal
 pub record Going (T S₀ Q₀ : List ℕ) (depth pos at waiting : ℕ) (inside : Bool) (S Q : List ℕ) (p w : ℕ) : Type 0 where
   pub fuel : ℕ
   pub enough : length T ≤ p + fuel
-  pub same : As (take waiting Q₀) (synchronize (level depth) inside (length (drop pos T)) (take waiting Q₀) (drop pos T)) (take w Q) (synchronize (level depth) inside fuel (take w Q) (drop p T))
+  pub same : As (take waiting Q₀) (synchronize (at-depth depth) inside (length (drop pos T)) (take waiting Q₀) (drop pos T)) (take w Q) (synchronize (at-depth depth) inside fuel (take w Q) (drop p T))
   pub moved : Moved (length T) pos waiting p w (length Q)
   pub text : take at S ≡ take at S₀
   pub kept : length S ≡ length S₀

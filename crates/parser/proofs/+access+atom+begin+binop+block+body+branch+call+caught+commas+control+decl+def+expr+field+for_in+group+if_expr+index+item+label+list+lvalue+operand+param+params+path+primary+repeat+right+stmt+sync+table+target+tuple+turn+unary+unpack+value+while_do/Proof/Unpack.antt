@@ -8,7 +8,7 @@ use Rattle.tree.specs.Node
 use Rattle.parser.specs.Parts.{unpack-end}
 use Rattle.parser.proofs.Laws.{way, here, link, goes, done, undone, did-not, taken, not-taken, fails, blind, prefix, relabel, anew}
 use Rattle.parser.proofs.Writing.{taller}
-use Rattle.grammar.specs.Laws.Kinds.{level-small, primary-small}
+use Rattle.grammar.specs.Laws.Kinds.{depth-small, primary-small}
 use Rattle.parser.proofs.PathsPrimary.{writing, unpack-looks, dots-looks, unpack-lone, unpack-some, dots-more, dots-none}
 use Rattle.parser.proofs.unpack.Reads as reads
 use Rattle.parser.proofs.+access+atom+begin+binop+block+body+branch+call+caught+commas+control+decl+def+expr+field+for_in+group+if_expr+index+item+label+list+lvalue+operand+param+params+path+primary+repeat+right+stmt+sync+table+target+tuple+turn+unary+unpack+value+while_do.Lts-unpack as lts
@@ -80,7 +80,7 @@ returns-3 t c = let tk = taken (c .before .before .before .before .before .befor
     let w = done (c .before .before .before .before .before .before .before .before .before .before .r .given .1) (c .before .before .before .before .before .before .before .before .before .before .before .before .before .before .primary .ensures) in
     let on = goes _ path (w .same) in
     let tk2 = taken (c .before .before .before .before .before .before .next .given .1) (c .before .before .before .before .before .before .before .before .look2 .ensures) in
-    writing (c .before .before .unpack-end .ensures (take (c .before .before .before .before .before .before .before .before .before .before .before .before .before .before .before .before .before .before .before .before .before .before .before .before .args .at) (c .before .before .before .before .before .before .before .before .before .before .before .before .before .before .before .before .before .before .before .before .before .before .before .before .args .store .now)) (w .what) (c .before .before .before .before .before .before .before .before .before .before .before .before .before .before .before .before .before .before .before .before .before .before .before .before .args .tokens .now) (given (primary-small _ (level-small (c .before .before .before .before .before .before .before .before .before .before .before .before .before .before .before .before .before .before .before .before .before .before .before .before .args .depth)) _ _) (w .same)) (w .text) (tk2 .within)) (link on (way _ (dots-more _ _ tk2 (c .before .before .before .before .if2 .taken)))) (prefix w (omega (arith, c .before .before .before .before .before .before .before .before .before .before .before .before .before .before .before .before .before .before .before .before .before .before .before .before .pre))) (omega (arith, c .before .before .before .before .before .before .before .before .before .before .before .before .before .before .before .before .before .before .before .before .before .before .before .before .pre, w .moved, tk2 .within)) (omega (arith, c .before .before .before .before .before .before .before .before .before .before .before .before .before .before .before .before .before .before .before .before .before .before .before .before .pre)) (omega (arith, c .before .before .before .before .before .before .before .before .before .before .before .before .before .before .before .before .before .before .before .before .before .before .before .before .pre, w .moved, w .room, tk2 .within, c .before .before .before .before .before .before .before .before .before .before .before .before .before .before .primary .kept .1 .0, c .before .before .unpack-end .kept .0)) (omega (arith, w .room))
+    writing (c .before .before .unpack-end .ensures (take (c .before .before .before .before .before .before .before .before .before .before .before .before .before .before .before .before .before .before .before .before .before .before .before .before .args .at) (c .before .before .before .before .before .before .before .before .before .before .before .before .before .before .before .before .before .before .before .before .before .before .before .before .args .store .now)) (w .what) (c .before .before .before .before .before .before .before .before .before .before .before .before .before .before .before .before .before .before .before .before .before .before .before .before .args .tokens .now) (given (primary-small _ (depth-small (c .before .before .before .before .before .before .before .before .before .before .before .before .before .before .before .before .before .before .before .before .before .before .before .before .args .depth)) _ _) (w .same)) (w .text) (tk2 .within)) (link on (way _ (dots-more _ _ tk2 (c .before .before .before .before .if2 .taken)))) (prefix w (omega (arith, c .before .before .before .before .before .before .before .before .before .before .before .before .before .before .before .before .before .before .before .before .before .before .before .before .pre))) (omega (arith, c .before .before .before .before .before .before .before .before .before .before .before .before .before .before .before .before .before .before .before .before .before .before .before .before .pre, w .moved, tk2 .within)) (omega (arith, c .before .before .before .before .before .before .before .before .before .before .before .before .before .before .before .before .before .before .before .before .before .before .before .before .pre)) (omega (arith, c .before .before .before .before .before .before .before .before .before .before .before .before .before .before .before .before .before .before .before .before .before .before .before .before .pre, w .moved, w .room, tk2 .within, c .before .before .before .before .before .before .before .before .before .before .before .before .before .before .primary .kept .1 .0, c .before .before .unpack-end .kept .0)) (omega (arith, w .room))
 
 pub enum-known-s : (t : ℕ) → lts.Need-enum-known-s (unpack-calls t) (unpack-at t) reads.Post
 enum-known-s t c = search needs

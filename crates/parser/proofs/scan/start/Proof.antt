@@ -6,7 +6,7 @@ use borrow.Author.Needs.{needs}
 use native.Mathlib.Omega.{arith}
 use lib.ListN.{length, drop, length-drop}
 use Rattle.parser.proofs.Laws.{taken, not-taken, unseen}
-use Rattle.grammar.specs.Reading.Level.{start}
+use Rattle.grammar.specs.Reading.Next.{start}
 use Rattle.parser.proofs.PathsStart.{start-stop, start-none, start-lexer, start-eof, start-semi, start-here, halted}
 use Rattle.parser.proofs.scan.start.Statement.{statement}
 use Rattle.parser.proofs.scan.start.Tie as tie

@@ -14,7 +14,8 @@ use Rattle.tree.specs.Maybe.{just}
 use Rattle.grammar.specs.Reading.Result.{ok, then, either, ifb}
 use Rattle.grammar.specs.Reading.Look.{looked, look}
 use Rattle.grammar.specs.Reading.Stmt as Stmt
-use Rattle.grammar.specs.Reading.Level.{level, start, next}
+use Rattle.grammar.specs.Reading.Depth.{at-depth}
+use Rattle.grammar.specs.Reading.Next.{start, next}
 use Rattle.grammar.specs.Canonical.Write.{own, write, statement, run}
 use Rattle.grammar.specs.Canonical.Writing.{clean-from, clean-reading, statement-words, is-too-deep}
 use Rattle.grammar.specs.Canonical.Need.{most, need, needs}
@@ -29,21 +30,21 @@ use Rattle.grammar.specs.Laws.Back.Expr.{Reads, ex-back}
 use Rattle.grammar.specs.Laws.Back.Unary.{unary-need, unary-back}
 use Rattle.grammar.specs.Laws.Back.Stmt.{stmt-reads, stmts-reads}
 
-pub level-back : (d : ℕ) → Reads d
-unfolding level join
-level-back zero = record {
+pub depth-back : (d : ℕ) → Reads d
+unfolding at-depth join
+depth-back zero = record {
   r-unary = λ h q r f. missed (unary-need h);
   r-right = λ h q r a. missed (omega arith);
   r-list = λ h j end q r e. missed (omega arith);
 }
-level-back (suc d) = record {
-  r-unary = λ h q r f. unary-back d (level-back d) h q r f;
-  r-right = λ h q r a. inside (ex-back d (level-back d) h q r a);
-  r-list = λ h j end q r e. inside (stmts-reads d (level-back d) h j end _ none q r e (le-refl _));
+depth-back (suc d) = record {
+  r-unary = λ h q r f. unary-back d (depth-back d) h q r f;
+  r-right = λ h q r a. inside (ex-back d (depth-back d) h q r a);
+  r-list = λ h j end q r e. inside (stmts-reads d (depth-back d) h j end _ none q r e (le-refl _));
 }
 
-pub stmt-back : {t : Tree} → Valid stmt t → (d : ℕ) (q r : List ℕ) → Stmt.stmt (level d) q (write t own (Kind.Semicolon ∷ 0 ∷ r)) ≡ settle (leb (need t own) d) t (Kind.Semicolon ∷ 0 ∷ r)
-stmt-back h d q r = stmt-reads d (level-back d) h q _ (ends refl) .is
+pub stmt-back : {t : Tree} → Valid stmt t → (d : ℕ) (q r : List ℕ) → Stmt.stmt (at-depth d) q (write t own (Kind.Semicolon ∷ 0 ∷ r)) ≡ settle (leb (need t own) d) t (Kind.Semicolon ∷ 0 ∷ r)
+stmt-back h d q r = stmt-reads d (depth-back d) h q _ (ends refl) .is
 
 -- a statement begins where the separators before it end
 start-is : {ts : List ℕ} (m : ℕ) (q : List ℕ) → 1 ≤ m → Starts false 5 ts → start m q ts ≡ ok tt ts
@@ -65,7 +66,7 @@ start-leads {ts} q h behind =
 
 pub next-reads : {t : Tree} {x : List ℕ} → Valid stmt t → (d : ℕ) (q r : List ℕ) → Leads (statement t r) x → Needs (need t own) d (next d q x) (ok t (Kind.Semicolon ∷ 0 ∷ r))
 unfolding next
-next-reads h d q r l = then-ok _ _ (start-leads q (stmt-starts h _) l) (weigh (either-is _ _ _ (stmt-reads d (level-back d) h q _ (ends refl)) done) (omega arith))
+next-reads h d q r l = then-ok _ _ (start-leads q (stmt-starts h _) l) (weigh (either-is _ _ _ (stmt-reads d (depth-back d) h q _ (ends refl)) done) (omega arith))
 
 pub next-back : {t : Tree} → Valid stmt t → (d : ℕ) (q r : List ℕ) → next d q (statement t r) ≡ settle (leb (need t own) d) t (Kind.Semicolon ∷ 0 ∷ r)
 next-back h d q r = next-reads h d q r here .is
