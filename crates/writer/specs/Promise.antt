@@ -18,7 +18,7 @@ use Rattle.tree.specs.Tree.{Tree, none, one}
 use Rattle.tree.specs.Maybe.{Maybe, nothing, just}
 use Rattle.tree.specs.Decode.{decode}
 use Rattle.tree.specs.Records.{decode-text}
-use Rattle.grammar.specs.Reading.Level.{next}
+use Rattle.grammar.specs.Reading.Next.{next}
 use Rattle.grammar.specs.Reading.Limit.{depth-limit, too-deep, no-statement, short-output}
 use Rattle.grammar.specs.Reading.Result.{ok, stop, ifb}
 use Rattle.grammar.specs.Canonical.Count.{tokens}
@@ -26,7 +26,7 @@ use Rattle.grammar.specs.Canonical.Need.{need}
 use Rattle.grammar.specs.Canonical.Valid.{stmt, Valid}
 use Rattle.grammar.specs.Canonical.Write.{own, run}
 use Rattle.grammar.specs.Canonical.Writing.{readable, is-too-deep, exceeds-depth, statement-words, number, Wrote, bare, write-stmt}
-use Rattle.grammar.specs.Laws.Back.Levels.{next-back}
+use Rattle.grammar.specs.Laws.Back.Depths.{next-back}
 use Rattle.grammar.specs.Laws.Back.Steps.{reach}
 use Rattle.grammar.specs.Laws.Facts.{not-true, by-test}
 use Rattle.grammar.specs.Laws.Small.{valid-small}

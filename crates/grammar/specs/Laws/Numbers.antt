@@ -1,5 +1,5 @@
 -- Only numbers of errors wait or are on their way, never more of them than the queue takes and never fewer than waited before, and only numbers of stops stop: a lemma
--- for each nonterminal, and `level-numbers`, `stmt-numbers`, `start-numbers`, `next-numbers`. The end is the start's: `next-end`. A statement that was read with errors
+-- for each nonterminal, and `depth-numbers`, `stmt-numbers`, `start-numbers`, `next-numbers`. The end is the start's: `next-end`. A statement that was read with errors
 -- leaves one that waits: `bad-waits`. Assumes nothing.
 use mathlib.Core.Path.{_≡_, refl}
 use mathlib.Core.Bool.{Bool, true, false, cond, false≢true}

@@ -1,5 +1,5 @@
 -- What a reading leaves. Whatever holds behind the first token, and goes on holding as tokens are taken, holds of the words that are left after a success
--- and after a failure: a lemma for each nonterminal, and `level-keeps`. So readings take tokens: `expr-takes`, `stmt-takes`, `next-takes`. Assumes nothing.
+-- and after a failure: a lemma for each nonterminal, and `depth-keeps`. So readings take tokens: `expr-takes`, `stmt-takes`, `next-takes`. Assumes nothing.
 use mathlib.Core.Path.{_≡_, refl}
 use mathlib.Core.Logic.{_⊎_, inl, inr}
 use mathlib.Core.Bool.{Bool, true, false}
