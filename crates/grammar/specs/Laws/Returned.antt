@@ -31,7 +31,7 @@ unfolding ifb
 both true c h = (refl, h)
 both false c h = absurd (false≢true h)
 
-fits-all : (w : ℕ) (es : List ℕ) → queue-fits w es ≡ true → All IsError (take w es)
+pub fits-all : (w : ℕ) (es : List ℕ) → queue-fits w es ≡ true → All IsError (take w es)
 unfolding queue-fits
 fits-all zero es h = a-nil
 fits-all (suc w) [] h = a-nil
