@@ -7,6 +7,7 @@ use lib.Dec.{eqb, ltb}
 use Rattle.token.specs.Kind
 use Rattle.operator.specs.Operator.{op-token, assign-token, unary-token}
 use Rattle.tree.specs.NodeKind
+use Rattle.tree.specs.Node
 use Rattle.tree.specs.Tree.{Tree, Forest, node, none, more, kind-of, head-kind, empty}
 use Rattle.tree.specs.Maybe.{pick}
 use Rattle.grammar.specs.Reading.Function.{target-name}
@@ -39,9 +40,9 @@ label (suc n) r = Kind.Label ∷ n ∷ r
 -- an action's keyword
 abbrev pub keyword-of : ℕ → ℕ
 keyword-of a =
-    cond (eqb a 0) Kind.Local
-    (cond (eqb a 1) Kind.NonLocal
-    (cond (eqb a 2) Kind.Let
+    cond (eqb a Node.assign-local) Kind.Local
+    (cond (eqb a Node.assign-non-local) Kind.NonLocal
+    (cond (eqb a Node.decl-immutable) Kind.Let
     Kind.Var))
 
 -- a group's modifier, 0 or 1 + its action, is always written
@@ -56,7 +57,7 @@ keyword (suc a) r = token (keyword-of (suc a)) r
 
 -- a name with its access, where read-only has no keyword
 abbrev pub named : ℕ → W
-named v r = pick (eqb (v % 2) 0) (λ _. name (v / 2) r) (λ _. token Kind.Var (name (v / 2) r))
+named v r = pick (eqb (v % 2) Node.read-only) (λ _. name (v / 2) r) (λ _. token Kind.Var (name (v / 2) r))
 
 abbrev pub tokens-if : Bool → W → W
 tokens-if true w r = w r
@@ -165,7 +166,7 @@ has-function (more p f) = function-of p f
 
 -- `fun` with a target gives the tree: its action is then `let`, or that of the group around it
 abbrev pub fun-gives : Place → ℕ → Bool
-fun-gives own v = eqb v 2
+fun-gives own v = eqb v Node.decl-immutable
 fun-gives modified v = ltb v 4
 fun-gives targeted v = false
 fun-gives commas v = false

@@ -9,6 +9,7 @@ use Rattle.tree.specs.Tree.{Tree, Forest, none, more, one, records}
 use Rattle.tree.specs.Maybe.{Maybe, nothing, just, bindM}
 use Rattle.tree.specs.Decode.{decode}
 use Rattle.grammar.specs.Reading.Limit.{depth-limit, too-deep, no-statement, short-output}
+use Rattle.grammar.specs.Reading.Number
 use Rattle.grammar.specs.Reading.Result.{Res, ok, bad, fail, stop, ifb}
 use Rattle.grammar.specs.Reading.Next.{next}
 use Rattle.grammar.specs.Canonical.Write.{own, statement, run}
@@ -20,7 +21,7 @@ use Rattle.grammar.specs.declared.Written.the-variants.{Tokens, Stopped,
 abbrev pub clean-then : Res Tree → (List ℕ → Maybe Forest) → Maybe Forest
 clean-then (ok t r) others = bindM (others r) λ f. just (more t f)
 clean-then (bad t q r) others = nothing
-clean-then (fail e q r) others = cond (eqb e 0) (just none) nothing
+clean-then (fail e q r) others = cond (eqb e Number.end) (just none) nothing
 clean-then (stop k) others = nothing
 
 -- the statements of a reading to its end at the depth d, where it meets no error, no stop and no bad record; n bounds their number
