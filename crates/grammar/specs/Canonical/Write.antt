@@ -1,5 +1,6 @@
 -- The canonical tokens of a tree, as a function of the words that follow. Definitions; they assume nothing.
--- No token has a newline. Every kind of node has one line of `layout`.
+-- No token has a newline. Every kind of node has one line of `layout`. The functions run on trees of any shape: clauses for children that a node of its kind always
+-- has, and for places where it never stands, are reached for no valid tree.
 use mathlib.Core.Bool.{Bool, true, false, cond, not, _&&_, _||_}
 use mathlib.Core.List.{List, [], _∷_}
 use Prim.Native.Nat.{ℕ, zero, suc, _/_, _%_}

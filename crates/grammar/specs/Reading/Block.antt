@@ -21,6 +21,7 @@ unfoldable pub split-before : Tree → Split → Split
 split-before t (whole f) = whole (more t f)
 split-before t (result f e) = result (more t f) e
 
+-- a statement by its children; it has one at least, so the first clause is never reached
 unfoldable pub split-kids : ℕ → ℕ → Forest → Split
 split-kids k v none = whole (one (node k v none))
 split-kids k v (more e none) = ifb (eqb k NodeKind.Expression) (λ _. result none e) (λ _. whole (one (node k v (one e))))
