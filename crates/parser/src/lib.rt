@@ -60,6 +60,8 @@ use crate::records::path_end;
 use crate::records::target_name;
 use crate::records::tuple_end;
 use crate::records::unpack_end;
+use crate::scan::UNTIL_BRANCH;
+use crate::scan::UNTIL_END;
 use crate::scan::action;
 use crate::scan::assign_code;
 use crate::scan::assign_keyword;
@@ -809,7 +811,7 @@ fn body(
     requires { ⌜ Ready (length (now tokens)) (length (now store)) (length (now queue)) pos at waiting ⌝ }
     ensures { λ r. ⌜ Lists (body-def (at-depth depth) (take waiting (now (queue .entry))) (drop pos (now (tokens .entry)))) (now (tokens .entry)) pos 24 at waiting (now (store .entry)) (now (queue .entry)) (now (store .exit)) (now (queue .exit)) r ⌝ }
 {
-    let l = list(tokens, store, queue, depth, 0, pos, at, waiting);
+    let l = list(tokens, store, queue, depth, UNTIL_END, pos, at, waiting);
     past(tokens, l)
 }
 
@@ -919,7 +921,7 @@ fn branch(
     let Step::Done(p2, _, _) = s else {
         return s;
     };
-    let l = list(tokens, store, queue, depth, 1, p2, a1, w1);
+    let l = list(tokens, store, queue, depth, UNTIL_BRANCH, p2, a1, w1);
     block_under(store, l, word::CONDITIONAL_BRANCH, 0)
 }
 
@@ -1562,11 +1564,11 @@ fn error_kind(e: u64) -> ErrorKind
     }
 }
 
-// The answer of an error; 0 is the end.
+// The answer of an error.
 fn error_answer(e: u64) -> Answer
     ensures { λ r. ⌜ r ≡ error-answer-def e ⌝ }
 {
-    if e == 0 {
+    if e == number::END {
         return Answer::End;
     }
     Answer::Error(error_kind(e))

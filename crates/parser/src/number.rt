@@ -1,4 +1,7 @@
-// The numbers of the errors, in the order of document 01's table. grammar's specs/Reading/Number.antt has the same.
+// The numbers of the errors, in the order of document 01's table, and 0 for the end. grammar's specs/Reading/Number.antt has the same.
+// No statement is left at the top level: on its way like an error, and answered as the end.
+pub const END: u64 = 0;
+
 pub const LEXER_ERROR: u64 = 1;
 
 pub const END_OF_TOKENS: u64 = 2;

@@ -224,14 +224,19 @@ pub fn continues(calls: bool, kind: u64, newline: u64) -> bool
     }
 }
 
-// Whether a token ends a statement list, by the number of its ends: 0 `End`; 1 `Elif`, `Else` and `End`.
+// Where a statement list ends, by number: before `End`; in a branch of a conditional before `Elif` and `Else` too.
+pub const UNTIL_END: u64 = 0;
+
+pub const UNTIL_BRANCH: u64 = 1;
+
+// Whether a token ends a statement list, by the number of its ends.
 pub fn ends(end: u64, kind: u64) -> bool
     ensures { λ r. ⌜ r ≡ ends-def end kind ⌝ }
 {
     match kind {
         kind::END => true,
-        kind::ELIF => end == 1,
-        kind::ELSE => end == 1,
+        kind::ELIF => end == UNTIL_BRANCH,
+        kind::ELSE => end == UNTIL_BRANCH,
         _ => false,
     }
 }
@@ -243,7 +248,7 @@ pub fn ends_control(kind: u64) -> bool
     if kind == kind::SEMICOLON {
         return true;
     }
-    ends(1, kind)
+    ends(UNTIL_BRANCH, kind)
 }
 
 pub fn is_control(kind: u64) -> bool
@@ -314,7 +319,7 @@ pub fn past(tokens: &[u64], list: Listed) -> Listed
     }
 }
 
-// At the top level separators are passed over; `EOF`, which stays unread, or no token is the end, here as error 0.
+// At the top level separators are passed over; `EOF`, which stays unread, or no token is the end, here as the error `END`.
 pub fn start(tokens: &[u64], pos: usize) -> Step
     requires { ⌜ pos ≤ length (now tokens) ⌝ }
     ensures { λ r. ⌜ Reads (λ q. start-def (length (drop pos (now (tokens .entry)))) q (drop pos (now (tokens .entry)))) (now (tokens .entry)) pos pos 0 0 r ⌝ }
@@ -323,7 +328,7 @@ pub fn start(tokens: &[u64], pos: usize) -> Step
     loop {
         match look(tokens, p, 0) {
             Seen::Token(kind, _, _) => match kind {
-                kind::EOF => return Step::Fail(0, p, 0),
+                kind::EOF => return Step::Fail(number::END, p, 0),
                 kind::SEMICOLON => {
                     p += 2;
                 }
@@ -332,7 +337,7 @@ pub fn start(tokens: &[u64], pos: usize) -> Step
             Seen::Not(s) => match s {
                 Step::Fail(e, p2, _) => {
                     if e == number::END_OF_TOKENS {
-                        return Step::Fail(0, p, 0);
+                        return Step::Fail(number::END, p, 0);
                     }
                     return Step::Fail(e, p2, 0);
                 }
