@@ -14,3 +14,4 @@ pub mod Numbers
 pub mod Returned
 pub mod Clean
 pub mod Back
+pub mod Local

@@ -2,6 +2,8 @@ pub mod Reading
 pub mod Canonical
 pub mod Contract
 pub mod Sheets
+pub mod Looks
 pub mod Laws
 pub mod Promise
+pub mod Locality
 pub mod Theorems

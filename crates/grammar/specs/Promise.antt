@@ -2,12 +2,13 @@
 -- Of any reader, whose array has 96 places, any words and a store of m words the answer is, in this order:
 -- 60, if the words are no whole tokens or over 65,536 tokens; 61, if the reader is not `Accepted`; the reader's stop, if it is stopped; the error that waited
 -- longest, if one waits; 63, if the store has less than 16 words for each unread token; else what the reading of the unread part comes to.
--- `outcome` and `sole` say what each leaves, whole; `answers-..` say of each number when it is answered, in both directions.
+-- `outcome` and `sole` say what each leaves, whole, and `sole-looks` the furthest token that it looks at too; `answers-..` say of each number when it is answered, in both
+-- directions.
 use mathlib.Core.Path.{_≡_, refl, sym, ap, _∙_, subst}
 use mathlib.Core.Logic.{_↔_, _⊎_, inl, inr}
 use mathlib.Core.Bool.{Bool, true, false, true≢false, false≢true, _&&_, _||_}
 use mathlib.Core.List.{List, [], _∷_}
-use Prim.Native.Nat.{ℕ, suc, _-_, _*_, _/_, _%_, _≤_, _<_}
+use Prim.Native.Nat.{ℕ, suc, _+_, _-_, _*_, _/_, _%_, _≤_, _<_}
 use native.Mathlib.Omega.{arith}
 use lib.Dec.{eqb, ltb}
 use lib.ListN.{length, take, drop, length-take}
@@ -17,6 +18,7 @@ use Rattle.grammar.specs.Reading.Limit.{depth-limit, length-limit, queue
 use Rattle.grammar.specs.Reading.Number
 use Rattle.grammar.specs.Reading.Result.{Error, Res, ok, bad, fail, stop, ifb}
 use Rattle.grammar.specs.Reading.Next.{next, kind-number, number, error-kind, is-error, is-stop, queue-fits, Accepted, Called, bare, halted, reader-at, error-answer, called, answered, next-stmt}
+use Rattle.grammar.specs.Reading.Looked.{looks, call-looks}
 use Rattle.grammar.specs.Laws.Facts.{and-l, and-r, or-true, not-true, apart, by-test}
 use Rattle.grammar.specs.Laws.Numbers.{IsError, IsStop, All, a-cons, waits-none, n-fail, n-stop, Top, t-end, t-num, next-numbers}
 use Rattle.grammar.specs.Laws.Returned.{fits-all}
@@ -50,6 +52,15 @@ pub data Outcome (R : Reader) (T : List ℕ) (m : ℕ) : Called → Type 0 where
   waited : Going T R → (e : Error) (q : List Error) → take (R .waiting) (R .errors) ≡ e ∷ q → Outcome R T m (bare m (AError (error-kind e)) (reader-at (R .position) q))
   short : Going T R → R .waiting ≡ 0 → m < share T R → Outcome R T m (bare m (Refused short-store) R)
   reads : Going T R → R .waiting ≡ 0 → share T R ≤ m → Outcome R T m (called (length T / 2) m (R .position) (reading T R))
+
+-- the furthest token that a call with this outcome looks at, as `call-looks` counts it
+abbrev pub looked-at : {R : Reader} {T : List ℕ} {m : ℕ} {c : Called} → Outcome R T m c → ℕ
+looked-at {T = T} (no-sheet n) = suc (length T / 2)
+looked-at (no-reader s n) = 0
+looked-at (stopped s a h) = 0
+looked-at (waited g e q w) = 0
+looked-at {T = T} (short g w l) = suc (length T / 2)
+looked-at {R = R} {T = T} (reads g w l) = R .position + looks (next depth-limit []) (drop (2 * R .position) T)
 
 -- ---------------------------------------------------------------- the tests say so
 or-left : (a b : Bool) → a || b ≡ false → a ≡ false
@@ -98,22 +109,27 @@ not-false true h = refl
 not-false false h = absurd (h refl)
 
 module _ (R : Reader) (T : List ℕ) (m : ℕ) where
-  -- a call's answer, reader and store are those of any outcome that there can be
-  pub sole : {c : Called} → Outcome R T m c → next-stmt R T m ≡ c
-  unfolding next-stmt ifb
-  sole (no-sheet n) = rw (not-false (too-long T) (λ x. n (sheet-is T x)))
-  sole (no-reader s n) =
-      by-test (past-range T R) (λ x. rw (sheet-tested s, x)) λ x.
-      rw (sheet-tested s, x, not-true (well-made R) (λ y. n (accepted-is T R x y)))
-  sole (stopped s a h) = rw (sheet-tested s, range-tested a, made-tested a, lt-ltb 0 (R .stopped) h)
-  sole (waited g e q w) =
+  -- a call's answer, reader and store, and what it looks at, are those of any outcome that there can be
+  pub sole-looks : {c : Called} (o : Outcome R T m c) → (next-stmt R T m ≡ c) × (call-looks R T m ≡ looked-at o)
+  unfolding next-stmt call-looks ifb
+  sole-looks (no-sheet n) = rw (not-false (too-long T) (λ x. n (sheet-is T x))) (refl, refl)
+  sole-looks (no-reader s n) =
+      by-test (past-range T R) (λ x. rw (sheet-tested s, x) (refl, refl)) λ x.
+      rw (sheet-tested s, x, not-true (well-made R) (λ y. n (accepted-is T R x y))) (refl, refl)
+  sole-looks (stopped s a h) = rw (sheet-tested s, range-tested a, made-tested a, lt-ltb 0 (R .stopped) h) (refl, refl)
+  sole-looks (waited g e q w) =
       let n : length (take (R .waiting) (R .errors)) ≡ suc (length q) = ap length w in
       let h : 0 < R .waiting = omega (arith, length-take (R .waiting) (R .errors)) in
-      rw (sheet-tested (g .sheet), range-tested (g .accepted), made-tested (g .accepted), le-ltb 0 (R .stopped) (omega (arith, g .going)), lt-ltb 0 (R .waiting) h, w)
-  sole (short g w l) =
+      rw (sheet-tested (g .sheet), range-tested (g .accepted), made-tested (g .accepted), le-ltb 0 (R .stopped) (omega (arith, g .going)), lt-ltb 0 (R .waiting) h, w) (refl, refl)
+  sole-looks (short g w l) =
       rw (sheet-tested (g .sheet), range-tested (g .accepted), made-tested (g .accepted), le-ltb 0 (R .stopped) (omega (arith, g .going)), le-ltb 0 (R .waiting) (omega (arith, w)), lt-ltb m (share T R) l)
-  sole (reads g w l) =
+      (refl, refl)
+  sole-looks (reads g w l) =
       rw (sheet-tested (g .sheet), range-tested (g .accepted), made-tested (g .accepted), le-ltb 0 (R .stopped) (omega (arith, g .going)), le-ltb 0 (R .waiting) (omega (arith, w)), le-ltb m (share T R) l)
+      (refl, refl)
+
+  pub sole : {c : Called} → Outcome R T m c → next-stmt R T m ≡ c
+  sole o = sole-looks o .0
 
   is : {c : Called} → Outcome R T m c → Outcome R T m (next-stmt R T m)
   is o = subst (Outcome R T m) (sym (sole o)) o

@@ -1,4 +1,4 @@
--- The definition of reading, from results and tokens up to the call as a whole.
+-- The definition of reading, from results and tokens up to the call as a whole; then which tokens a call looks at, and the calls on a sheet as an editor keeps them.
 pub mod Limit
 pub mod Number
 pub mod Result
@@ -11,3 +11,5 @@ pub mod Function
 pub mod Stmt
 pub mod Depth
 pub mod Next
+pub mod Looked
+pub mod Kept

@@ -87,16 +87,16 @@ expected [] = []
 expected (w ∷ rows) = record { steps = all-called (8 * length (w .sheet)) (w .says); tokens = w .tokens } ∷ expected rows
 
 -- tokens of a sheet, and of a tree: a symbol, a name, an integer
-abbrev s : ℕ → List ℕ → List ℕ
+abbrev pub s : ℕ → List ℕ → List ℕ
 s k r = k ∷ 0 ∷ r
 
-abbrev name : ℕ → List ℕ → List ℕ
+abbrev pub name : ℕ → List ℕ → List ℕ
 name n r = Kind.Identifier ∷ n ∷ r
 
 abbrev int : ℕ → List ℕ → List ℕ
 int v r = Kind.IntegerLiteral ∷ v ∷ r
 
-abbrev eof : List ℕ
+abbrev pub eof : List ℕ
 eof = s Kind.EOF []
 
 -- a token that is the first of its line

@@ -71,7 +71,7 @@ then-fails q go h = rw h
 
 ruleset fails = (then-fails, look-short, expr-short)
 
-synchronize-short : (low : Depth) (inside : Bool) (n : ℕ) (q : List Error) (ts : List ℕ) → length ts < 2 → synchronize low inside n q ts ≡ bad tt q ts
+pub synchronize-short : (low : Depth) (inside : Bool) (n : ℕ) (q : List Error) (ts : List ℕ) → length ts < 2 → synchronize low inside n q ts ≡ bad tt q ts
 unfolding synchronize either ifb spoil
 synchronize-short low inside zero q ts s = refl
 synchronize-short low inside (suc n) q ts s = rw (look-short q ts s)

@@ -40,18 +40,25 @@ pub data Near (I : List ℕ → Type 0) : List ℕ → Type 0 where
   past : {w v : ℕ} {r : List ℕ} → I r → Near I (w ∷ v ∷ r)
 
 -- a law that says less
-k-weaken : {A : Type 0} {I M : List ℕ → Type 0} {J N : Error → List ℕ → Type 0} {d : Res A}
+pub k-weaken : {A : Type 0} {I M : List ℕ → Type 0} {J N : Error → List ℕ → Type 0} {d : Res A}
     → ((r : List ℕ) → M r → I r) → ((e : Error) (r : List ℕ) → N e r → J e r) → Keep M N d → Keep I J d
 k-weaken f g (k-ok i) = k-ok (f _ i)
 k-weaken f g (k-bad i) = k-bad (f _ i)
 k-weaken f g (k-fail j) = k-fail (g _ _ j)
 k-weaken f g k-stop = k-stop
 
+-- two laws as one
+pub k-both : {A : Type 0} {I M : List ℕ → Type 0} {J N : Error → List ℕ → Type 0} {d : Res A} → Keep I J d → Keep M N d → Keep (λ r. I r × M r) (λ e r. J e r × N e r) d
+k-both (k-ok i) (k-ok j) = k-ok (i, j)
+k-both (k-bad i) (k-bad j) = k-bad (i, j)
+k-both (k-fail i) (k-fail j) = k-fail (i, j)
+k-both k-stop k-stop = k-stop
+
 module _ {I : List ℕ → Type 0} {J : Error → List ℕ → Type 0} where
   pub k-lose : {A : Type 0} {d : Res A} → ((e : Error) (r : List ℕ) → I r → J e r) → Keep I (λ e. I) d → Keep I J d
   k-lose = k-weaken (λ r i. i)
 
-  k-spoil : {A : Type 0} (q : List Error) {d : Res A} → Keep I J d → Keep I J (spoil q d)
+  pub k-spoil : {A : Type 0} (q : List Error) {d : Res A} → Keep I J d → Keep I J (spoil q d)
   unfolding spoil
   k-spoil q (k-ok i) = k-bad i
   k-spoil q (k-bad i) = k-bad i
@@ -59,7 +66,7 @@ module _ {I : List ℕ → Type 0} {J : Error → List ℕ → Type 0} where
   k-spoil q k-stop = k-stop
 
   -- one reading after another, where the first has a law of its own
-  k-or : {M : List ℕ → Type 0} {N : Error → List ℕ → Type 0} {A B : Type 0} (q : List Error) {d : Res A} {go : A → List Error → List ℕ → Res B} {or : Error → List Error → List ℕ → Res B}
+  pub k-or : {M : List ℕ → Type 0} {N : Error → List ℕ → Type 0} {A B : Type 0} (q : List Error) {d : Res A} {go : A → List Error → List ℕ → Res B} {or : Error → List Error → List ℕ → Res B}
       → Keep M N d → ((a : A) (q : List Error) (r : List ℕ) → M r → Keep I J (go a q r)) → ((e : Error) (q : List Error) (r : List ℕ) → N e r → Keep I J (or e q r))
       → Keep I J (either q d go or)
   unfolding either
@@ -91,16 +98,16 @@ module _ {I : List ℕ → Type 0} {J : Error → List ℕ → Type 0} where
       → Keep (Near I) J d → ((a : A) (q : List Error) (r : List ℕ) → Near I r → Keep I J (go a q r)) → Keep I J (then q d go)
   k-near = k-on
 
-  k-if : {A : Type 0} (b : Bool) {x y : Unit {0} → Res A} → ((u : Unit {0}) → Keep I J (x u)) → ((u : Unit {0}) → Keep I J (y u)) → Keep I J (ifb b x y)
+  pub k-if : {A : Type 0} (b : Bool) {x y : Unit {0} → Res A} → ((u : Unit {0}) → Keep I J (x u)) → ((u : Unit {0}) → Keep I J (y u)) → Keep I J (ifb b x y)
   unfolding ifb
   k-if true f g = f tt
   k-if false f g = g tt
 
-  k-push : {A : Type 0} (e : Error) (q : List Error) {k : List Error → Res A} → ((q : List Error) → Keep I J (k q)) → Keep I J (push e q k)
+  pub k-push : {A : Type 0} (e : Error) (q : List Error) {k : List Error → Res A} → ((q : List Error) → Keep I J (k q)) → Keep I J (push e q k)
   unfolding push
   k-push e q f = k-if _ (λ u. k-stop) (λ u. k-spoil _ (f _))
 
-  k-front : {A : Type 0} (q : List Error) {k : Error → List Error → Res A} → ((e : Error) (q : List Error) → Keep I J (k e q)) → Keep I J (front q k)
+  pub k-front : {A : Type 0} (q : List Error) {k : Error → List Error → Res A} → ((e : Error) (q : List Error) → Keep I J (k e q)) → Keep I J (front q k)
   unfolding front
   k-front [] f = k-stop
   k-front (e ∷ q) f = f e q

@@ -6,6 +6,8 @@ use mathlib.Core.List.{List, [], _∷_, _++_}
 use Prim.Native.Nat.{ℕ, zero, suc, _-_, _≤_, _/_}
 use native.Mathlib.Nat.{sub-le}
 use native.Mathlib.Omega.{arith}
+use borrow.Author.Tests.{eqb-true}
+use lib.Dec.{eqb}
 use lib.ListN.{length, take, replicate, length-append, length-replicate, length-take}
 use Rattle.tree.specs.Tree.{Tree}
 use Rattle.grammar.specs.Reading.Limit.{queue-limit}
@@ -30,6 +32,15 @@ both : (b c : Bool) → ifb b (λ u. c) (λ u. false) ≡ true → (b ≡ true) 
 unfolding ifb
 both true c h = (refl, h)
 both false c h = absurd (false≢true h)
+
+pub zeros-are : (es : List ℕ) → queue-fits zero es ≡ true → es ≡ replicate (length es) 0
+unfolding queue-fits
+zeros-are [] h = refl
+zeros-are (e ∷ es) h =
+    let (j, k) = both (eqb e 0) _ h in
+    let x : e ≡ 0 = eqb-true e 0 j in
+    let y : es ≡ replicate (length es) 0 = zeros-are es k in
+    cc
 
 pub fits-all : (w : ℕ) (es : List ℕ) → queue-fits w es ≡ true → All IsError (take w es)
 unfolding queue-fits
