@@ -1,4 +1,5 @@
 -- What several proofs share.
 mod Scans
+mod Inputs
 mod Texts
 mod Calls

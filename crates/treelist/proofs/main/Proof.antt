@@ -1,43 +1,45 @@
--- `main`: the words of the whole lines are a part of the sheet. Assumes nothing.
+-- `main`: what is listed was read to its end. Assumes nothing.
 use borrow.Author.Needs.{needs}
 use mathlib.Core.Path.{sym}
-use Prim.Native.Nat.{_*_, _≤_}
-use native.Mathlib.Omega.{arith}
-use lib.ListN.{length}
-use lib.Seq.{length-take-le}
-use Rattle.treelist.proofs.Scans.{ended-ready}
+use Rattle.treelist.proofs.Inputs.{read-whole}
 use Rattle.treelist.proofs.main.Statement.{statement}
 use Rattle.treelist.proofs.main.Tie as tie
 
 read-lines-requires : tie.Need-read-lines-requires
 read-lines-requires c κs = search needs
 
-slice-aggregate-print-answer : tie.Need-slice-aggregate-print-answer
-slice-aggregate-print-answer c = search needs
+enum-known-input : tie.Need-enum-known-input
+enum-known-input c = search needs
 
-print-answer-requires : tie.Need-print-answer-requires
-print-answer-requires c κs = search needs
+slice-aggregate-list : tie.Need-slice-aggregate-list
+slice-aggregate-list c = sym (read-whole (c .before .before .input .given .1) (c .before .before .before .before .read-lines .ensures) .1 .whole)
+
+list-requires : tie.Need-list-requires
+list-requires c κs = read-whole (c .before .before .input .given .1) (c .before .before .before .before .read-lines .ensures)
+
+enum-told : tie.Need-enum-told
+enum-told c = search needs
+
+slice-aggregate-fail : tie.Need-slice-aggregate-fail
+slice-aggregate-fail c = search needs
+
+fail-requires : tie.Need-fail-requires
+fail-requires c κs = search needs
+
+slice-aggregate-write-all : tie.Need-slice-aggregate-write-all
+slice-aggregate-write-all c = search needs
+
+write-all-requires : tie.Need-write-all-requires
+write-all-requires c κs = search needs
+
+slice-aggregate-fail-2 : tie.Need-slice-aggregate-fail-2
+slice-aggregate-fail-2 c = search needs
+
+fail-requires-2 : tie.Need-fail-requires-2
+fail-requires-2 c κs = search needs
 
 returns : tie.Need-returns
 returns c = search needs
-
-mul-end : tie.Need-mul-end
-mul-end c = let r = ended-ready (c .before .before .read-lines .ensures) in record { fits = omega (arith, r .sound .lines) }
-
-array-share-prefix-sheet : tie.Need-array-share-prefix-sheet
-array-share-prefix-sheet c = let r = ended-ready (c .before .before .read-lines .ensures) in omega (arith, r .sound .lines, r .whole)
-
-slice-aggregate-print-answers : tie.Need-slice-aggregate-print-answers
-slice-aggregate-print-answers c =
-    let r = ended-ready (c .before .before .before .read-lines .ensures) in
-    let l : 2 * c .before .before .before .read-lines .result .lines ≤ length (c .before .before .before .read-lines .last .0) = omega (arith, r .sound .lines, r .whole) in
-    sym (length-take-le _ _ l)
-
-slice-aggregate-print-answers-2 : tie.Need-slice-aggregate-print-answers-2
-slice-aggregate-print-answers-2 c = search needs
-
-print-answers-requires : tie.Need-print-answers-requires
-print-answers-requires c κs = search needs
 
 returns-2 : tie.Need-returns-2
 returns-2 c = search needs
@@ -47,12 +49,15 @@ main-spec =
     tie.close
     (tie.spec
     read-lines-requires
-    slice-aggregate-print-answer
-    print-answer-requires
+    enum-known-input
+    slice-aggregate-list
+    list-requires
+    enum-told
+    slice-aggregate-fail
+    fail-requires
+    slice-aggregate-write-all
+    write-all-requires
+    slice-aggregate-fail-2
+    fail-requires-2
     returns
-    mul-end
-    array-share-prefix-sheet
-    slice-aggregate-print-answers
-    slice-aggregate-print-answers-2
-    print-answers-requires
     returns-2)

@@ -1,4 +1,4 @@
--- `print`: a tree's records stand in the store, and each case says whether it goes on. Assumes nothing.
+-- `print`: a tree's records stand in the store. Assumes nothing.
 use borrow.Author.Needs.{needs}
 use mathlib.Core.Path.{subst}
 use Rattle.treelist.specs.Printing.{Holds}
@@ -14,10 +14,13 @@ slice-aggregate-print-answer c = search needs
 print-answer-requires : tie.Need-print-answer-requires
 print-answer-requires c κs = search needs
 
+returns : tie.Need-returns
+returns c = search needs
+
 print-nodes-requires : tie.Need-print-nodes-requires
 print-nodes-requires c κs =
-    let start = c .before .before .before .before .before .before in
-    subst (λ a. Holds a (start .args .store .now)) (c .before .before .before .answer .given .1) (start .pre)
+    let start = c .before .before .before .before .before .before .before in
+    subst (λ a. Holds a (start .args .store .now)) (c .before .before .before .before .answer .given .1) (start .pre)
 
 enum-known-answer-2 : tie.Need-enum-known-answer-2
 enum-known-answer-2 c = search needs
@@ -58,9 +61,6 @@ slice-aggregate-print-answer-4 c = search needs
 print-answer-requires-4 : tie.Need-print-answer-requires-4
 print-answer-requires-4 c κs = search needs
 
-returns : tie.Need-returns
-returns c = search needs
-
 returns-2 : tie.Need-returns-2
 returns-2 c = search needs
 
@@ -73,6 +73,9 @@ returns-4 c = search needs
 returns-5 : tie.Need-returns-5
 returns-5 c = search needs
 
+returns-6 : tie.Need-returns-6
+returns-6 c = search needs
+
 pub print-spec : {M : Type 1} → statement M
 print-spec =
     tie.close
@@ -80,6 +83,7 @@ print-spec =
     enum-known-answer
     slice-aggregate-print-answer
     print-answer-requires
+    returns
     print-nodes-requires
     enum-known-answer-2
     slice-aggregate-print-answer-2
@@ -94,8 +98,8 @@ print-spec =
     enum-known-answer-4
     slice-aggregate-print-answer-4
     print-answer-requires-4
-    returns
     returns-2
     returns-3
     returns-4
-    returns-5)
+    returns-5
+    returns-6)

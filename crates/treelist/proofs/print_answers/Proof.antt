@@ -31,13 +31,25 @@ same-length c = search needs
 returns : tie.Need-returns Inv-loop μ-loop
 returns c = search needs
 
+goes-on-requires : tie.Need-goes-on-requires Inv-loop μ-loop
+goes-on-requires c κs = search needs
+
+same-length-2 : tie.Need-same-length-2 Inv-loop μ-loop
+same-length-2 c = search needs
+
+returns-2 : tie.Need-returns-2 Inv-loop μ-loop
+returns-2 c = search needs
+
 loop-less : tie.Need-loop-less Inv-loop μ-loop
 loop-less c =
-    nearer _ _ _ (c .before .before .before .before .before .before .next-stmt .ensures) (c .before .before .before .before .before .before .before .before .loop .inv .1)
-    (sym (c .before .before .print .ensures) ∙ not-false _ (c .before .if1 .left))
+    let called = c .before .before .before .before .before .before .before .before in
+    nearer _ _ _ (called .next-stmt .ensures) (called .before .before .loop .inv .1)
+    (sym (c .before .before .goes-on .ensures) ∙ not-false _ (c .before .if2 .left))
 
 loop-again : tie.Need-loop-again Inv-loop μ-loop
-loop-again c = (search needs, accepted _ _ _ (c .before .before .before .before .before .before .next-stmt .ensures) (c .before .before .before .before .before .before .before .before .loop .inv .1))
+loop-again c =
+    let called = c .before .before .before .before .before .before .before .before in
+    (search needs, accepted _ _ _ (called .next-stmt .ensures) (called .before .before .loop .inv .1))
 
 pub print-answers-spec : {M : Type 1} → statement M
 print-answers-spec =
@@ -50,5 +62,8 @@ print-answers-spec =
     print-requires
     same-length
     returns
+    goes-on-requires
+    same-length-2
+    returns-2
     loop-less
     loop-again)

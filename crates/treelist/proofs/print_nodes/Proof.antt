@@ -55,6 +55,9 @@ slice-aggregate-write-all c =
 write-all-requires : tie.Need-write-all-requires Inv-loop μ-loop
 write-all-requires c κs = search needs
 
+returns : tie.Need-returns Inv-loop μ-loop
+returns c = search needs
+
 add-i : tie.Need-add-i Inv-loop μ-loop
 add-i c = omega arith
 
@@ -64,8 +67,8 @@ loop-less c = omega arith
 loop-again : tie.Need-loop-again Inv-loop μ-loop
 loop-again c = (omega arith, omega arith)
 
-returns : tie.Need-returns Inv-loop μ-loop
-returns c = search needs
+returns-2 : tie.Need-returns-2 Inv-loop μ-loop
+returns-2 c = search needs
 
 pub print-nodes-spec : {M : Type 1} → statement M
 print-nodes-spec =
@@ -86,7 +89,8 @@ print-nodes-spec =
     array-share-prefix-line
     slice-aggregate-write-all
     write-all-requires
+    returns
     add-i
     loop-less
     loop-again
-    returns)
+    returns-2)

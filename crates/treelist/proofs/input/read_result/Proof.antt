@@ -1,0 +1,41 @@
+-- `read_result`: the result says which case it is, and how many bytes came. Assumes nothing.
+use borrow.Author.Needs.{needs}
+use mathlib.Core.Path.{refl}
+use mir.Syntax.{w64}
+use mir.ValLaws.{toZ-ofZ}
+use Rattle.treelist.proofs.Inputs.{is-negative, is-zero, is-positive}
+use Rattle.treelist.proofs.input.read_result.Statement.{statement}
+use Rattle.treelist.proofs.input.read_result.Tie as tie
+
+returns : tie.Need-returns
+returns c = (is-negative _ (c .before .before .fits .got) (c .if1 .taken), refl)
+
+returns-2 : tie.Need-returns-2
+returns-2 c = (is-zero _ (c .before .before .before .fits .got) (c .if2 .taken), refl)
+
+count-requires : tie.Need-count-requires
+count-requires c κs = search needs
+
+slice-aggregate-bytes-read : tie.Need-slice-aggregate-bytes-read
+slice-aggregate-bytes-read c = search needs
+
+bytes-read-requires : tie.Need-bytes-read-requires
+bytes-read-requires c κs = search needs
+
+returns-3 : tie.Need-returns-3
+returns-3 c =
+    let counted = c .before .before .before in
+    let tested = counted .before in
+    let fits = tested .before .before .before .fits .got in
+    (is-positive _ fits (tested .before .if1 .left) (tested .if2 .left), rw (counted .count .ensures .1, toZ-ofZ w64 _ fits) at (c .bytes-read .ensures))
+
+pub read-result-spec : {M : Type 1} → statement M
+read-result-spec =
+    tie.close
+    (tie.spec
+    returns
+    returns-2
+    count-requires
+    slice-aggregate-bytes-read
+    bytes-read-requires
+    returns-3)
