@@ -9,7 +9,8 @@
 #include <string.h>
 #include "leatherlava.h"
 
-enum { SHARE = 16, MOST_TOKENS = 65537, LINE = 256 };
+/* MOST_TOKENS are read; sheets of up to ROOM_TOKENS can be handed in, to see what a longer one is answered */
+enum { SHARE = 16, MOST_TOKENS = 65536, ROOM_TOKENS = 2 * MOST_TOKENS, QUEUE = 96, LINE = 256 };
 #define RUBBISH UINT64_C(11400714819323198485)
 
 static const char *const NAMES[] = {
@@ -22,7 +23,7 @@ static const char *const NAMES[] = {
 };
 enum { KINDS = sizeof NAMES / sizeof NAMES[0] };
 
-static uint64_t tokens[2 * MOST_TOKENS];
+static uint64_t tokens[2 * ROOM_TOKENS];
 static uint64_t *store;
 
 static void rubbish(size_t words) {
@@ -45,17 +46,37 @@ static int same(const struct leatherlava_reader *a, const struct leatherlava_rea
            memcmp(a->errors, b->errors, sizeof a->errors) == 0;
 }
 
-/* one word less than is asked for: refused with 63, the store zero, the reader as given */
+/* What a call with a store too short is answered, and the reader that it leaves, by document 01's order at a call: the length of the sheet, then a
+ * waiting error, then the store. The reader is one that calls leave, and not stopped. */
+static struct leatherlava_answer short_answer(struct leatherlava_reader *reader, size_t words_n) {
+    if (words_n > 2 * MOST_TOKENS) {
+        memset(reader->errors, 0, sizeof reader->errors);
+        reader->waiting = 0;
+        reader->stopped = 60;
+        return (struct leatherlava_answer){LEATHERLAVA_STOPPED, 60};
+    }
+    if (reader->waiting > 0) {
+        uint64_t first = reader->errors[0];
+        memmove(reader->errors, reader->errors + 1, (QUEUE - 1) * sizeof *reader->errors);
+        reader->errors[QUEUE - 1] = 0;
+        reader->waiting--;
+        return (struct leatherlava_answer){LEATHERLAVA_ERROR, first};
+    }
+    return (struct leatherlava_answer){LEATHERLAVA_REFUSED, 63};
+}
+
+/* one word less than is asked for: the answer and the reader that are due, and the store zero */
 static void test_short(const struct leatherlava_reader *reader, size_t words_n, size_t need) {
-    struct leatherlava_reader kept = *reader;
+    struct leatherlava_reader kept = *reader, due = *reader;
+    struct leatherlava_answer expected = short_answer(&due, words_n);
     rubbish(need - 1);
     struct leatherlava_answer answer = leatherlava_next(&kept, tokens, words_n, store, need - 1);
-    if (answer.variant != LEATHERLAVA_REFUSED || answer.number != 63) puts("NOT-REFUSED");
-    if (!same(&kept, reader)) puts("MOVED-ON-REFUSAL");
+    if (answer.variant != expected.variant || answer.number != expected.number) puts("SHORT-STORE-ANSWER");
+    if (!same(&kept, &due)) puts("SHORT-STORE-READER");
     test_rest(0, need - 1);
 }
 
-/* a stopped reader answers its number again, as given */
+/* a stopped reader answers its number again, as given; on a sheet that is too long that is 60, and the sheet's length gives it */
 static void test_stopped(const struct leatherlava_reader *reader, size_t words_n, uint64_t number) {
     struct leatherlava_reader kept = *reader;
     if (reader->stopped != number) puts("NOT-STOPPED");
@@ -85,7 +106,7 @@ static void print_answer(struct leatherlava_answer answer) {
 
 static void print_state(const struct leatherlava_reader *reader) {
     printf("state position=%zu waiting=%zu", reader->position, reader->waiting);
-    for (size_t i = 0; i < 96; i++) {
+    for (size_t i = 0; i < QUEUE; i++) {
         if (i < reader->waiting) printf(" %llu", (unsigned long long)reader->errors[i]);
         else if (reader->errors[i] != 0) fputs(" QUEUE-REST", stdout);
     }
@@ -97,7 +118,7 @@ static void read_sheet(size_t words_n) {
     struct leatherlava_answer answer;
     do {
         size_t need = SHARE * (words_n / 2 - reader.position);
-        if (reader.waiting == 0 && need > 0) test_short(&reader, words_n, need);
+        if (need > 0) test_short(&reader, words_n, need);
         rubbish(need);
         answer = leatherlava_next(&reader, tokens, words_n, store, need);
         print_answer(answer);
@@ -112,7 +133,7 @@ int main(void) {
     char line[LINE];
     size_t words_n = 0;
     int begun = 0;
-    store = malloc((SHARE * (size_t)MOST_TOKENS + 4) * sizeof *store);
+    store = malloc((SHARE * (size_t)ROOM_TOKENS + 4) * sizeof *store);
     if (store == NULL) return 2;
     while (fgets(line, sizeof line, stdin) != NULL) {
         unsigned long long kind, newline, value;
@@ -121,7 +142,7 @@ int main(void) {
             begun = 1;
             words_n = 0;
             fputs(line, stdout);
-        } else if (sscanf(line, "token=%llu newline=%llu value=%llu", &kind, &newline, &value) == 3 && words_n < 2 * MOST_TOKENS) {
+        } else if (sscanf(line, "token=%llu newline=%llu value=%llu", &kind, &newline, &value) == 3 && words_n < 2 * ROOM_TOKENS) {
             tokens[words_n++] = kind + 256 * newline;
             tokens[words_n++] = value;
         } else {
