@@ -1,10 +1,10 @@
 #!/usr/bin/env python3
 """Compares the definition of canonical tokens (crates/grammar/specs/Canonical) with supplied ones, by computation inside the checker.
 
-    check_canonical.py --oracle DIR --build DIR [--repo DIR] [--seeds 11,12,13,14] [--count 400] [--max-tokens 40] [--chunk 40]
+    check_canonical.py --build DIR [--oracle DIR] [--repo DIR] [--seeds 11,12,13,14] [--count 400] [--max-tokens 40] [--chunk 40]
 
-DIR of --oracle holds gen.py and canonical.txt; DIR of --build holds oracle01, as build.sh makes it; --repo is the repository
-with the definition, by default the folder above this file's. Needs Python 3 and rt.
+DIR of --build holds oracle01, as `compare/oracle/build.sh SOURCES DIR` makes it; DIR of --oracle holds gen.py and canonical.txt, by default
+compare/oracle; --repo is the repository with the definition, by default the folder above this file's. Needs Python 3 and rt.
 
 Two things are computed by scratch modules in a temporary copy of the repository, and proved by refl, a chunk of sheets at a time:
 every sheet of canonical.txt is written as there, and so is its canonical run read again; and of the sheets of gen.py's family b
@@ -23,6 +23,7 @@ import tempfile
 sys.dont_write_bytecode = True  # no compiled files beside the sources
 import supplied
 
+ROOT = os.path.dirname(os.path.dirname(os.path.abspath(__file__)))
 HEADER = """-- Scratch: sheets and what they come to.
 use mathlib.Core.Path.{_≡_, refl}
 use mathlib.Core.Bool.{Bool, true}
@@ -128,9 +129,9 @@ def prove(repo, text):
 
 def main():
     parser = argparse.ArgumentParser(description=__doc__, formatter_class=argparse.RawDescriptionHelpFormatter)
-    parser.add_argument("--oracle", required=True)
+    parser.add_argument("--oracle", default=os.path.join(ROOT, "compare", "oracle"))
     parser.add_argument("--build", required=True)
-    parser.add_argument("--repo", default=os.path.join(os.path.dirname(os.path.abspath(__file__)), ".."))
+    parser.add_argument("--repo", default=ROOT)
     parser.add_argument("--seeds", default="11,12,13,14")
     parser.add_argument("--count", type=int, default=400)
     parser.add_argument("--max-tokens", type=int, default=40)

@@ -1,13 +1,14 @@
 #!/usr/bin/env python3
 """Compares the definition of reading (crates/grammar/specs/Reading) with the oracle, by computation inside the checker.
 
-    check_definition.py --oracle DIR --build DIR [--repo DIR] [--families tried,a,b,c,d,e,f,v,w] [--seeds 1,2,3]
+    check_definition.py --build DIR [--oracle DIR] [--repo DIR] [--families tried,a,b,c,d,e,f,v,w] [--seeds 1,2,3]
         [--count 100] [--pool N] [--max-tokens 40] [--max-tokens-f 400] [--all 1 [--words 'WORDS'] [--prefix 'WORDS']]
         [--chunk 50] [--show 10] [--shrink 3] [--mutate] [--keep DIR]
 
-DIR of --oracle holds gen.py, tokens.py and check_sheets.py; DIR of --build holds oracle01, as build.sh makes it;
---repo is the repository with the definition, by default the folder above this file's. Needs Python 3 and rt; one
-thread, about 10 ms a sheet, 0.2 s one of the family f. With the defaults some 2,900 sheets, 2 to 3 minutes.
+DIR of --build holds oracle01, as `compare/oracle/build.sh SOURCES DIR` makes it; DIR of --oracle holds gen.py, tokens.py
+and check_sheets.py, by default compare/oracle; --repo is the repository with the definition, by default the folder above
+this file's. Needs Python 3 and rt; one thread, about 10 ms a sheet, 0.2 s one of the family f. With the defaults some
+2,900 sheets, 2 to 3 minutes.
 
 Every sheet is read by `oracle01 --state`. Scratch modules, in a temporary copy of the crates that `grammar` needs,
 make the same calls of `next-stmt`, from a fresh reader to the first end or stop and with a store of 16 words for each
@@ -44,6 +45,7 @@ import sys
 import tempfile
 import time
 
+ROOT = os.path.dirname(os.path.dirname(os.path.abspath(__file__)))
 CASES = ["tree", "error", "end", "stopped", "refused"]
 TREE, ERROR, END, STOPPED, REFUSED = range(5)
 CHUNKS_A_RUN = 20
@@ -653,8 +655,8 @@ def compare(args, tokens, kinds, scratch, groups):
 
 def arguments():
     parser = argparse.ArgumentParser(description=__doc__, formatter_class=argparse.RawDescriptionHelpFormatter)
-    parser.add_argument("--repo", default=os.path.dirname(os.path.dirname(os.path.abspath(__file__))))
-    parser.add_argument("--oracle", required=True)
+    parser.add_argument("--repo", default=ROOT)
+    parser.add_argument("--oracle", default=os.path.join(ROOT, "compare", "oracle"))
     parser.add_argument("--build", required=True)
     parser.add_argument("--families", default="tried,a,b,c,d,e,f,v,w")
     parser.add_argument("--seeds", default="1,2,3")

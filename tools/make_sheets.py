@@ -1,10 +1,10 @@
 #!/usr/bin/env python3
 """Makes the input of the program `sheets`: fixed sheets with the answers of the published parser, and what the writer makes of their trees.
 
-    make_sheets.py --oracle DIR --build DIR [--seeds 1,2] > crates/sheets/stdin
+    make_sheets.py --build DIR [--oracle DIR] [--seeds 1,2] > crates/sheets/stdin
 
-DIR of --oracle holds gen.py, tokens.py and canonical.txt; DIR of --build holds oracle and oracle01, as build.sh makes them.
-The same arguments give the same file. Needs Python 3.
+DIR of --build holds oracle and oracle01, as `compare/oracle/build.sh SOURCES DIR` makes them; DIR of --oracle holds gen.py, tokens.py and
+canonical.txt, by default compare/oracle. The same seeds give the same file. Needs Python 3.
 
 Each sheet is run through both programs. Where they agree, the answers are those of the published parser unchanged. Where the
 published parser panics, or goes past a limit of document 01, they are those of oracle01, and the sheet stands in the group that says so.
@@ -23,6 +23,7 @@ sys.dont_write_bytecode = True  # no compiled files beside the sources
 import canonical
 import supplied
 
+ROOT = os.path.dirname(os.path.dirname(os.path.abspath(__file__)))
 HEADER = """# Sheets with the answers that the published parser gave for them, and what the writer makes of their trees. Made by
 #   tools/make_sheets.py --oracle DIR --build DIR --seeds %(seeds)s
 # from the sheets of document 01, gen.py's families a to f with these seeds, such sheets joined to nearly 500 tokens, sheets with a
@@ -332,7 +333,7 @@ def records_group(name, found, args, tokens, write):
 
 def main():
     parser = argparse.ArgumentParser(description=__doc__, formatter_class=argparse.RawDescriptionHelpFormatter)
-    parser.add_argument("--oracle", required=True)
+    parser.add_argument("--oracle", default=os.path.join(ROOT, "compare", "oracle"))
     parser.add_argument("--build", required=True)
     parser.add_argument("--seeds", default="1,2")
     args = parser.parse_args()
