@@ -1,10 +1,10 @@
 """Statements in which the writer has forgotten what it asks for again. bench/passed counts what it passes over in them, bench/write times them.
 
-All are nests: levels around a core. A level has a gap: records that stand behind what is nested in it, mostly so many that the writer's table does
-not have any more where the trees before them begin.
+They are nests: levels around a core. A level has a gap: records that stand behind what is nested in it, mostly so many that the writer's table does
+not have any more where the trees before them begin. The last three shapes are none, but statements such as readings give.
 """
-from shapes import (A, ADDED, ENDED, NAMED_SIGNATURE, NO_RESULT, NO_STATEMENTS, PATTERN, SIGNATURE, STATED, big, call, chain, count, functions, nest,
-                    rec)
+from shapes import (A, ADDED, ENDED, NAMED_SIGNATURE, NO_RESULT, NO_STATEMENTS, PATTERN, SIGNATURE, STATED, big, call, chain, count, functions,
+                    integers, nest, rec, table)
 
 # The places of the table: for trees, and for assignments of functions.
 TREES, FORMS = 24576, 24424
@@ -100,4 +100,7 @@ SHAPES = (
      lambda n: filled(forgotten_in_sums, n, nested_members), 270000),
     ("46 functions in targets, the records inside in levels of `1, fun() .. end, gap`, those behind in ten more around all",
      lambda n: filled(forgotten_in_members, n, nested_members), 270000),
+    ("a sum", lambda n: chain(n // 2) + STATED, 0),
+    ("a call", lambda n: call(integers(n)) + STATED, 0),
+    ("a table", lambda n: table(2 * n // 7) + STATED, 0),
 )
