@@ -1,7 +1,7 @@
 """Statements in which the writer has forgotten what it asks for again. bench/passed counts what it passes over in them, bench/write times them.
 
 They are nests: levels around a core. A level has a gap: records that stand behind what is nested in it, mostly so many that the writer's table does
-not have any more where the trees before them begin. The last three shapes are none, but statements such as readings give.
+not have any more where the trees before them begin. The first three shapes are none, but statements such as readings give.
 """
 from shapes import (A, ADDED, ENDED, NAMED_SIGNATURE, NO_RESULT, NO_STATEMENTS, PATTERN, SIGNATURE, STATED, big, call, chain, count, functions,
                     integers, nest, rec, table)
@@ -91,6 +91,9 @@ def forgotten_in_members(core):
 LEVELS = (sums, bodies, targets, arguments, members)
 # Each shape's name, the statement by the number of its records, and from how many on there is one.
 SHAPES = (
+    ("a sum", lambda n: chain(n // 2) + STATED, 0),
+    ("a call", lambda n: call(integers(n)) + STATED, 0),
+    ("a table", lambda n: table(2 * n // 7) + STATED, 0),
     *(("`%s`, gaps of %d" % (level.__doc__, gap), plain(level, gap), gap) for gap in (TREES, 8192) for level in LEVELS),
     ("64 functions in targets, most records in the innermost; a gap behind", lambda n: filled(remembered, n, one_sum), 50000),
     ("the same, the gap in the body of one more that is an argument", lambda n: filled(argument, n, one_sum), 50000),
@@ -100,7 +103,4 @@ SHAPES = (
      lambda n: filled(forgotten_in_sums, n, nested_members), 270000),
     ("46 functions in targets, the records inside in levels of `1, fun() .. end, gap`, those behind in ten more around all",
      lambda n: filled(forgotten_in_members, n, nested_members), 270000),
-    ("a sum", lambda n: chain(n // 2) + STATED, 0),
-    ("a call", lambda n: call(integers(n)) + STATED, 0),
-    ("a table", lambda n: table(2 * n // 7) + STATED, 0),
 )
