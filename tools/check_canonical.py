@@ -24,6 +24,7 @@ sys.dont_write_bytecode = True  # no compiled files beside the sources
 import supplied
 
 ROOT = os.path.dirname(os.path.dirname(os.path.abspath(__file__)))
+DEFINITIONS = ("Reading", "Canonical", "Sheets")
 HEADER = """-- Scratch: sheets and what they come to.
 use mathlib.Core.Path.{_≡_, refl}
 use mathlib.Core.Bool.{Bool, true}
@@ -109,17 +110,25 @@ def scratch_module(pairs, clean, chunk):
     return text
 
 
+def keep_definitions(specs):
+    """of grammar's specs only the definitions, so that a run proves no laws"""
+    for name in os.listdir(specs):
+        path = os.path.join(specs, name)
+        if os.path.isdir(path) and name not in DEFINITIONS:
+            shutil.rmtree(path)
+        elif os.path.isfile(path) and name[:-len(".antt")] not in DEFINITIONS:
+            os.remove(path)
+
+
 def prove(repo, text):
     """a copy of the repository's definitions with the scratch module, checked"""
     with tempfile.TemporaryDirectory() as folder:
         for name in ("token", "operator", "tree", "grammar"):
             shutil.copytree(os.path.join(repo, "crates", name), os.path.join(folder, "crates", name))
         specs = os.path.join(folder, "crates", "grammar", "specs")
-        shutil.rmtree(os.path.join(specs, "Laws"))
-        for name in ("Laws.antt", "Theorems.antt"):
-            os.remove(os.path.join(specs, name))
+        keep_definitions(specs)
         with open(os.path.join(specs, "Lib.antt"), "w") as out:
-            out.write("pub mod Reading\npub mod Canonical\npub mod Sheets\npub mod Scratch\n")
+            out.write("".join("pub mod %s\n" % name for name in (*DEFINITIONS, "Scratch")))
         with open(os.path.join(specs, "Scratch.antt"), "w") as out:
             out.write(text)
         with open(os.path.join(folder, "crates.txt"), "w") as out:
