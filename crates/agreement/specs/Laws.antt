@@ -1,5 +1,5 @@
 pub mod Step
-pub mod Ways
+pub mod Does
 pub mod Clean
 pub mod Whole
 pub mod Deep

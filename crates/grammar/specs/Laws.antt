@@ -9,6 +9,7 @@ pub mod Views
 pub mod Sound
 pub mod Small
 pub mod Length
+pub mod Append
 pub mod Kinds
 pub mod Numbers
 pub mod Returned

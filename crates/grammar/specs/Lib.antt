@@ -1,5 +1,6 @@
 pub mod Reading
 pub mod Canonical
+pub mod Flat
 pub mod Contract
 pub mod Sheets
 pub mod Looks

@@ -18,7 +18,7 @@ use native.Mathlib.Omega.{arith}
 use lib.Dec.{ltb}
 use lib.ListN.{length, drop, length-drop}
 use Rattle.tree.specs.Maybe.{nothing, just}
-use Rattle.grammar.specs.Reading.Limit.{depth-limit, queue-limit}
+use Rattle.grammar.specs.Reading.Limit.{depth-limit}
 use Rattle.grammar.specs.Reading.Result.{Error}
 use Rattle.grammar.specs.Reading.Next.{next, reader-at, fresh, next-stmt}
 use Rattle.grammar.specs.Reading.Looked.{BadRecord, words-of, bad-record, meets, looks, call-looks, WellFormed, Same, no-lexer, Ends}
@@ -46,17 +46,17 @@ pub kept : (d : ℕ) (q : List Error) (a : ℕ) (h : List ℕ) → length h ≡ 
     → Same Z X (next d q (h ++ Z)) (next d q (h ++ X)) × (looks (next d q) (h ++ X) ≡ looks (next d q) (h ++ Z))
 kept d q a h e Z X = reading-kept Z X (next-is-local d q) (whole a h e)
 
--- 4 and 5, of a reader whose array has 96 places, as every reader's has
-module _ (R : Reader) (full : length (R .errors) ≡ queue-limit) where
+-- 4 and 5
+module _ (R : Reader) where
   pub call-kept : {a m : ℕ} {h X : List ℕ} (Z : List ℕ) → Changed a h X m → R .position ≤ a → call-looks R (h ++ Z) m ≤ a
       → (next-stmt R (h ++ X) m ≡ next-stmt R (h ++ Z) m) × (call-looks R (h ++ X) m ≡ call-looks R (h ++ Z) m)
-  call-kept = call-same R full
+  call-kept = call-same R
 
   pub never-past : (T : List ℕ) (m : ℕ) → goes-on (next-stmt R T m .step .answer) ≡ true → call-looks R T m ≤ suc (next-stmt R T m .step .reader .position)
-  never-past T m g = near R full T m g .0
+  never-past T m g = near R T m g .0
 
   pub never-short : (T : List ℕ) (m : ℕ) → goes-on (next-stmt R T m .step .answer) ≡ true → next-stmt R T m .step .reader .position ≤ max (R .position) (call-looks R T m)
-  never-short T m g = near R full T m g .1
+  never-short T m g = near R T m g .1
 
 -- 6. The position that is left is the number of the sheet's tokens less that of the tokens left
 pub peeked : (R : Reader) (T : List ℕ) (m : ℕ) → Ready R T m → Ends no-lexer (λ r. call-looks R T m ≡ suc (length T / 2 - length r / 2)) (reading T R)

@@ -1,11 +1,11 @@
 -- What document 01's table says of a reading call, of the definition `next-stmt`, which both entries are equal to. Assumes nothing.
--- Of any reader, whose array has 96 places, any words and a store of m words the answer is, in this order:
+-- Of any reader, any words and a store of m words the answer is, in this order:
 -- 60, if the words are no whole tokens or over 65,536 tokens; 61, if the reader is not `Accepted`; the reader's stop, if it is stopped; the error that waited
 -- longest, if one waits; 63, if the store has less than 16 words for each unread token; else what the reading of the unread part comes to.
 -- `outcome` and `sole` say what each leaves, whole, and `sole-looks` the furthest token that it looks at too; `answers-..` say of each number when it is answered, in both
--- directions.
+-- directions, of a reader whose array has 96 places, as every reader's has.
 use mathlib.Core.Path.{_≡_, refl, sym, ap, _∙_, subst}
-use mathlib.Core.Logic.{_↔_, _⊎_, inl, inr}
+use mathlib.Core.Logic.{_↔_}
 use mathlib.Core.Bool.{Bool, true, false, true≢false, false≢true, _&&_, _||_}
 use mathlib.Core.List.{List, [], _∷_}
 use Prim.Native.Nat.{ℕ, suc, _+_, _-_, _*_, _/_, _%_, _≤_, _<_}
@@ -17,12 +17,12 @@ use Rattle.tree.specs.Tree.{Tree}
 use Rattle.grammar.specs.Reading.Limit.{depth-limit, length-limit, queue-limit, store-share, malformed, too-deep, queue-full, bad-reader, short-store}
 use Rattle.grammar.specs.Reading.Number
 use Rattle.grammar.specs.Reading.Result.{Error, Res, ok, bad, fail, stop, ifb}
-use Rattle.grammar.specs.Reading.Next.{next, kind-number, number, error-kind, is-error, is-stop, queue-fits, Accepted, Called, bare, halted, reader-at, error-answer, called, answered, next-stmt}
+use Rattle.grammar.specs.Reading.Next.{next, kind-number, number, error-kind, is-error, is-stop, queue-fits, Accepted, Called, bare, halted, error-answer, called, answered, next-stmt}
 use Rattle.grammar.specs.Reading.Looked.{looks, call-looks}
 use Rattle.grammar.specs.Laws.Facts.{and-l, and-r, or-true, not-true, apart, by-test}
 use Rattle.grammar.specs.Laws.Numbers.{IsError, IsStop, All, a-cons, waits-none, n-fail, n-stop, Top, t-end, t-num, next-numbers}
 use Rattle.grammar.specs.Laws.Returned.{fits-all}
-use Rattle.grammar.specs.declared.Answer.the-variants.{Error as AError, End, Stopped, Refused}
+use Rattle.grammar.specs.declared.Answer.the-variants.{Stopped, Refused}
 use Rattle.grammar.specs.declared.Reader.{Reader}
 
 -- words that the length test passes: whole tokens, at most 65,536
@@ -49,7 +49,7 @@ pub data Outcome (R : Reader) (T : List ℕ) (m : ℕ) : Called → Type 0 where
   no-sheet : (Sheet T → ⊥) → Outcome R T m (halted m (R .position) malformed)
   no-reader : Sheet T → (Accepted T R → ⊥) → Outcome R T m (bare m (Refused bad-reader) R)
   stopped : Sheet T → Accepted T R → 0 < R .stopped → Outcome R T m (bare m (Stopped (R .stopped)) R)
-  waited : Going T R → (e : Error) (q : List Error) → take (R .waiting) (R .errors) ≡ e ∷ q → Outcome R T m (bare m (AError (error-kind e)) (reader-at (R .position) q))
+  waited : Going T R → 0 < R .waiting → Outcome R T m (answered m R (take (R .waiting) (R .errors)))
   short : Going T R → R .waiting ≡ 0 → m < share T R → Outcome R T m (bare m (Refused short-store) R)
   reads : Going T R → R .waiting ≡ 0 → share T R ≤ m → Outcome R T m (called (length T / 2) m (R .position) (reading T R))
 
@@ -58,7 +58,7 @@ abbrev pub looked-at : {R : Reader} {T : List ℕ} {m : ℕ} {c : Called} → Ou
 looked-at {T = T} (no-sheet n) = suc (length T / 2)
 looked-at (no-reader s n) = 0
 looked-at (stopped s a h) = 0
-looked-at (waited g e q w) = 0
+looked-at (waited g h) = 0
 looked-at {T = T} (short g w l) = suc (length T / 2)
 looked-at {R = R} {T = T} (reads g w l) = R .position + looks (next depth-limit []) (drop (2 * R .position) T)
 
@@ -117,10 +117,8 @@ module _ (R : Reader) (T : List ℕ) (m : ℕ) where
       by-test (past-range T R) (λ x. rw (sheet-tested s, x) (refl, refl)) λ x.
       rw (sheet-tested s, x, not-true (well-made R) (λ y. n (accepted-is T R x y))) (refl, refl)
   sole-looks (stopped s a h) = rw (sheet-tested s, range-tested a, made-tested a, lt-ltb 0 (R .stopped) h) (refl, refl)
-  sole-looks (waited g e q w) =
-      let n : length (take (R .waiting) (R .errors)) ≡ suc (length q) = ap length w in
-      let h : 0 < R .waiting = omega (arith, length-take (R .waiting) (R .errors)) in
-      rw (sheet-tested (g .sheet), range-tested (g .accepted), made-tested (g .accepted), le-ltb 0 (R .stopped) (omega (arith, g .going)), lt-ltb 0 (R .waiting) h, w) (refl, refl)
+  sole-looks (waited g h) =
+      rw (sheet-tested (g .sheet), range-tested (g .accepted), made-tested (g .accepted), le-ltb 0 (R .stopped) (omega (arith, g .going)), lt-ltb 0 (R .waiting) h) (refl, refl)
   sole-looks (short g w l) =
       rw (sheet-tested (g .sheet), range-tested (g .accepted), made-tested (g .accepted), le-ltb 0 (R .stopped) (omega (arith, g .going)), le-ltb 0 (R .waiting) (omega (arith, w)), lt-ltb m (share T R) l)
       (refl, refl)
@@ -135,26 +133,20 @@ module _ (R : Reader) (T : List ℕ) (m : ℕ) where
   is o = subst (Outcome R T m) (sym (sole o)) o
 
   -- behind the tests of sheet, reader and stop
-  goes-on : length (R .errors) ≡ queue-limit → Going T R → Outcome R T m (next-stmt R T m)
-  goes-on f g = go (take (R .waiting) (R .errors)) refl
-    where
-      n : length (take (R .waiting) (R .errors)) ≡ R .waiting
-      n = let z = length-take (R .waiting) (R .errors) in omega (arith, f, g .accepted .few)
+  goes-on : Going T R → Outcome R T m (next-stmt R T m)
+  goes-on g =
+      by-test (ltb 0 (R .waiting)) (λ w. is (waited g (ltb-true 0 (R .waiting) w))) λ w.
+      let z : R .waiting ≡ 0 = omega (arith, ltb-false) in
+      by-test (ltb m (share T R)) (λ l. is (short g z (ltb-true m (share T R) l))) (λ l. is (reads g z (ltb-false m (share T R) l)))
 
-      go : (q : List Error) → take (R .waiting) (R .errors) ≡ q → Outcome R T m (next-stmt R T m)
-      go [] w =
-          let z : R .waiting ≡ 0 = sym n ∙ ap length w in
-          by-test (ltb m (share T R)) (λ l. is (short g z (ltb-true m (share T R) l))) (λ l. is (reads g z (ltb-false m (share T R) l)))
-      go (e ∷ q) w = is (waited g e q w)
-
-  pub outcome : length (R .errors) ≡ queue-limit → Outcome R T m (next-stmt R T m)
-  outcome f =
+  pub outcome : Outcome R T m (next-stmt R T m)
+  outcome =
       by-test (too-long T) (λ x. is (no-sheet λ s. true≢false (sym x ∙ sheet-tested s))) λ x.
       let s = sheet-is T x in
       by-test (past-range T R) (λ y. is (no-reader s λ a. true≢false (sym y ∙ range-tested a))) λ y.
       by-test (well-made R)
       (λ z. let a = accepted-is T R y z in
-      by-test (ltb 0 (R .stopped)) (λ h. is (stopped s a (ltb-true 0 (R .stopped) h))) (λ h. let l = ltb-false 0 (R .stopped) h in goes-on f (record { sheet = s; accepted = a; going = omega arith })))
+      by-test (ltb 0 (R .stopped)) (λ h. is (stopped s a (ltb-true 0 (R .stopped) h))) (λ h. let l = ltb-false 0 (R .stopped) h in goes-on (record { sheet = s; accepted = a; going = omega arith })))
       (λ z. is (no-reader s λ a. true≢false (sym (made-tested a) ∙ z)))
 
 -- ---------------------------------------------------------------- each number exactly in its case
@@ -227,13 +219,18 @@ module _ (R : Reader) (T : List ℕ) (m : ℕ) where
       rw (apart is-error e 0 j refl, error-said e) (by-error j (reading-fails y q r x))
   told-reading y (stop k) x (t-num (n-stop s)) = by-stop s (reading-stops y x)
 
-  told : {c : Called} → Outcome R T m c → Told R T m (said c)
-  told (no-sheet n) = by-stop {k = malformed} (refl, omega arith) (length-stops n refl)
-  told (no-reader s n) = by-reader (record { sheet = s; not-accepted = n })
-  told (stopped s a h) = by-stop (a .stops, h) (was-stopped s a refl)
-  told (waited g e q w) = rw (error-said e) (by-error (front-error (rw w at (fits-all (R .waiting) (R .errors) (g .accepted .queue)))) (front-waits g q w))
-  told (short g w l) = by-store (record { going = g; none-waits = w; short = l })
-  told (reads g w l) = let y : Ready R T m = record { going = g; none-waits = w; room = l } in told-reading y (reading T R) refl (next-numbers _ 0 [] _ waits-none)
+  -- where errors wait there is one at the front, since the array has places for all that can wait
+  told-front : length (R .errors) ≡ queue-limit → Going T R → 0 < R .waiting → (q : List Error) → take (R .waiting) (R .errors) ≡ q → Told R T m (said (answered m R q))
+  told-front f g h [] w = absurd (omega (arith, f, g .accepted .few, length-take (R .waiting) (R .errors), ap length w))
+  told-front f g h (e ∷ q) w = rw (error-said e) (by-error (front-error (rw w at (fits-all (R .waiting) (R .errors) (g .accepted .queue)))) (front-waits g q w))
+
+  told : length (R .errors) ≡ queue-limit → {c : Called} → Outcome R T m c → Told R T m (said c)
+  told f (no-sheet n) = by-stop {k = malformed} (refl, omega arith) (length-stops n refl)
+  told f (no-reader s n) = by-reader (record { sheet = s; not-accepted = n })
+  told f (stopped s a h) = by-stop (a .stops, h) (was-stopped s a refl)
+  told f (waited g h) = told-front f g h _ refl
+  told f (short g w l) = by-store (record { going = g; none-waits = w; short = l })
+  told f (reads g w l) = let y : Ready R T m = record { going = g; none-waits = w; room = l } in told-reading y (reading T R) refl (next-numbers _ 0 [] _ waits-none)
 
 -- of a reader whose array has 96 places, as every reader's has
 module _ (R : Reader) (f : length (R .errors) ≡ queue-limit) (T : List ℕ) (m : ℕ) where
@@ -242,7 +239,7 @@ module _ (R : Reader) (f : length (R .errors) ≡ queue-limit) (T : List ℕ) (m
 
   -- the number 61
   pub answers-61 : (said (next-stmt R T m) ≡ bad-reader) ↔ ReaderCause R T
-  answers-61 = (to (told R T m (outcome R T m f)), λ x. ap said (sole R T m (no-reader (x .sheet) (x .not-accepted))))
+  answers-61 = (to (told R T m f (outcome R T m)), λ x. ap said (sole R T m (no-reader (x .sheet) (x .not-accepted))))
     where
       to : {n : ℕ} → Told R T m n → n ≡ bad-reader → ReaderCause R T
       to (by-stop s x) e = absurd (false≢true (ap is-stop (sym e) ∙ s .0))
@@ -253,7 +250,7 @@ module _ (R : Reader) (f : length (R .errors) ≡ queue-limit) (T : List ℕ) (m
 
   -- the number 63
   pub answers-63 : (said (next-stmt R T m) ≡ short-store) ↔ StoreCause R T m
-  answers-63 = (to (told R T m (outcome R T m f)), λ x. ap said (sole R T m (short (x .going) (x .none-waits) (x .short))))
+  answers-63 = (to (told R T m f (outcome R T m)), λ x. ap said (sole R T m (short (x .going) (x .none-waits) (x .short))))
     where
       to : {n : ℕ} → Told R T m n → n ≡ short-store → StoreCause R T m
       to (by-stop s x) e = absurd (false≢true (ap is-stop (sym e) ∙ s .0))
@@ -264,7 +261,7 @@ module _ (R : Reader) (f : length (R .errors) ≡ queue-limit) (T : List ℕ) (m
 
   -- the numbers of stops: 60, 62, 64
   pub answers-stop : (k : ℕ) → IsStop k → (said (next-stmt R T m) ≡ k) ↔ StopCause R T m k
-  answers-stop k i = (to (told R T m (outcome R T m f)), from)
+  answers-stop k i = (to (told R T m f (outcome R T m)), from)
     where
       to : {n : ℕ} → Told R T m n → n ≡ k → StopCause R T m k
       to (by-stop s x) e = subst (StopCause R T m) e x
@@ -281,7 +278,7 @@ module _ (R : Reader) (f : length (R .errors) ≡ queue-limit) (T : List ℕ) (m
   -- the numbers of errors: 1, 2, 10 to 52
   pub answers-error : (e : Error) → IsError e → (said (next-stmt R T m) ≡ e) ↔ ErrorCause R T m e
   unfolding error-answer ifb
-  answers-error e i = (to (told R T m (outcome R T m f)), from)
+  answers-error e i = (to (told R T m f (outcome R T m)), from)
     where
       to : {n : ℕ} → Told R T m n → n ≡ e → ErrorCause R T m e
       to (by-stop s x) z = absurd (error-no-stop e i (rw z at s))
@@ -291,13 +288,13 @@ module _ (R : Reader) (f : length (R .errors) ≡ queue-limit) (T : List ℕ) (m
       to (by-none x) z = absurd (false≢true (ap is-error z ∙ i))
 
       from : ErrorCause R T m e → said (next-stmt R T m) ≡ e
-      from (front-waits g q w) = ap said (sole R T m (waited g e q w)) ∙ error-said e
+      from (front-waits g q w) = ap said (sole R T m (waited g (omega (arith, length-take (R .waiting) (R .errors), ap length w)))) ∙ rw w (error-said e)
       from (reading-fails y q r x) = reading-said y x ∙ rw (apart is-error e 0 i refl) (error-said e)
 
   -- no number
   pub answers-none : (said (next-stmt R T m) ≡ 0) ↔ NoNumber R T m
   unfolding error-answer ifb
-  answers-none = (to (told R T m (outcome R T m f)), from)
+  answers-none = (to (told R T m f (outcome R T m)), from)
     where
       to : {n : ℕ} → Told R T m n → n ≡ 0 → NoNumber R T m
       to (by-stop s x) e = absurd (omega (arith, s .1))

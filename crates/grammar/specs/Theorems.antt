@@ -4,9 +4,10 @@
 -- 3. A tree is valid exactly if there are tokens whose clean reading, limits aside, gives it; and exactly if the writer does not refuse it with 65.
 -- 4. The depth that a statement's canonical tokens need is a number computed from the tree: with fewer depths the reading stops with 62, else it ends.
 -- 5. The number of tokens of a statement, computed from the tree, is half the length of what is written.
--- 6. Of two sheets that read cleanly, the trees are the same exactly if the canonical runs are, and each run reads back to those trees.
--- 7. Trees with the same records are the same, and decoding a tree's records gives the tree; words that decode to no tree are no clean reading's.
--- 8. The sheets of document 01 say what it says, those with the same and with other canonical tokens among them: `sheets-tried` in Sheets.antt.
+-- 6. What a statement writes does not depend on what follows it: a run is the statements' tokens in turn, then `EOF`.
+-- 7. Of two sheets that read cleanly, the trees are the same exactly if the canonical runs are, and each run reads back to those trees.
+-- 8. Trees with the same records are the same, and decoding a tree's records gives the tree; words that decode to no tree are no clean reading's.
+-- 9. The sheets of document 01 say what it says, those with the same and with other canonical tokens among them: `sheets-tried` in Sheets.antt.
 use mathlib.Core.Path.{_≡_, refl, sym, ap, _∙_, subst}
 use mathlib.Core.Logic.{_↔_}
 use mathlib.Core.Bool.{Bool, true, false}
@@ -27,7 +28,7 @@ use Rattle.grammar.specs.Reading.Result.{Error, ok, ifb}
 use Rattle.grammar.specs.Reading.Depth.{at-depth}
 use Rattle.grammar.specs.Reading.Next.{next}
 use Rattle.grammar.specs.Reading.Stmt as Stmt
-use Rattle.grammar.specs.Canonical.Write.{own, statement, run}
+use Rattle.grammar.specs.Canonical.Write.{own, token, statement, run}
 use Rattle.grammar.specs.Canonical.Need.{need}
 use Rattle.grammar.specs.Canonical.Count.{tokens}
 use Rattle.grammar.specs.Canonical.Valid.{stmt, Valid, Valids, v-none, v-more}
@@ -39,6 +40,7 @@ use Rattle.grammar.specs.Sheets.{read, expected, table, sheets-tried}
 use Rattle.grammar.specs.declared.Written.the-variants.{Tokens, Stopped, Refused}
 use Rattle.grammar.specs.Laws.Small.{valid-small}
 use Rattle.grammar.specs.Laws.Length.{statement-length}
+use Rattle.grammar.specs.Laws.Append.{write-append}
 use Rattle.grammar.specs.Laws.Clean.{clean-sound}
 use Rattle.grammar.specs.Laws.Sound.Base.{Sound}
 use Rattle.grammar.specs.Laws.Sound.Stmt.{depth-sound}
@@ -167,6 +169,20 @@ pub token-count : (t : Tree) → length (statement-words t) ≡ 2 * suc (tokens 
 token-count t = statement-length t
 
 -- 6
+pub statement-first : (t : Tree) (r : List ℕ) → statement t r ≡ statement-words t ++ r
+statement-first t r = sym (write-append t own (token Kind.Semicolon []) r)
+
+-- the statements' tokens in turn, then `EOF`
+unfoldable pub in-turn : Forest → List ℕ
+in-turn none = token Kind.EOF []
+in-turn (more t f) = statement-words t ++ in-turn f
+
+pub run-in-turn : (f : Forest) → run f ≡ in-turn f
+unfolding run in-turn
+run-in-turn none = refl
+run-in-turn (more t f) = rw (run-in-turn f) (statement-first t (in-turn f))
+
+-- 7
 pub same-trees : (d e : ℕ) (ts us : List ℕ) (f g : Forest) → clean-reading d ts ≡ just f → clean-reading e us ≡ just g → (f ≡ g) ↔ (run f ≡ run g)
 same-trees d e ts us f g a b = (
   (λ x. ap run x),
@@ -181,13 +197,13 @@ same-trees d e ts us f g a b = (
 pub run-again : (d : ℕ) (ts : List ℕ) (f : Forest) → clean-reading d ts ≡ just f → need (Node.list f) own ≤ depth-limit → clean-reading depth-limit (run f) ≡ just f
 run-again d ts f a l = reading-back (sound d ts f a) depth-limit l
 
--- 7
+-- 8
 pub same-records : {t u : Tree} → Valid stmt t → Valid stmt u → records t ≡ records u → t ≡ u
 same-records h g e = records-same (valid-small h) (valid-small g) e
 
 pub decoded : {t : Tree} → Valid stmt t → decode (records t) ≡ just t
 decoded h = decode-records (valid-small h)
 
--- 8
+-- 9
 pub sheets : read table ≡ expected table
 sheets = sheets-tried

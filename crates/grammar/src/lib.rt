@@ -1,9 +1,10 @@
-// The types of the calls: the reader that goes in and out, what a reading call answers, what the writer answers, and both as two numbers for C;
-// and the limits.
+// The types of the calls: the reader that goes in and out, what a reading call answers, what the writer answers, and both as two numbers for C
+// (their variants in variant.rt); and the limits.
 ghost use mathlib.Core.Path.{_≡_};
 ghost use Rattle.grammar.specs.Reading.Next.{kind-number as kind-number-def};
 
 pub mod limit;
+pub mod variant;
 
 // Why a statement failed: a lexer error, no token left, or a syntax error by its number.
 pub enum ErrorKind {
@@ -56,8 +57,7 @@ pub enum Written {
     Refused(u64),
 }
 
-// An answer for C: its variant (0 tree, 1 error, 2 end, 3 stopped, 4 refused, 5 tokens) and its number: how many nodes or tokens, 0 for the end,
-// else document 01's number.
+// An answer for C: its variant (variant.rt) and its number: how many nodes or tokens, 0 for the end, else document 01's number.
 #[repr(C)]
 pub struct Flat {
     pub variant: u64,

@@ -3,4 +3,3 @@ pub mod Parts
 pub mod Ends
 pub mod Lists
 pub mod Parameters
-pub mod Flat

@@ -1,44 +1,45 @@
 // What C and Rust link: the proved reader behind a function of numbers and lent numbers alone. The host keeps the reader and lends its
 // fields one by one; an exported function can give back no enum, so an answer is two numbers.
 ghost use mathlib.Core.Path.{_≡_};
-ghost use lib.ListN.{length};
-ghost use Rattle.grammar.specs.Reading.Next.{next-stmt};
-ghost use Rattle.parser.specs.Flat.{flat-of, reader-of, left-by};
+ghost use Rattle.grammar.specs.Contract.{Exports};
+ghost use Rattle.grammar.specs.Flat.{flat-answer, reader-of};
 use crate::next_stmt;
 use grammar::Answer;
 use grammar::Flat;
 use grammar::Queue;
 use grammar::Reader;
 use grammar::kind_number;
+use grammar::variant;
 
 fn flatten(answer: Answer) -> Flat
-    ensures { λ r. ⌜ r ≡ flat-of answer ⌝ }
+    ensures { λ r. ⌜ r ≡ flat-answer answer ⌝ }
 {
     match answer {
         Answer::Tree(nodes) => Flat {
-            variant: 0,
+            variant: variant::TREE,
             number: nodes as u64,
         },
         Answer::Error(kind) => Flat {
-            variant: 1,
+            variant: variant::ERROR,
             number: kind_number(kind),
         },
         Answer::End => Flat {
-            variant: 2,
+            variant: variant::END,
             number: 0,
         },
         Answer::Stopped(n) => Flat {
-            variant: 3,
+            variant: variant::STOPPED,
             number: n,
         },
         Answer::Refused(n) => Flat {
-            variant: 4,
+            variant: variant::REFUSED,
             number: n,
         },
     }
 }
 
-// `next_stmt` on a reader that the host keeps.
+// `next_stmt` on a reader that the host keeps. `Exports` is the equation of answer, reader and store with the definition `next-stmt`, for all inputs
+// (grammar's specs/Contract.antt).
 #[no_mangle]
 pub extern "C" fn leatherlava_next_stmt(
     position: &mut usize,
@@ -48,8 +49,8 @@ pub extern "C" fn leatherlava_next_stmt(
     tokens: &[u64],
     store: &mut [u64],
 ) -> Flat
-    ensures { λ r. ⌜ record { flat = r; reader = reader-of (now (position .exit)) (now (waiting .exit)) (now (errors .exit)) (now (stopped .exit)); store = now (store .exit) }
-        ≡ left-by (next-stmt (reader-of (now (position .entry)) (now (waiting .entry)) (now (errors .entry)) (now (stopped .entry))) (now (tokens .entry)) (length (now (store .entry)))) ⌝ }
+    ensures { λ r. ⌜ Exports (reader-of (now (position .entry)) (now (waiting .entry)) (now (errors .entry)) (now (stopped .entry))) (now (tokens .entry)) (now (store .entry))
+        r (reader-of (now (position .exit)) (now (waiting .exit)) (now (errors .exit)) (now (stopped .exit))) (now (store .exit)) ⌝ }
 {
     let given = *errors;
     let reader = Reader {

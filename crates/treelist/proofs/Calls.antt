@@ -3,23 +3,21 @@
 use mathlib.Core.Path.{_≡_, subst⁻¹}
 use mathlib.Core.Bool.{Bool, true, false, false≢true}
 use mathlib.Core.List.{List, [], _∷_, _++_}
-use Prim.Native.Nat.{ℕ, _+_, _-_, _*_, _/_, _≤_, _<_}
+use Prim.Native.Nat.{ℕ, _-_, _*_, _/_, _≤_, _<_}
 use native.Mathlib.Nat.{mul-div-le}
 use native.Mathlib.Omega.{arith}
 use lib.Dec.{eqb}
 use lib.ListN.{length, take, replicate, length-append}
 use Rattle.tree.specs.Tree.{Tree, records}
-use Rattle.grammar.specs.Reading.Limit.{depth-limit}
 use Rattle.grammar.specs.Reading.Result.{Error, Res, ok, bad, fail, stop, ifb}
-use Rattle.grammar.specs.Reading.Next.{error-answer, error-kind, Accepted, Called, called, answered, next-stmt, next}
+use Rattle.grammar.specs.Reading.Next.{error-answer, error-kind, Accepted, Called, called, answered, next-stmt}
 use Rattle.grammar.specs.Laws.Returned.{returned-accepted}
+use Rattle.grammar.specs.Promise.{reading, Outcome, no-sheet, no-reader, stopped, waited, short, reads, outcome}
 use Rattle.grammar.specs.declared.Answer.{Answer}
 use Rattle.grammar.specs.declared.Answer.the-variants.{Tree as ATree, Error as AError, End, Stopped, Refused}
 use Rattle.grammar.specs.declared.Reader.{Reader}
-use Rattle.agreement.specs.Calls.{unread}
 use Rattle.agreement.specs.Answers.{seen, is-last}
 use Rattle.agreement.specs.Laws.Calls.{is-refused}
-use Rattle.agreement.specs.Laws.Ways.{on-call}
 use Rattle.agreement.specs.Corollaries.{left-over, Falls, stands, refuses, falls, progress}
 use Rattle.treelist.specs.Printing.{Holds, goes-on}
 
@@ -47,12 +45,16 @@ answered-held : (m : ℕ) (R : Reader) (q : List Error) → Held (answered m R q
 answered-held m R [] = tt
 answered-held m R (e ∷ q) = tt
 
+outcome-held : {R : Reader} {T : List ℕ} {m : ℕ} {c : Called} → Outcome R T m c → Held c
+outcome-held (no-sheet n) = tt
+outcome-held (no-reader s n) = tt
+outcome-held (stopped s a h) = tt
+outcome-held {R} {m = m} (waited g h) = answered-held m R (take (R .waiting) (R .errors))
+outcome-held (short g w l) = tt
+outcome-held {R} {T} {m} (reads g w l) = called-held (length T / 2) m (R .position) (reading T R)
+
 pub held : (R : Reader) (T : List ℕ) (m : ℕ) {c : Called} → c ≡ next-stmt R T m → Held c
-held R T m e =
-    subst⁻¹ Held e
-    (on-call Held R T m tt (λ x. tt) tt
-    (λ x. answered-held m R (take (R .waiting) (R .errors))) (λ x. tt)
-    (λ x y. called-held (length T / 2) m (R .position) (next depth-limit [] (unread T R))))
+held R T m e = subst⁻¹ Held e (outcome-held (outcome R T m))
 
 -- a call that goes on leaves less over
 goes-less : {T : List ℕ} {R : Reader} {m : ℕ} {c : Called} → Falls T R m c → goes-on (c .step .answer) ≡ true → left-over T (c .step .reader) < left-over T R

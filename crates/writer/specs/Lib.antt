@@ -16,5 +16,4 @@ pub mod Same
 pub mod Verdict
 pub mod Post
 pub mod Promise
-pub mod Flat
 pub mod Examples

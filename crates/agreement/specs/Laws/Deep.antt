@@ -65,7 +65,7 @@ module _ {T : List ℕ} where
           }
       go false e k = record { answers = _; reads = last {R = R} m (omega arith) (ap seen-of (called-is false e)) refl; deep = no-lacks }
 
-pub shallow-enough : {f : Forest} → Valids stmt f → Keeps f → need (Node.list f) own ≤ depth-limit
+pub shallow-enough : {f : Forest} → Valids stmt f → Keeps (run f) → need (Node.list f) own ≤ depth-limit
 shallow-enough {f} v k = go (leb (need (Node.list f) own) depth-limit) refl
   where
     go : (c : Bool) → leb (need (Node.list f) own) depth-limit ≡ c → need (Node.list f) own ≤ depth-limit

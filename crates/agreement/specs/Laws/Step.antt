@@ -1,12 +1,9 @@
 -- A call of the definition on a reader with nothing waiting and no stop: it reads the words that are left, and after a clean statement the reader stands before the words behind it.
 -- Assumes nothing.
 use mathlib.Core.Path.{_≡_, refl, sym, ap, _∙_, subst}
-use mathlib.Core.Bool.{false}
 use mathlib.Core.List.{List, [], _∷_}
 use Prim.Native.Nat.{ℕ, suc, _+_, _-_, _*_, _/_, _%_, _≤_}
 use native.Mathlib.Omega.{arith}
-use borrow.Author.Tests.{le-ltb, ne-eqb}
-use lib.Dec.{eqb, ltb}
 use lib.ListN.{length, drop, length-drop}
 use lib.Seq.{drop-drop}
 use Rattle.tree.specs.Tree.{Tree}
@@ -15,16 +12,15 @@ use Rattle.grammar.specs.Reading.Result.{ok, ifb}
 use Rattle.grammar.specs.Reading.Next.{queue-fits, reader-at, fresh, Accepted, called, next-stmt, next}
 use Rattle.grammar.specs.Laws.Progress.{Keep, k-ok, next-keeps}
 use Rattle.grammar.specs.Laws.Returned.{returned-accepted}
+use Rattle.grammar.specs.Promise.{Going, reads, sole}
 use Rattle.grammar.specs.declared.Reader.{Reader}
-use Rattle.agreement.specs.Calls.{Calm, unread}
+use Rattle.agreement.specs.Calls.{unread}
 use Rattle.agreement.specs.Answers.{Roomy}
 
--- a sheet of whole tokens within the length limit, and a reader on it that 61 does not refuse, with nothing waiting and no stop, before the words ts
+-- a sheet of whole tokens within the length limit, and a reader on it that 61 does not refuse, with no stop and nothing waiting, before the words ts
 pub record Before (T : List ℕ) (R : Reader) (ts : List ℕ) : Type 0 where
-  pub even : length T % 2 ≡ 0
-  pub within : length T ≤ 2 * length-limit
-  pub accepted : Accepted T R
-  pub calm : Calm R
+  pub going : Going T R
+  pub none-waits : R .waiting ≡ 0
   pub left : unread T R ≡ ts
 
 -- the reader of a new sheet
@@ -33,20 +29,11 @@ unfolding queue-fits ifb
 fresh-accepted T = record { within = omega arith; few = omega arith; stops = refl; queue = refl }
 
 pub before-fresh : {T : List ℕ} → length T % 2 ≡ 0 → length T ≤ 2 * length-limit → Before T fresh T
-before-fresh {T} e l = record { even = e; within = l; accepted = fresh-accepted T; calm = record { waiting = refl; stopped = refl }; left = refl }
+before-fresh {T} e l = record { going = record { sheet = record { even = e; within = l }; accepted = fresh-accepted T; going = refl }; none-waits = refl; left = refl }
 
 -- the tests of the call are passed
 pub call-is : {T ts : List ℕ} {R : Reader} (m : ℕ) → Before T R ts → Roomy T R m → next-stmt R T m ≡ called (length T / 2) m (R .position) (next depth-limit [] ts)
-unfolding next-stmt ifb
-call-is {T} {ts} {R} m b h =
-    let a : eqb (length T % 2) 1 ≡ false = ne-eqb _ _ λ (e : length T % 2 ≡ 1). omega (arith, b .even, e) in
-    let c : ltb (2 * length-limit) (length T) ≡ false = le-ltb _ _ (b .within) in
-    let d : ltb (length T / 2) (R .position) ≡ false = le-ltb _ _ (b .accepted .within) in
-    let e : ltb 96 (R .waiting) ≡ false = le-ltb _ _ (b .accepted .few) in
-    let f : ltb 0 (R .stopped) ≡ false = rw (b .calm .stopped) in
-    let g : ltb 0 (R .waiting) ≡ false = rw (b .calm .waiting) in
-    let i : ltb m (store-share * (length T / 2 - R .position)) ≡ false = le-ltb _ _ h in
-    rw (a, c, d, e, b .accepted .stops, b .accepted .queue, f, g, i, b .left)
+call-is {T} {ts} {R} m b h = rw (b .left) at (sole R T m (reads (b .going) (b .none-waits) h))
 
 -- r is the end of T, in whole tokens
 record End-of (T r : List ℕ) : Type 0 where
@@ -66,7 +53,7 @@ end-step {T} w v r h =
 end-start : {T ts : List ℕ} {R : Reader} → Before T R ts → End-of T ts
 end-start {T} {ts} {R} b =
     let n : length ts ≡ length T - 2 * R .position = ap length (sym (b .left)) ∙ length-drop (2 * R .position) T in
-    let p : length T - length ts ≡ 2 * R .position = omega (arith, n, b .even, b .accepted .within) in
+    let p : length T - length ts ≡ 2 * R .position = omega (arith, n, b .going .sheet .even, b .going .accepted .within) in
     record {
       short = omega (arith, n);
       even = omega (arith, p);
@@ -85,9 +72,9 @@ before-next {T} {ts} {r} {R} {t} b e = go (subst (Keep (End-of T) (λ x. End-of 
     m = store-share * (length T / 2 - R .position)
 
     stands : Accepted T (at-end-of T r)
-    stands = subst (λ c. Accepted T (c .step .reader)) (call-is m b (omega arith) ∙ ap (called (length T / 2) m (R .position)) e) (returned-accepted R T m (b .accepted))
+    stands = subst (λ c. Accepted T (c .step .reader)) (call-is m b (omega arith) ∙ ap (called (length T / 2) m (R .position)) e) (returned-accepted R T m (b .going .accepted))
 
     go : Keep (End-of T) (λ x. End-of T) (ok t r) → Before T (at-end-of T r) r
     go (k-ok h) =
-        let p : 2 * (length T / 2 - length r / 2) ≡ length T - length r = omega (arith, h .short, h .even, b .even) in
-        record { even = b .even; within = b .within; accepted = stands; calm = record { waiting = refl; stopped = refl }; left = rw p (h .is) }
+        let p : 2 * (length T / 2 - length r / 2) ≡ length T - length r = omega (arith, h .short, h .even, b .going .sheet .even) in
+        record { going = record { sheet = b .going .sheet; accepted = stands; going = refl }; none-waits = refl; left = rw p (h .is) }

@@ -1,5 +1,5 @@
--- Words that read cleanly are those of a clean reading at the depth limit; so their trees are valid, and the canonical tokens of valid trees that are not too deep read cleanly.
--- Assumes nothing.
+-- Words that read cleanly are those of a clean reading at the depth limit. So a sheet that is read without a fault has one, of the trees that were answered; and the
+-- canonical tokens of valid trees that are not too deep read cleanly. Assumes nothing.
 use mathlib.Core.Path.{_≡_, refl, ap, _∙_, subst}
 use mathlib.Core.Bool.{Bool, true, false, cond}
 use mathlib.Core.List.{List, []}
@@ -20,8 +20,9 @@ use Rattle.grammar.specs.Canonical.Need.{need}
 use Rattle.grammar.specs.Canonical.Valid.{stmt, Valids}
 use Rattle.grammar.specs.Canonical.Writing.{clean-then, clean-from, clean-reading}
 use Rattle.grammar.specs.Laws.Progress.{Keep, k-ok, Taken, Ended, next-takes}
-use Rattle.grammar.specs.Theorems.{sound, run-reads-back}
-use Rattle.agreement.specs.Laws.Clean.{Clean, c-end, c-tree}
+use Rattle.grammar.specs.Theorems.{run-reads-back}
+use Rattle.agreement.specs.Answers.{Seen, Afresh, NoFault, answers-of, trees-of}
+use Rattle.agreement.specs.Laws.Clean.{Clean, c-end, c-tree, faultless-before, faultless}
 
 -- a clean statement takes a token
 takes : (ts : List ℕ) {t : Tree} {r : List ℕ} → next depth-limit [] ts ≡ ok t r → length r + 2 ≤ length ts
@@ -66,9 +67,14 @@ clean-of ts {f} e = go (eqb (length ts % 2) 0) e
     go true e = clean-back (suc (length ts)) ts e
     go false e = nothing-just e
 
--- what is read cleanly is valid; what is valid is read cleanly from its canonical tokens, where the depth is enough
-pub clean-valid : {ts : List ℕ} {f : Forest} → length ts % 2 ≡ 0 → Clean ts f → Valids stmt f
-clean-valid {ts} {f} h c = sound depth-limit ts f (clean-is h c)
+-- a sheet that is read without a fault
+pub faultless-trees : {U : List ℕ} {xs : List Seen} → Afresh U xs → NoFault xs → (clean-reading depth-limit U ≡ just (trees-of U)) × (xs ≡ answers-of (trees-of U))
+faultless-trees {U} r g =
+    let b = faultless-before 0 [] r g in
+    let f = faultless r g b in
+    let e : clean-reading depth-limit U ≡ just (f .trees) = clean-is (b .going .sheet .even) (f .clean) in
+    (rw e, rw e (f .answered))
 
+-- what is valid is read cleanly from its canonical tokens, where the depth is enough
 pub run-clean : {f : Forest} → Valids stmt f → need (Node.list f) own ≤ depth-limit → Clean (run f) f
 run-clean {f} v h = clean-of (run f) (run-reads-back v depth-limit h)

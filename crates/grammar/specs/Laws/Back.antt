@@ -1,7 +1,6 @@
 -- The canonical tokens of a valid tree read back to it, at exactly the depth that it needs.
 pub mod Steps
 pub mod Follow
-pub mod Longer
 pub mod Starts
 pub mod Snoc
 pub mod Patterns

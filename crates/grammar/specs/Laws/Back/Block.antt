@@ -20,7 +20,7 @@ use Rattle.grammar.specs.Canonical.Valid.{Valid, Valids, branch, else-cl
 use borrow.Author.Tests.{eqb-true}
 use Rattle.grammar.specs.Laws.Facts.{not-true}
 use Rattle.grammar.specs.Laws.Back.Steps.{Needs, fits, done, exactly, weigh, lands, max-assoc, then-is, if-yes, if-no, sees, expects, along}
-use Rattle.grammar.specs.Laws.Back.Longer.{longer, longer-length}
+use Rattle.grammar.specs.Laws.Length.{tokens-length}
 use Rattle.grammar.specs.Laws.Back.Follow.{ends}
 use Rattle.grammar.specs.Laws.Back.Starts.{Starts, starts-length, ex-starts}
 use Rattle.grammar.specs.Laws.Back.Snoc.{join, join-snoc, join-one, suite-snoc, most-more, most-snoc, valids-snoc, split-snoc}
@@ -46,7 +46,7 @@ block-present (v-block-result h e) = refl
 
 branch-longer : {t : Tree} → Valid branch t → (r : List ℕ) → suc (length r) ≤ length (write t own r)
 unfolding write
-branch-longer (v-branch {c = c} {b = b} h g) r = omega (arith, longer-length (longer c own (Kind.Then ∷ 0 ∷ write b own r)), longer-length (longer b own r))
+branch-longer (v-branch {c = c} {b = b} h g) r = omega (arith, tokens-length c own (Kind.Then ∷ 0 ∷ write b own r), tokens-length b own r)
 
 -- the end of a conditional, after its branches
 abbrev pub else-words : Tree → List ℕ → List ℕ
@@ -113,6 +113,6 @@ module _ (d : ℕ) (R : Reads d) where
       weigh (then-is _ _ (ex-back d R h q _ (after (ends refl))) (expects _ _ _ _ (fits refl) (then-is _ _ (y .reads)
       (sees _ _ _ (fits refl) (if-no _ _ refl (if-no _ _ refl
       (along (λ b. branches (at-depth d) m (snoc f (Node.conditional-branch c b)) q w) (y .gives)
-      (lands (branches-back m (snoc f (Node.conditional-branch c b)) i is v q r (omega (arith, longer-length (longer (Node.conditional-branch c b) own (Kind.Elif ∷ 0 ∷ w)))))
+      (lands (branches-back m (snoc f (Node.conditional-branch c b)) i is v q r (omega (arith, tokens-length (Node.conditional-branch c b) own (Kind.Elif ∷ 0 ∷ w))))
       (ap (λ g. ok (Node.if-expr g e) r) (join-snoc f (Node.conditional-branch c b) (more t g)))))))))))
       (rw (most-more t g) (simp max-assoc))

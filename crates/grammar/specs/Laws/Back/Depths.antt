@@ -22,7 +22,7 @@ use Rattle.grammar.specs.Canonical.Need.{most, need, needs}
 use Rattle.grammar.specs.Canonical.Valid.{Valid, Valids, stmt, v-none, v-more}
 use borrow.Author.Tests.{le-leb, leb-true, lt-leb}
 use Rattle.grammar.specs.Laws.Back.Steps.{Needs, reach, settle, fits, see, done, exactly, enough, missed, inside, weigh, then-ok, either-is, if-yes, if-no}
-use Rattle.grammar.specs.Laws.Back.Longer.{longer, longer-length, longer-even}
+use Rattle.grammar.specs.Laws.Length.{tokens-length}
 use Rattle.grammar.specs.Laws.Back.Follow.{ends}
 use Rattle.grammar.specs.Laws.Back.Starts.{Starts, starts, starts-length, isnt, stmt-starts}
 use Rattle.grammar.specs.Laws.Back.Snoc.{join, most-more}
@@ -91,8 +91,8 @@ unfolding run count
 run-length none = (refl, omega arith)
 run-length (more t f) =
     let e = run-length f in
-    let w = longer t own (Kind.Semicolon ∷ 0 ∷ run f) in
-    (omega (arith, longer-even w, e .0), omega (arith, longer-length w, e .1))
+    let w = tokens-length t own (Kind.Semicolon ∷ 0 ∷ run f) in
+    (omega (arith, e .0), omega (arith, e .1))
 
 pub reading-back : {f : Forest} → Valids stmt f → (d : ℕ) → need (Node.list f) own ≤ d → clean-reading d (run f) ≡ just f
 unfolding clean-reading ifb

@@ -22,7 +22,7 @@ use Rattle.grammar.specs.Canonical.Need.{most, need, needs}
 use Rattle.grammar.specs.Canonical.Valid.{Valid, Valids, Pattern, unary, binop, plain, ex, given, control, stmt, v-target, v-unary, v-up, v-binary-op, v-assign, v-inner, v-single, v-tuple, v-local, v-plain, v-keyword, v-given, v-given-assign, v-given-target, v-none, v-more}
 use borrow.Author.Tests.{eq-eqb, le-leb}
 use Rattle.grammar.specs.Laws.Back.Steps.{Needs, both, done, weigh, then-ok, then-on, then-is, if-yes, if-no, sees, converts, symbol, fits}
-use Rattle.grammar.specs.Laws.Back.Longer.{longer, longer-length}
+use Rattle.grammar.specs.Laws.Length.{tokens-length}
 use Rattle.grammar.specs.Laws.Back.Follow.{Follows, follows, weaker, comma, ends, op-kind, assign-kind, rank-op, rank-assign, no-op, no-comma, no-assign}
 use Rattle.grammar.specs.Laws.Back.Starts.{Starts, up, first-is, isnt, no-keyword, keyword-seen, assign-own, assign-modified, has-target, target-words, target-depth, binop-starts, pattern-starts}
 use Rattle.grammar.specs.Laws.Back.Snoc.{join, join-snoc, join-none, most-more}
@@ -95,7 +95,7 @@ module _ (d : ℕ) (R : Reads d) where
       go zero x y = absurd (omega arith)
       go (suc m) x y = (
         m,
-        omega (arith, longer-length (longer b own r)),
+        omega (arith, tokens-length b own r),
         both y (operators-step (binop-expr (at-depth d) l) l m k a q e (B _ b g q r f)),
       )
 
@@ -124,7 +124,7 @@ module _ (d : ℕ) (R : Reads d) where
   members-back (suc m) f (v-more {t = t} {f = g} h hs) q r a l =
       sees _ _ _ (fits refl) (if-yes _ _ refl (first-is _ _ (binop-starts h _) λ k v s e. if-no _ _ (isnt e Kind.CloseParen refl)
       (weigh (then-is _ _ (inner-back h q _ (commas-follow hs (weaker (omega arith) a)))
-      (rw (sym (join-snoc f t g)) (members-back m (snoc f t) hs q r a (omega (arith, longer-length (longer t own (after-commas (writes g) r)))))))
+      (rw (sym (join-snoc f t g)) (members-back m (snoc f t) hs q r a (omega (arith, tokens-length t own (after-commas (writes g) r))))))
       (sym (most-more t g)))))
 
   -- tuples, and what is none

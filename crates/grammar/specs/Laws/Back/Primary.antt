@@ -21,7 +21,7 @@ use Rattle.grammar.specs.Canonical.Need.{most, need, needs}
 use Rattle.grammar.specs.Canonical.Valid as Valid
 use Rattle.grammar.specs.Canonical.Valid.{Valid, Valids, Arguments, read-only, read-write, prim, plain, ex, given, item, field, v-nil, v-empty-tuple, v-identifier, v-true, v-false, v-integer, v-float, v-string, v-group, v-modified, v-atom, v-primary, v-tuple, v-attribute, v-index, v-invoke, v-invoke-table, v-field, v-field-index, v-table-item, v-none, v-more, no-argument, one-argument}
 use Rattle.grammar.specs.Laws.Back.Steps.{Needs, Fits, fits, done, exactly, enough, inside, both, weigh, then-ok, then-on, then-is, if-yes, if-no, sees, expects, symbol, word}
-use Rattle.grammar.specs.Laws.Back.Longer.{longer, longer-length}
+use Rattle.grammar.specs.Laws.Length.{tokens-length}
 use Rattle.grammar.specs.Laws.Back.Follow.{Follows, follows, weaker, comma, ends, no-path}
 use Rattle.grammar.specs.Laws.Back.Starts.{first-is, isnt, no-keyword, keyword-seen, keyword-starts, binop-starts, plain-starts, ex-starts}
 use Rattle.grammar.specs.Laws.Back.Snoc.{join, join-snoc, join-none, join-one, most-more}
@@ -62,9 +62,9 @@ one-is (node k v f) e = rw e
 item-longer : {c : Bool} {t : Tree} → Valid (item c) t → (r : List ℕ) → suc (length r) ≤ length (write t own r)
 unfolding write
 item-longer (v-attribute h) r = omega arith
-item-longer (v-index {e = e} h) r = let l = longer-length (longer e own (Kind.CloseSquare ∷ 0 ∷ r)) in omega arith
-item-longer (v-invoke {f = f} h) r = let l = longer-length (longer (Node.list f) commas (Kind.CloseParen ∷ 0 ∷ r)) in omega arith
-item-longer (v-invoke-table {f = f} h) r = let l = longer-length (longer (Node.list f) commas (Kind.CloseBrace ∷ 0 ∷ r)) in omega arith
+item-longer (v-index {e = e} h) r = let l = tokens-length e own (Kind.CloseSquare ∷ 0 ∷ r) in omega arith
+item-longer (v-invoke {f = f} h) r = let l = tokens-length (Node.list f) commas (Kind.CloseParen ∷ 0 ∷ r) in omega arith
+item-longer (v-invoke-table {f = f} h) r = let l = tokens-length (Node.list f) commas (Kind.CloseBrace ∷ 0 ∷ r) in omega arith
 
 module _ (d : ℕ) (R : Reads d) where
   -- groups
@@ -124,19 +124,19 @@ module _ (d : ℕ) (R : Reads d) where
       → length (write t own (after-commas (writes g) (Kind.CloseBrace ∷ 0 ∷ r))) ≤ m
       → Needs (max (need t own) (most (needs g))) d (table-items (at-depth d) m f q (write t own (after-commas (writes g) (Kind.CloseBrace ∷ 0 ∷ r)))) (ok (join f (more t g)) r)
   unfolding table-items write need
-  items-back zero f {t = t} h v-none q r l = absurd (omega (arith, longer-length (longer t own (Kind.CloseBrace ∷ 0 ∷ r))))
+  items-back zero f {t = t} h v-none q r l = absurd (omega (arith, tokens-length t own (Kind.CloseBrace ∷ 0 ∷ r)))
   items-back (suc m) f {t = t} h v-none q r l =
       not-first _ _ (item-starts h _) λ k v s e. if-no _ _ e
       (then-is _ _ (table-item-back h q _ (weaker (omega arith) (ends refl)))
       (sees _ _ _ (fits refl) (if-no _ _ refl (if-yes _ _ refl (exactly (ap (λ g. ok g r) (sym (join-one f t))))))))
   items-back zero f {t = t} h (v-more {t = u} {f = g} i is) q r l =
-      absurd (omega (arith, longer-length (longer t own (Kind.Comma ∷ 0 ∷ write u own (after-commas (writes g) (Kind.CloseBrace ∷ 0 ∷ r))))))
+      absurd (omega (arith, tokens-length t own (Kind.Comma ∷ 0 ∷ write u own (after-commas (writes g) (Kind.CloseBrace ∷ 0 ∷ r)))))
   items-back (suc m) f {t = t} h (v-more {t = u} {f = g} i is) q r l =
       not-first _ _ (item-starts h _) λ k v s e. if-no _ _ e
       (weigh (then-is _ _ (table-item-back h q _ comma)
       (sees _ _ _ (fits refl) (if-yes _ _ refl
       (rw (sym (join-snoc f t (more u g)))
-      (items-back m (snoc f t) i is q r (omega (arith, longer-length (longer t own (Kind.Comma ∷ 0 ∷ write u own (after-commas (writes g) (Kind.CloseBrace ∷ 0 ∷ r)))))))))))
+      (items-back m (snoc f t) i is q r (omega (arith, tokens-length t own (Kind.Comma ∷ 0 ∷ write u own (after-commas (writes g) (Kind.CloseBrace ∷ 0 ∷ r))))))))))
       (ap (max (need t own)) (sym (most-more u g))))
 
   pub table-back : {f : Forest} → Valids Valid.table-item f → (q r : List ℕ)

@@ -22,7 +22,7 @@ use Rattle.grammar.specs.Canonical.Need.{most, need, needs}
 use Rattle.grammar.specs.Canonical.Valid as Valid
 use Rattle.grammar.specs.Canonical.Valid.{Valid, Valids, Pattern, IsName, IsLabel, no-label, a-label, ex, jump, control, body, v-continue, v-break, v-break-value, v-break-label, v-return, v-return-value, v-no-control, v-control, v-body, v-expression, v-loop, v-while, v-for, v-assert, v-none, v-more}
 use Rattle.grammar.specs.Laws.Back.Steps.{Needs, Fits, fits, word, done, exactly, enough, both, weigh, lands, max-assoc, then-ok, then-is, either-is, if-yes, if-no, sees, expects, converts}
-use Rattle.grammar.specs.Laws.Back.Longer.{longer, longer-length}
+use Rattle.grammar.specs.Laws.Length.{tokens-length}
 use Rattle.grammar.specs.Laws.Back.Follow as Follow
 use Rattle.grammar.specs.Laws.Back.Follow.{Follows, weaker}
 use Rattle.grammar.specs.Laws.Back.Starts.{Starts, up, first-is, isnt, no-keyword, pattern-starts, ex-starts, stmt-starts}
@@ -198,13 +198,13 @@ module _ (d : ℕ) (R : Reads d) where
   pub stmts-reads : {g : Forest} {c : Tree} → Valids Valid.stmt g → Valid control c → (end m : ℕ) (f : Forest) (q r : List ℕ) → Ended end r → length (as-suite (writes g) (write c own r)) ≤ m
       → Needs (max (most (needs g)) (need c own)) d (stmts (at-depth d) end m f q (as-suite (writes g) (write c own r))) (ok (record { suite = join f g; control = c }) r)
   unfolding write need
-  stmts-reads {c = c} v-none j end zero f q r e l = absurd (omega (arith, longer-length (longer c own r), end-length e))
+  stmts-reads {c = c} v-none j end zero f q r e l = absurd (omega (arith, tokens-length c own r, end-length e))
   stmts-reads {c = c} v-none j end (suc m) f q r e l =
       weigh (lands (control-reads j end m f q r e) (ap (λ g. ok (record { suite = g; control = c }) r) (sym (join-none f)))) (omega arith)
-  stmts-reads {c = c} (v-more {t = t} {f = g} h hs) j end zero f q r e l = absurd (omega (arith, longer-length (longer t own (Kind.Semicolon ∷ 0 ∷ as-suite (writes g) (write c own r)))))
+  stmts-reads {c = c} (v-more {t = t} {f = g} h hs) j end zero f q r e l = absurd (omega (arith, tokens-length t own (Kind.Semicolon ∷ 0 ∷ as-suite (writes g) (write c own r))))
   stmts-reads {c = c} (v-more {t = t} {f = g} h hs) j end (suc m) f q r e l =
       let w : List ℕ = as-suite (writes g) (write c own r) in
-      let x : suc (length w) ≤ m = omega (arith, longer-length (longer t own (Kind.Semicolon ∷ 0 ∷ w))) in
+      let x : suc (length w) ≤ m = omega (arith, tokens-length t own (Kind.Semicolon ∷ 0 ∷ w)) in
       weigh (both (stmt-joins h end m f q w)
       (semicolon end m (snoc f t) q w x λ i y. lands (stmts-reads hs j end i (snoc f t) q r e y) (ap (λ g. ok (record { suite = g; control = c }) r) (join-snoc f t g))))
       (sym (max-assoc (need t own) (most (needs g)) (need c own)) ∙ ap (λ n. max n (need c own)) (sym (most-more t g)))

@@ -2,15 +2,15 @@
 -- a tree or an error looked at no token past the position that it leaves, and took none that it did not look at: `near`. Assumes nothing.
 use mathlib.Core.Path.{_≡_, refl, ap, sym, _∙_}
 use mathlib.Core.Bool.{true}
-use mathlib.Core.List.{List, [], _++_}
+use mathlib.Core.List.{List, [], _∷_, _++_}
 use Prim.Native.Nat.{ℕ, suc, _+_, _-_, _*_, _/_, _≤_, max}
 use native.Mathlib.Omega.{arith}
-use lib.ListN.{length, drop, length-append, length-drop}
+use lib.ListN.{length, take, drop, length-append, length-drop}
 use lib.Seq.{drop-append-le}
 use Rattle.tree.specs.Tree.{Tree}
-use Rattle.grammar.specs.Reading.Limit.{depth-limit, queue-limit}
-use Rattle.grammar.specs.Reading.Result.{Res}
-use Rattle.grammar.specs.Reading.Next.{next, Accepted, Called, called, next-stmt}
+use Rattle.grammar.specs.Reading.Limit.{depth-limit}
+use Rattle.grammar.specs.Reading.Result.{Error, Res}
+use Rattle.grammar.specs.Reading.Next.{next, Accepted, Called, called, answered, next-stmt}
 use Rattle.grammar.specs.Reading.Looked.{looks, call-looks, Rests, r-end, r-more, Same, same-ok, same-bad, same-fail, same-stop}
 use Rattle.grammar.specs.Reading.Kept.{goes-on, Changed}
 use Rattle.grammar.specs.declared.Reader.{Reader}
@@ -48,11 +48,16 @@ left-at P n m p k-stop g = clash g refl
 accepted-on : {T U : List ℕ} {R : Reader} → R .position ≤ length U / 2 → Accepted T R → Accepted U R
 accepted-on p a = record { within = p; few = a .few; stops = a .stops; queue = a .queue }
 
-module _ (R : Reader) (full : length (R .errors) ≡ queue-limit) where
+-- an error that waited is answered where the reader stands
+answered-at : (m : ℕ) (R : Reader) (q : List Error) → answered m R q .step .reader .position ≡ R .position
+answered-at m R [] = refl
+answered-at m R (e ∷ q) = refl
+
+module _ (R : Reader) where
   pub call-kept : {a m : ℕ} {h X : List ℕ} (Z : List ℕ) → Changed a h X m → R .position ≤ a → call-looks R (h ++ Z) m ≤ a
       → (next-stmt R (h ++ X) m ≡ next-stmt R (h ++ Z) m) × (call-looks R (h ++ X) m ≡ call-looks R (h ++ Z) m)
   call-kept {a} {m} {h} {X} Z c p l =
-      let o = outcome R (h ++ Z) m full in
+      let o = outcome R (h ++ Z) m in
       let n = sole-looks R (h ++ Z) m o .1 in
       let (s, k) = go o (omega arith) in
       (s, k ∙ sym n)
@@ -86,7 +91,7 @@ module _ (R : Reader) (full : length (R .errors) ≡ queue-limit) where
       go (no-sheet n) k = absurd (omega (arith, reach Z))
       go (no-reader s n) k = sole-looks R (h ++ X) m (no-reader sheet λ x. n (accepted Z x))
       go (stopped s x i) k = sole-looks R (h ++ X) m (stopped sheet (accepted X x) i)
-      go (waited g e q w) k = sole-looks R (h ++ X) m (waited (going g) e q w)
+      go (waited g w) k = sole-looks R (h ++ X) m (waited (going g) w)
       go (short g w i) k = absurd (omega (arith, reach Z))
       go (reads g w i) k =
           let (s, n) = sole-looks R (h ++ X) m (reads (going g) w (omega (arith, c .room))) in
@@ -95,13 +100,13 @@ module _ (R : Reader) (full : length (R .errors) ≡ queue-limit) where
 
   pub near : (T : List ℕ) (m : ℕ) → goes-on (next-stmt R T m .step .answer) ≡ true
       → (call-looks R T m ≤ suc (next-stmt R T m .step .reader .position)) × (next-stmt R T m .step .reader .position ≤ max (R .position) (call-looks R T m))
-  near T m g = let o = outcome R T m full in rw (sole-looks R T m o .1) (go o g)
+  near T m g = let o = outcome R T m in rw (sole-looks R T m o .1) (go o g)
     where
       go : {c : Called} (o : Outcome R T m c) → goes-on (c .step .answer) ≡ true → (looked-at o ≤ suc (c .step .reader .position)) × (c .step .reader .position ≤ max (R .position) (looked-at o))
       go (no-sheet n) g = clash g refl
       go (no-reader s n) g = clash g refl
       go (stopped s x i) g = clash g refl
-      go (waited x e q w) g = omega arith
+      go (waited x w) g = omega (arith, answered-at m R (take (R .waiting) (R .errors)))
       go (short x w i) g = clash g refl
       go (reads x w i) g =
           let ts : List ℕ = drop (2 * R .position) T in

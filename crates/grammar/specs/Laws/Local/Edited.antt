@@ -42,13 +42,13 @@ fresh-placed a T = record { accepted = record { within = omega arith; few = omeg
 
 -- a call that looks at a token has nothing waiting
 looking-calm : {a : ℕ} {T : List ℕ} {R : Reader} (m : ℕ) → Placed a T R → 0 < call-looks R T m → Calm R
-looking-calm {a} {T} {R} m P l = let o = outcome R T m (P .full) in go o (rw (sole-looks R T m o .1) at l)
+looking-calm {a} {T} {R} m P l = let o = outcome R T m in go o (rw (sole-looks R T m o .1) at l)
   where
     go : {c : Called} (o : Outcome R T m c) → 0 < looked-at o → Calm R
     go (no-sheet n) l = P .first n
     go (no-reader s n) l = absurd (omega arith)
     go (stopped s x i) l = absurd (omega arith)
-    go (waited g e q w) l = absurd (omega arith)
+    go (waited g h) l = absurd (omega arith)
     go (short g w i) l = calm-is (P .full) g w
     go (reads g w i) l = calm-is (P .full) g w
 
@@ -57,7 +57,7 @@ next-placed {a} {T} {R} m P l g =
     record {
       accepted = returned-accepted R T m (P .accepted);
       full = returned-whole R T m (P .accepted) (P .full);
-      before = omega (arith, near R (P .full) T m g, P .before);
+      before = omega (arith, near R T m g, P .before);
       first = λ n. clash (rw (sole R T m (no-sheet n)) at g) refl;
     }
 
@@ -72,7 +72,7 @@ module _ {a m : ℕ} {h X : List ℕ} (Z : List ℕ) (c : Changed a h X m) where
   restarts P t = again (looking-calm m P (omega (arith, leb-false))) (P .before)
 
   same-call : {R : Reader} → Placed a (h ++ Z) R → leb (call-looks R (h ++ Z) m) a ≡ true → (next-stmt R (h ++ Z) m ≡ next-stmt R (h ++ X) m) × (keep (h ++ Z) m R ≡ keep (h ++ X) m R)
-  same-call {R} P t = let (e, l) = call-kept R (P .full) Z c (P .before) (omega (arith, leb-true)) in (sym e, λ i. record { start = R .position; looked = sym l i; left = sym e i })
+  same-call {R} P t = let (e, l) = call-kept R Z c (P .before) (omega (arith, leb-true)) in (sym e, λ i. record { start = R .position; looked = sym l i; left = sym e i })
 
   stays-from : {R : Reader} {ks : List KeptCall} → Placed a (h ++ Z) R → Calls (h ++ Z) m R ks → Stays (h ++ X) m a R (stay a ks) (restart a ks)
   unfolding stay restart ifb

@@ -1,8 +1,8 @@
--- `parser::host::flatten` meets its contract: at each arm the answer is that variant's constructor, at which `flat-of` computes. Assumes nothing.
+-- `parser::host::flatten` meets its contract: at each arm the answer is that variant's constructor, at which `flat-answer` computes. Assumes nothing.
 use mathlib.Core.Path.{sym, ap, _∙_}
 use Prim.Native.Nat.{ℕ}
 use borrow.Author.Needs.{needs}
-use Rattle.parser.specs.Flat.{flat-of}
+use Rattle.grammar.specs.Flat.{error, flat-answer}
 use Rattle.parser.proofs.host.flatten.Statement.{statement}
 use Rattle.parser.proofs.host.flatten.Tie as tie
 
@@ -25,19 +25,19 @@ enum-known-answer-4 : tie.Need-enum-known-answer-4
 enum-known-answer-4 c = search needs
 
 returns : tie.Need-returns
-returns c = sym (ap flat-of (c .before .answer .given .1))
+returns c = sym (ap flat-answer (c .before .answer .given .1))
 
 returns-2 : tie.Need-returns-2
-returns-2 c = ap (λ (n : ℕ). record { variant = 1; number = n }) (c .kind-number .ensures) ∙ sym (ap flat-of (c .before .before .answer2 .given .1))
+returns-2 c = ap (λ (n : ℕ). record { variant = error; number = n }) (c .kind-number .ensures) ∙ sym (ap flat-answer (c .before .before .answer2 .given .1))
 
 returns-3 : tie.Need-returns-3
-returns-3 c = sym (ap flat-of (c .enum-told .given .1))
+returns-3 c = sym (ap flat-answer (c .enum-told .given .1))
 
 returns-4 : tie.Need-returns-4
-returns-4 c = sym (ap flat-of (c .before .answer3 .given .1))
+returns-4 c = sym (ap flat-answer (c .before .answer3 .given .1))
 
 returns-5 : tie.Need-returns-5
-returns-5 c = sym (ap flat-of (c .before .answer4 .given .1))
+returns-5 c = sym (ap flat-answer (c .before .answer4 .given .1))
 
 pub flatten-spec : {M : Type 1} → statement M
 flatten-spec =

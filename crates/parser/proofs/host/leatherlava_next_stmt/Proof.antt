@@ -3,14 +3,14 @@ use mathlib.Core.Path.{ap, _∙_}
 use mathlib.Core.List.{List}
 use Prim.Native.Nat.{ℕ}
 use borrow.Author.Needs.{needs}
-use Rattle.parser.specs.Flat.{Left, left-by}
+use Rattle.grammar.specs.Flat.{FlatCalled, flat-called}
 use Rattle.grammar.specs.declared.Reader.{Reader}
 use Rattle.grammar.specs.declared.Flat.{Flat}
 use Rattle.parser.proofs.host.leatherlava_next_stmt.Statement.{statement}
 use Rattle.parser.proofs.host.leatherlava_next_stmt.Tie as tie
 
-abbrev left-with : Reader → List ℕ → Flat → Left
-left-with R m x = record { flat = x; reader = R; store = m }
+abbrev left-with : Reader → List ℕ → Flat → FlatCalled
+left-with R m x = record { answer = x; reader = R; store = m }
 
 next-stmt-requires : tie.Need-next-stmt-requires
 next-stmt-requires c κs = search needs
@@ -24,7 +24,7 @@ same-length c = search needs
 returns : tie.Need-returns
 returns c =
     let n = c .before .before .before .before .before .next-stmt in
-    ap (left-with (n .result .reader) _) (c .flatten .ensures) ∙ ap left-by (n .ensures)
+    ap (left-with (n .result .reader) _) (c .flatten .ensures) ∙ ap flat-called (n .ensures)
 
 pub leatherlava-next-stmt-spec : {M : Type 1} → statement M
 leatherlava-next-stmt-spec = tie.close (tie.spec next-stmt-requires flatten-requires same-length returns)

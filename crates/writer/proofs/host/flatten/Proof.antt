@@ -1,7 +1,7 @@
--- `writer::host::flatten` meets its contract: at each arm the answer is that variant's constructor, at which `flat-of` computes. Assumes nothing.
+-- `writer::host::flatten` meets its contract: at each arm the answer is that variant's constructor, at which `flat-written` computes. Assumes nothing.
 use mathlib.Core.Path.{sym, ap}
 use borrow.Author.Needs.{needs}
-use Rattle.writer.specs.Flat.{flat-of}
+use Rattle.grammar.specs.Flat.{flat-written}
 use Rattle.writer.proofs.host.flatten.Statement.{statement}
 use Rattle.writer.proofs.host.flatten.Tie as tie
 
@@ -15,13 +15,13 @@ enum-known-answer-3 : tie.Need-enum-known-answer-3
 enum-known-answer-3 c = search needs
 
 returns : tie.Need-returns
-returns c = sym (ap flat-of (c .before .answer .given .1))
+returns c = sym (ap flat-written (c .before .answer .given .1))
 
 returns-2 : tie.Need-returns-2
-returns-2 c = sym (ap flat-of (c .before .answer2 .given .1))
+returns-2 c = sym (ap flat-written (c .before .answer2 .given .1))
 
 returns-3 : tie.Need-returns-3
-returns-3 c = sym (ap flat-of (c .before .answer3 .given .1))
+returns-3 c = sym (ap flat-written (c .before .answer3 .given .1))
 
 pub flatten-spec : {M : Type 1} → statement M
 flatten-spec =

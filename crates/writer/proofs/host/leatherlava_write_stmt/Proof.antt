@@ -4,12 +4,12 @@ use mathlib.Core.List.{List}
 use Prim.Native.Nat.{ℕ}
 use borrow.Author.Needs.{needs}
 use Rattle.grammar.specs.declared.Flat.{Flat}
-use Rattle.writer.specs.Flat.{Left, left-by}
+use Rattle.grammar.specs.Flat.{FlatWrote, flat-wrote}
 use Rattle.writer.proofs.host.leatherlava_write_stmt.Statement.{statement}
 use Rattle.writer.proofs.host.leatherlava_write_stmt.Tie as tie
 
-abbrev left-with : List ℕ → Flat → Left
-left-with m x = record { flat = x; output = m }
+abbrev left-with : List ℕ → Flat → FlatWrote
+left-with m x = record { answer = x; output = m }
 
 write-stmt-requires : tie.Need-write-stmt-requires
 write-stmt-requires c κs = search needs
@@ -21,7 +21,7 @@ same-length : tie.Need-same-length
 same-length c = search needs
 
 returns : tie.Need-returns
-returns c = ap (left-with _) (c .flatten .ensures) ∙ ap left-by (c .before .before .before .write-stmt .ensures)
+returns c = ap (left-with _) (c .flatten .ensures) ∙ ap flat-wrote (c .before .before .before .write-stmt .ensures)
 
 pub leatherlava-write-stmt-spec : {M : Type 1} → statement M
 leatherlava-write-stmt-spec =
