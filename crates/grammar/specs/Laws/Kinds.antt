@@ -1,6 +1,6 @@
 -- Every tree that a reading gives, cleanly or not, has kinds below 256, so that its records tell the tree. Assumes nothing.
 use mathlib.Core.Bool.{Bool, true, false, cond}
-use mathlib.Core.List.{List, [], _∷_, _++_}
+use mathlib.Core.List.{List}
 use Prim.Native.Nat.{ℕ, zero, suc, _+_, _*_, _/_, _<_}
 use native.Mathlib.Omega.{arith}
 use lib.Dec.{eqb}
@@ -11,16 +11,15 @@ use Rattle.tree.specs.Tree.{Tree, Forest, node, none, more, one, snoc, kind-of}
 use Rattle.tree.specs.Node
 use Rattle.tree.specs.Maybe.{Maybe, nothing, just, bindM, both, pick}
 use Rattle.tree.specs.Records.{Small, Smalls}
-use Rattle.grammar.specs.Reading.Result.{Error, Res, ok, bad, fail, stop, spoil, either, then, ifb, push}
+use Rattle.grammar.specs.Reading.Result.{Error, Res, ok, bad, fail, stop, spoil, either, then, ifb}
 use Rattle.grammar.specs.Reading.Look.{look, expect, expect-pattern, try-label, try-assign-keyword}
 use Rattle.grammar.specs.Reading.Pattern.{Role, pattern, members, maybe, conv, all-conv, made, as-pattern, to-pattern, modified, grouped, over, listed, leaf, access, by-last, by-item, by-attribute, by-index, receiver, last-of, front-of}
 use Rattle.grammar.specs.Reading.Expr.{Stmts, Depth, operators, binop-expr, members as members-read, tuple-expr, expr}
 use Rattle.grammar.specs.Reading.Primary.{with-action, group-expr, literal, atom, indexing-expr, field-name, table-field, table-item, table-items, member-access, list-members, arguments, invocation, path, with-path, primary, unpack-expr}
 use Rattle.grammar.specs.Reading.Block.{Split, whole, result, split-before, split-kids, split-last, split, block-split, block-of, body, block-expr, expr-label, branches}
 use Rattle.grammar.specs.Reading.Function.{Param, required, variadic, default, Params, param-mode, variadic-param, plain-param, param, joined, params, function-def, function-assignment-target, function-decl-expr}
-use Rattle.grammar.specs.Reading.Stmt.{loop, while-loop, lvalue-list, for-loop, stmt-label, stmt, control-value, control-flow, control-last, synchronize, caught, stmts}
+use Rattle.grammar.specs.Reading.Stmt.{loop, while-loop, lvalue-list, for-loop, stmt-label, stmt, control-value, control-flow, control-last, caught, stmts}
 use Rattle.grammar.specs.Reading.Depth.{primary-expr, unary-expr, at-depth}
-use Rattle.grammar.specs.Reading.Next.{front, failed, next}
 
 -- P holds of what is read
 pub data Holds {A : Type 0} (P : A → Type 0) : Res A → Type 0 where
@@ -617,16 +616,3 @@ depth-small (suc d) = record {
   s-right = expr-small (at-depth d) (depth-small d);
   s-list = λ end q ts. stmts-small (at-depth d) (depth-small d) end (length ts) none q ts nothing-small;
 }
-
--- a statement at the top level
-failed-small : (d : ℕ) (e : Error) (q : List Error) (ts : List ℕ) → Holds Small (failed d e q ts)
-unfolding failed push front
-failed-small d e q ts = holds-if _ (λ _. h-stop) (λ _. holds-spoil _ (go (q ++ e ∷ [])))
-  where
-    go : (p : List Error) → Holds Small (front p λ f q₂. then q₂ (synchronize (at-depth d) false (length ts) q₂ ts) λ u q₃ r. fail f q₃ r)
-    go [] = h-stop
-    go (f ∷ q₂) = holds-past q₂ _ λ u q₃ r. h-fail
-
-pub next-small : (d : ℕ) (q : List Error) (ts : List ℕ) → Holds Small (next d q ts)
-unfolding next
-next-small d q ts = holds-past q _ λ u q₁ r. holds-either q₁ (stmt-small (at-depth d) (depth-small d) q₁ r) (λ t q₂ s x. h-ok x) (λ e q₂ s. failed-small d e q₂ s)
