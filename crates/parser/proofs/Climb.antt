@@ -21,7 +21,7 @@ use Rattle.grammar.specs.Reading.Result.{Res, ok, bad, fail, stop, then, ifb}
 use Rattle.grammar.specs.Reading.Look.{looked, look}
 use Rattle.grammar.specs.Reading.Expr.{Depth, operators, binop-expr}
 use Rattle.grammar.specs.Reading.Depth.{at-depth}
-use Rattle.grammar.specs.Laws.Progress.{Keep, k-ok, k-bad, k-fail, k-stop, k-on, Keeps, here, Left, left-step, binop-keeps, depth-keeps}
+use Rattle.grammar.specs.Laws.Progress.{Keep, k-ok, k-fail, k-stop, k-weaken, k-all, k-both, k-on, Keeps, here, Left, left-step, binop-keeps, depth-keeps}
 use Rattle.grammar.specs.Laws.Count.{same-then}
 use Rattle.parser.specs.Post.{Taken}
 use Rattle.parser.proofs.Algebra.{then-fail, then-ok, then-then, then-same}
@@ -74,20 +74,6 @@ look-keep q [] f h = k-fail tt
 look-keep q (w ∷ []) f h = k-fail tt
 look-keep q (w ∷ (v ∷ r)) f h = looked-keep q r (seen-word w v) f λ tok i. h tok r i
 
--- of what a success leaves
-module _ {I : List ℕ → Type 0} where
-  any-keep : {A : Type 0} → ((r : List ℕ) → I r) → (d : Res A) → Keep I (λ e r. Unit {0}) d
-  any-keep h (ok a r) = k-ok (h r)
-  any-keep h (bad a q r) = k-bad (h r)
-  any-keep h (fail e q r) = k-fail tt
-  any-keep h (stop n) = k-stop
-
-  keep-both : {M : List ℕ → Type 0} {J : ℕ → List ℕ → Type 0} {A : Type 0} {d : Res A} → Keep M J d → Keep I (λ e r. Unit {0}) d → Keep (λ r. M r × I r) (λ e r. Unit {0}) d
-  keep-both (k-ok i) (k-ok j) = k-ok (i, j)
-  keep-both (k-bad i) (k-bad j) = k-bad (i, j)
-  keep-both (k-fail i) (k-fail j) = k-fail tt
-  keep-both k-stop k-stop = k-stop
-
 -- k is the level of no operator that a loop of the level l takes
 abbrev Ends : ℕ → ℕ → Type 0
 Ends k l = (k ≡ 0 → ⊥) → l < k
@@ -134,11 +120,11 @@ module _ (low : Depth) (K : (r : List ℕ) → Keeps (Left r) low) where
 
   binop-past : (l : ℕ) (q ts : List ℕ) → Keep (Past l) (λ e r. Unit {0}) (binop-expr low l q ts)
   unfolding binop-expr
-  binop-past zero q ts = any-keep (λ r h. omega arith) _
+  binop-past zero q ts = k-all (λ r h. omega arith) (λ e r. tt) _
   binop-past (suc l) q ts = k-on q (binop-past l q ts) λ t q₁ r p. operators-past l (binop-past l) (length r) t q₁ r p
 
   reads : (l : ℕ) (q ts : List ℕ) → Keep (λ r. (length r ≤ length ts) × Past l r) (λ e r. Unit {0}) (binop-expr low l q ts)
-  reads l q ts = keep-both (binop-keeps (Left ts) (left-step ts) low (K ts) l q ts (here (omega arith))) (binop-past l q ts)
+  reads l q ts = k-weaken (λ r i. i) (λ e r j. tt) (k-both (binop-keeps (Left ts) (left-step ts) low (K ts) l q ts (here (omega arith))) (binop-past l q ts))
 
   module _ (l : ℕ) where
     -- behind a reading of the level l, climbing to the level suc l meets operators of that level alone

@@ -47,6 +47,13 @@ k-weaken f g (k-bad i) = k-bad (f _ i)
 k-weaken f g (k-fail j) = k-fail (g _ _ j)
 k-weaken f g k-stop = k-stop
 
+-- a law that holds of any words
+pub k-all : {A : Type 0} {I : List ℕ → Type 0} {J : Error → List ℕ → Type 0} → ((r : List ℕ) → I r) → ((e : Error) (r : List ℕ) → J e r) → (x : Res A) → Keep I J x
+k-all h k (ok a r) = k-ok (h r)
+k-all h k (bad a q r) = k-bad (h r)
+k-all h k (fail e q r) = k-fail (k e r)
+k-all h k (stop n) = k-stop
+
 -- two laws as one
 pub k-both : {A : Type 0} {I M : List ℕ → Type 0} {J N : Error → List ℕ → Type 0} {d : Res A} → Keep I J d → Keep M N d → Keep (λ r. I r × M r) (λ e r. J e r × N e r) d
 k-both (k-ok i) (k-ok j) = k-ok (i, j)

@@ -13,12 +13,12 @@ use Rattle.token.specs.Look.{seen-word}
 use Rattle.token.specs.declared.Seen.{Seen}
 use Rattle.token.specs.declared.Seen.the-variants.{Good, LexerError, Nothing, Bad}
 use Rattle.grammar.specs.Reading.Limit.{malformed}
-use Rattle.grammar.specs.Reading.Result.{Error, Res, ok, bad, fail, stop, either, then, ifb}
+use Rattle.grammar.specs.Reading.Result.{Error, Res, stop, either, then, ifb}
 use Rattle.grammar.specs.Reading.Look.{looked, look}
 use Rattle.grammar.specs.Reading.Next.{start, next}
 use Rattle.grammar.specs.Reading.Looked.{BadRecord, words-of, bad-record, meets, looks-first, is-bad, looks, WellFormed, no-token, a-token, Rests, r-end, r-more, Same, same-ok, same-bad, same-fail, same-stop}
 use Rattle.grammar.specs.Laws.Facts.{clash, by-test}
-use Rattle.grammar.specs.Laws.Progress.{Keep, k-ok, k-bad, k-fail, k-stop, k-weaken, k-both}
+use Rattle.grammar.specs.Laws.Progress.{Keep, k-ok, k-bad, k-fail, k-stop, k-weaken, k-all, k-both}
 use Rattle.grammar.specs.Laws.Local.Base.{Reached, Alike, a-place, a-more, Local, l-ok, l-bad, l-fail, l-stop, l-met}
 use Rattle.grammar.specs.Laws.Local.Nonterminals.{next-local}
 
@@ -195,16 +195,10 @@ same-long (same-bad k) = k-bad (rests-long k)
 same-long (same-fail k) = k-fail (rests-long k)
 same-long same-stop = k-stop
 
-pub keep-all : {A : Type 0} {I : List ℕ → Type 0} {J : Error → List ℕ → Type 0} → ((r : List ℕ) → I r) → ((e : Error) (r : List ℕ) → J e r) → (x : Res A) → Keep I J x
-keep-all h k (ok a r) = k-ok (h r)
-keep-all h k (bad a q r) = k-bad (h r)
-keep-all h k (fail e q r) = k-fail (k e r)
-keep-all h k (stop n) = k-stop
-
 -- it takes no token that it did not look at
 takes-looked : {A : Type 0} {m : List ℕ → Res A} {ts : List ℕ} {n : ℕ} → IsLocal m → LooksAt m ts n → Keep (λ r. length ts ≤ length r + 2 * n) (λ e r. length ts ≤ length r + 2 * n) (m ts)
 takes-looked {ts = ts} l (looks-none t) = k-weaken (λ r i. omega arith) (λ e r i. omega arith) (same-long (unmet l ts ts t))
-takes-looked l (looks-behind t s) = keep-all (λ r. omega arith) (λ e r. omega arith) _
+takes-looked l (looks-behind t s) = k-all (λ r. omega arith) (λ e r. omega arith) _
 takes-looked l (looks-bad {w = w} {v = v} {ts = ts} t s) = rw (stops l w v ts s t) k-stop
 takes-looked l (looks-token {w = w} {v = v} t s x) = k-weaken (λ r i. omega arith) (λ e r i. omega arith) (takes-looked (local-behind w v l) x)
 

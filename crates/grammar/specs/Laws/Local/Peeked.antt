@@ -22,9 +22,9 @@ use Rattle.grammar.specs.Reading.Depth.{at-depth}
 use Rattle.grammar.specs.Reading.Next.{start, failed, next}
 use Rattle.grammar.specs.Reading.Looked.{words-of, bad-record, is-bad, looks, Rests, r-end, r-more, Same, same-ok, same-bad, same-fail, same-stop, no-lexer, Ends, e-ok, e-bad, e-fail, e-stop}
 use Rattle.grammar.specs.Laws.Facts.{clash}
-use Rattle.grammar.specs.Laws.Progress.{Keep, k-ok, k-bad, k-fail, k-stop, k-weaken, k-both, k-on, k-or, k-if, k-push, k-front, past, look-keeps, next-keeps, Left, left-step, Words, short, some, words, Taken, expr-takes, start-short}
+use Rattle.grammar.specs.Laws.Progress.{Keep, k-ok, k-bad, k-fail, k-stop, k-weaken, k-both, k-on, k-or, k-if, k-push, k-front, past, look-keeps, next-keeps, Left, left-step, Words, short, some, words, Taken, expr-takes, start-short, k-all}
 use Rattle.grammar.specs.Laws.Count.{synchronize-short}
-use Rattle.grammar.specs.Laws.Local.Looks.{IsLocal, next-is-local, local-behind, unmet, stops, LooksAt, looks-none, looks-behind, looks-bad, looks-token, looks-at, keep-all, rests-long, next-ends}
+use Rattle.grammar.specs.Laws.Local.Looks.{IsLocal, next-is-local, local-behind, unmet, stops, LooksAt, looks-none, looks-behind, looks-bad, looks-token, looks-at, rests-long, next-ends}
 
 -- no bad record stands first
 abbrev Fits : List ℕ → Type 0
@@ -93,7 +93,7 @@ module _ {F : Error → Bool} where
 
   peeked : {m : List ℕ → Res Tree} {ts : List ℕ} {n : ℕ} → IsLocal m → ((ts : List ℕ) → Ends F Fits (m ts)) → LooksAt m ts n → Ends F (λ r. length ts < length r + 2 * n) (m ts)
   peeked {ts = ts} l f (looks-none t) = ends-map (λ r i. omega arith) (unlooked (unmet l _ ts t) (f _))
-  peeked l f (looks-behind t s) = ends-kept (keep-all (λ r. omega arith) (λ e r. omega arith) _)
+  peeked l f (looks-behind t s) = ends-kept (k-all (λ r. omega arith) (λ e r. omega arith) _)
   peeked l f (looks-bad {w = w} {v = v} {ts = ts} t s) = rw (stops l w v ts s t) e-stop
   peeked l f (looks-token {w = w} {v = v} t s x) = ends-map (λ r i. omega arith) (peeked (local-behind w v l) (λ us. f (w ∷ v ∷ us)) x)
 
@@ -130,7 +130,7 @@ unfolding no-error
 no-matter e r k = clash k refl
 
 any : {A : Type 0} (d : Res A) → Keep (λ r. Unit {0}) NoMatter d
-any d = keep-all (λ r. tt) no-matter d
+any d = k-all (λ r. tt) no-matter d
 
 look-first : (q : List Error) (ts : List ℕ) → Keep (λ s. Fits ts) NoMatter (look q ts)
 look-first q ts = k-weaken (λ r f. f) (λ e r f. no-matter e r) (look-fits q ts)
