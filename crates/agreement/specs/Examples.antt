@@ -25,6 +25,7 @@ use Rattle.grammar.specs.Canonical.Write.{own, run}
 use Rattle.grammar.specs.Canonical.Need.{need}
 use Rattle.grammar.specs.Canonical.Writing.{clean-from, clean-reading}
 use Rattle.grammar.specs.Laws.Back.Depths.{run-length}
+use Rattle.grammar.specs.Laws.Returned.{fresh-accepted}
 use Rattle.grammar.specs.Sheets as Sheets
 use Rattle.grammar.specs.Theorems.{sound}
 use Rattle.grammar.specs.declared.Answer.{Answer}
@@ -33,7 +34,7 @@ use Rattle.agreement.specs.Calls.{Entry, by-value, kept, Call, Gives, Ru
 use Rattle.agreement.specs.Answers.{Seen, tree, end, Afresh, Remaining, NoFault, no-answer, a-tree, an-end, answers-of, Lacks62, lacks-none, lacks-more}
 use Rattle.agreement.specs.Statement.{Left}
 use Rattle.agreement.specs.Theorem.{two-sheets}
-use Rattle.agreement.specs.Laws.Step.{fresh-accepted, before-fresh}
+use Rattle.agreement.specs.Laws.Step.{before-fresh}
 use Rattle.agreement.specs.Laws.Clean.{clean-reads, clean-only, faultless}
 use Rattle.agreement.specs.Laws.Whole.{clean-is, clean-of, run-clean}
 use Rattle.agreement.specs.Laws.Calls.{given-is}

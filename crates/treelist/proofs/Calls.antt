@@ -11,6 +11,7 @@ use lib.ListN.{length, take, replicate, length-append}
 use Rattle.tree.specs.Tree.{Tree, records}
 use Rattle.grammar.specs.Reading.Result.{Error, Res, ok, bad, fail, stop, ifb}
 use Rattle.grammar.specs.Reading.Next.{error-answer, error-kind, Accepted, Called, called, answered, next-stmt}
+use Rattle.grammar.specs.Reading.Kept.{goes-on}
 use Rattle.grammar.specs.Laws.Returned.{returned-accepted}
 use Rattle.grammar.specs.Promise.{reading, Outcome, no-sheet, no-reader, stopped, waited, short, reads, outcome}
 use Rattle.grammar.specs.declared.Answer.{Answer}
@@ -19,7 +20,7 @@ use Rattle.grammar.specs.declared.Reader.{Reader}
 use Rattle.agreement.specs.Answers.{seen, is-last}
 use Rattle.agreement.specs.Laws.Calls.{is-refused}
 use Rattle.agreement.specs.Corollaries.{left-over, Falls, stands, refuses, falls, progress}
-use Rattle.treelist.specs.Printing.{Holds, goes-on}
+use Rattle.treelist.specs.Printing.{Holds}
 
 -- a tree's records stand in the store
 

@@ -1,5 +1,4 @@
--- What printing an answer asks of the store, and whether it goes on. Definitions; they assume nothing.
-use mathlib.Core.Bool.{Bool, true, false}
+-- What printing an answer asks of the store. A definition; it assumes nothing.
 use Prim.Native.Nat.{ℕ, _*_, _≤_}
 use mathlib.Core.List.{List}
 use lib.ListN.{length}
@@ -13,11 +12,3 @@ Holds (Error kind) store = Unit {0}
 Holds End store = Unit {0}
 Holds (Stopped n) store = Unit {0}
 Holds (Refused n) store = Unit {0}
-
--- another answer may follow; an end, a stop and a refusal would be answered again
-abbrev pub goes-on : Answer → Bool
-goes-on (Tree nodes) = true
-goes-on (Error kind) = true
-goes-on End = false
-goes-on (Stopped n) = false
-goes-on (Refused n) = false

@@ -8,10 +8,10 @@ use lib.ListN.{length, drop, length-drop}
 use lib.Seq.{drop-drop}
 use Rattle.tree.specs.Tree.{Tree}
 use Rattle.grammar.specs.Reading.Limit.{depth-limit, length-limit, store-share}
-use Rattle.grammar.specs.Reading.Result.{ok, ifb}
-use Rattle.grammar.specs.Reading.Next.{queue-fits, reader-at, fresh, Accepted, called, next-stmt, next}
+use Rattle.grammar.specs.Reading.Result.{ok}
+use Rattle.grammar.specs.Reading.Next.{reader-at, fresh, Accepted, called, next-stmt, next}
 use Rattle.grammar.specs.Laws.Progress.{Keep, k-ok, next-keeps}
-use Rattle.grammar.specs.Laws.Returned.{returned-accepted}
+use Rattle.grammar.specs.Laws.Returned.{fresh-accepted, returned-accepted}
 use Rattle.grammar.specs.Promise.{Going, reads, sole}
 use Rattle.grammar.specs.declared.Reader.{Reader}
 use Rattle.agreement.specs.Calls.{unread}
@@ -22,11 +22,6 @@ pub record Before (T : List ℕ) (R : Reader) (ts : List ℕ) : Type 0 where
   pub going : Going T R
   pub none-waits : R .waiting ≡ 0
   pub left : unread T R ≡ ts
-
--- the reader of a new sheet
-pub fresh-accepted : (T : List ℕ) → Accepted T fresh
-unfolding queue-fits ifb
-fresh-accepted T = record { within = omega arith; few = omega arith; stops = refl; queue = refl }
 
 pub before-fresh : {T : List ℕ} → length T % 2 ≡ 0 → length T ≤ 2 * length-limit → Before T fresh T
 before-fresh {T} e l = record { going = record { sheet = record { even = e; within = l }; accepted = fresh-accepted T; going = refl }; none-waits = refl; left = refl }

@@ -12,7 +12,7 @@ use lib.ListN.{length, take, replicate, length-append, length-replicate, length-
 use Rattle.tree.specs.Tree.{Tree}
 use Rattle.grammar.specs.Reading.Limit.{queue-limit}
 use Rattle.grammar.specs.Reading.Result.{Error, Res, ifb}
-use Rattle.grammar.specs.Reading.Next.{is-error, queue-fits, pad, reader-at, Accepted, Called, called, answered, next-stmt}
+use Rattle.grammar.specs.Reading.Next.{is-error, queue-fits, pad, reader-at, fresh, Accepted, Called, called, answered, next-stmt}
 use Rattle.grammar.specs.declared.Reader.{Reader}
 use Rattle.grammar.specs.Laws.Numbers.{IsError, IsStop, All, a-nil, a-cons, Waits, waits-none, waits-front, n-ok, n-bad, n-fail, n-stop, Top, t-end, t-num, next-numbers}
 
@@ -47,6 +47,11 @@ unfolding queue-fits
 fits-all zero es h = a-nil
 fits-all (suc w) [] h = a-nil
 fits-all (suc w) (e ∷ es) h = let (j, k) = both (is-error e) _ h in a-cons j (fits-all w es k)
+
+-- the reader of a new sheet
+pub fresh-accepted : (T : List ℕ) → Accepted T fresh
+unfolding queue-fits ifb
+fresh-accepted T = record { within = omega arith; few = omega arith; stops = refl; queue = refl }
 
 -- the readers that a call returns where R was given
 pub data Returned (T : List ℕ) (R : Reader) : Reader → Type 0 where

@@ -4,8 +4,8 @@ use borrow.Author.Tests.{not-false}
 use mathlib.Core.Path.{_≡_, sym, _∙_}
 use lib.ListN.{length}
 use Rattle.grammar.specs.Reading.Next.{Accepted}
+use Rattle.grammar.specs.Laws.Returned.{fresh-accepted}
 use Rattle.agreement.specs.Corollaries.{left-over}
-use Rattle.agreement.specs.Laws.Step.{fresh-accepted}
 use Rattle.treelist.proofs.Calls.{held, nearer, accepted}
 use Rattle.treelist.proofs.print_answers.Statement.{statement}
 use Rattle.treelist.proofs.print_answers.Tie as tie

@@ -11,13 +11,13 @@ use lib.ListN.{length, replicate}
 use Rattle.tree.specs.Maybe.{Maybe, nothing, just}
 use Rattle.grammar.specs.Reading.Limit.{queue-limit}
 use Rattle.grammar.specs.Reading.Result.{ifb}
-use Rattle.grammar.specs.Reading.Next.{queue-fits, pad, reader-at, fresh, Accepted, Called, next-stmt}
+use Rattle.grammar.specs.Reading.Next.{pad, reader-at, fresh, Accepted, Called, next-stmt}
 use Rattle.grammar.specs.Reading.Looked.{call-looks}
 use Rattle.grammar.specs.Reading.Kept.{KeptCall, keep, goes-on, Calls, last-call, then-call, stay, restart, Changed}
 use Rattle.grammar.specs.declared.Reader.{Reader}
 use Rattle.grammar.specs.Promise.{Sheet, Going, Outcome, no-sheet, no-reader, stopped, waited, short, reads, looked-at, outcome, sole, sole-looks}
 use Rattle.grammar.specs.Laws.Facts.{clash, by-test}
-use Rattle.grammar.specs.Laws.Returned.{zeros-are, returned-accepted, returned-whole}
+use Rattle.grammar.specs.Laws.Returned.{zeros-are, fresh-accepted, returned-accepted, returned-whole}
 use Rattle.grammar.specs.Laws.Local.Calls.{call-kept, near}
 
 -- with nothing waiting and no stop
@@ -37,8 +37,7 @@ record Placed (a : ℕ) (T : List ℕ) (R : Reader) : Type 0 where
   first : (Sheet T → ⊥) → Calm R
 
 fresh-placed : (a : ℕ) (T : List ℕ) → Placed a T fresh
-unfolding queue-fits ifb
-fresh-placed a T = record { accepted = record { within = omega arith; few = omega arith; stops = refl; queue = refl }; full = refl; before = omega arith; first = λ n. refl }
+fresh-placed a T = record { accepted = fresh-accepted T; full = refl; before = omega arith; first = λ n. refl }
 
 -- a call that looks at a token has nothing waiting
 looking-calm : {a : ℕ} {T : List ℕ} {R : Reader} (m : ℕ) → Placed a T R → 0 < call-looks R T m → Calm R
