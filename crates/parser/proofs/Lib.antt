@@ -1,20 +1,3 @@
 -- What the proofs of several functions use.
-mod Text
-mod Laws
-mod Tokens
-mod Algebra
-mod Trees
-mod Ends
-mod Writing
-mod Shapes
-mod Names
-mod Waiting
 mod Answers
-mod PathsExpr
-mod Climb
-mod PathsPrimary
-mod PathsStmt
-mod PathsList
-mod PathsFunction
-mod PathsNext
-mod PathsStart
+mod Next

@@ -3,9 +3,9 @@ use mathlib.Core.Path.{refl}
 use borrow.Author.Needs.{needs}
 use native.Mathlib.Omega.{arith}
 use lib.ListN.{drop}
-use Rattle.parser.proofs.Laws.{ends, goes, done, undone, taken, fails}
+use Rattle.scan.proofs.Laws.{ends, goes, done, undone, taken, fails}
 use Rattle.grammar.specs.Reading.Limit.{depth-limit}
-use Rattle.parser.proofs.PathsNext.{failed-full, failed-step}
+use Rattle.parser.proofs.Next.{failed-full, failed-step}
 use Rattle.parser.proofs.failed.Statement.{statement}
 use Rattle.parser.proofs.failed.Tie as tie
 

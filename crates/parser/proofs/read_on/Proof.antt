@@ -1,7 +1,7 @@
 -- `parser::read_on` meets its contract. Assumes nothing.
 use native.Mathlib.Omega.{arith}
 use borrow.Author.Needs.{needs}
-use Rattle.parser.proofs.Laws.{done, missed, halted-as}
+use Rattle.scan.proofs.Laws.{done, missed, halted-as}
 use Rattle.parser.proofs.Answers.{halt-out, lost-out, tree-out}
 use Rattle.parser.proofs.read_on.Statement.{statement}
 use Rattle.parser.proofs.read_on.Tie as tie

@@ -3,10 +3,10 @@ use mathlib.Core.Path.{refl}
 use mathlib.Core.List.{[]}
 use borrow.Author.Needs.{needs}
 use native.Mathlib.Omega.{arith}
-use Rattle.parser.proofs.Laws.{way, loses, missed, did-not, onto, lacks, passed, unpassed, gets}
+use Rattle.scan.proofs.Laws.{way, loses, missed, did-not, onto, lacks, passed, unpassed, gets}
 use Rattle.grammar.specs.Reading.Limit.{depth-limit}
 use Rattle.grammar.specs.Reading.Next.{failed}
-use Rattle.parser.proofs.PathsNext.{next-go, next-step, started, ended}
+use Rattle.parser.proofs.Next.{next-go, next-step, started, ended}
 use Rattle.parser.proofs.statement.Statement.{statement}
 use Rattle.parser.proofs.statement.Tie as tie
 

@@ -1,0 +1,174 @@
+-- The needs of `cycle::binop` in its cycle of calls. Assumes nothing.
+use mathlib.Core.Path.{_≡_, refl, _∙_}
+use mathlib.Core.List.{List, _++_}
+use Prim.Native.Nat.{ℕ, _+_, _-_, _≤_}
+use borrow.Author.Needs.{needs}
+use native.Mathlib.Omega.{arith}
+use lib.ListN.{length, take, drop, length-drop}
+use Rattle.tree.specs.Tree.{Tree, more, records}
+use Rattle.grammar.specs.Reading.Depth.{at-depth}
+use Rattle.scan.specs.Post.{Wrote}
+use Rattle.scan.proofs.Laws.{way, here, link, goes, done, undone, did-not, taken, not-taken, fails, blind, prefix, rebased, relabel, home, as-agrees, anew}
+use Rattle.nodes.proofs.Made.{made-two}
+use Rattle.cycle.proofs.PathsExpr.{binop-unary, left}
+use Rattle.cycle.proofs.Climb.{climb, binop-step, climb-looks, climb-ends, climb-takes}
+use Rattle.cycle.proofs.binop.Reads as reads
+use Rattle.cycle.proofs.+arm+atom+begin+binop+block+body+call+catch+cond+def+dest+dots+each+expr+fun+group+index+item+jump+key+label+lhs+list+loops+param+part+path+prim+rhs+sig+stmt+sync+table+tail+term+tuple+turn+unop+val+whiles.Lts-binop as lts
+use Rattle.cycle.proofs.+arm+atom+begin+binop+block+body+call+catch+cond+def+dest+dots+each+expr+fun+group+index+item+jump+key+label+lhs+list+loops+param+part+path+prim+rhs+sig+stmt+sync+table+tail+term+tuple+turn+unop+val+whiles.Proof.Base.{binop-calls, binop-at}
+
+-- where the loop stands. What the first call read is only known by its text, so this is said for any tree t₀ with that text
+pub record Going (T S₀ Q₀ : List ℕ) (depth l pos at p₀ a₀ w₀ : ℕ) (S Q : List ℕ) (p a w : ℕ) : Type 0 where
+  pub fuel : ℕ
+  pub enough : length T ≤ p + fuel
+  pub run : (t₀ : Tree) → take a₀ S₀ ≡ take at S₀ ++ records t₀ → Wrote records (climb (at-depth depth) l (length (drop p₀ T)) t₀ (take w₀ Q₀) (drop p₀ T)) (climb (at-depth depth) l fuel) T pos (pos + 2) 20 at w₀ S₀ Q₀ p a w S Q
+  pub kept : length S ≡ length S₀
+
+abbrev pub Inv-loop : lts.InvT-loop
+Inv-loop tokens store₀ queue₀ depth l pos at waiting p0 a0 w0 p₀ a₀ w₀ store queue p a w = Going tokens store₀ queue₀ depth l pos at p0 a0 w0 store queue p a w
+
+abbrev pub μ-loop : lts.MeasureT-loop
+μ-loop tokens store₀ queue₀ depth l pos at waiting p0 a0 w0 p₀ a₀ w₀ store queue p a w = length tokens - p
+
+pub unop-requires : (t : ℕ) → lts.Need-unop-requires (binop-calls t) (binop-at t) reads.Post Inv-loop μ-loop
+unop-requires t c κs = omega arith
+
+pub same-length : (t : ℕ) → lts.Need-same-length (binop-calls t) (binop-at t) reads.Post Inv-loop μ-loop
+same-length t c = search needs
+
+pub returns : (t : ℕ) → lts.Need-returns (binop-calls t) (binop-at t) reads.Post Inv-loop μ-loop
+returns t c = as-agrees (binop-unary _ _ _ _ (c .before .before .before .before .before .if1 .taken)) (c .before .before .unop .ensures)
+
+pub unop-requires-2 : (t : ℕ) → lts.Need-unop-requires-2 (binop-calls t) (binop-at t) reads.Post Inv-loop μ-loop
+unop-requires-2 t c κs = omega arith
+
+pub enum-known-first : (t : ℕ) → lts.Need-enum-known-first (binop-calls t) (binop-at t) reads.Post Inv-loop μ-loop
+enum-known-first t c = search needs
+
+pub again-requires : (t : ℕ) → lts.Need-again-requires (binop-calls t) (binop-at t) reads.Post Inv-loop μ-loop
+again-requires t c κs = search needs
+
+pub same-length-2 : (t : ℕ) → lts.Need-same-length-2 (binop-calls t) (binop-at t) reads.Post Inv-loop μ-loop
+same-length-2 t c = search needs
+
+pub returns-2 : (t : ℕ) → lts.Need-returns-2 (binop-calls t) (binop-at t) reads.Post Inv-loop μ-loop
+returns-2 t c = anew (c .again .ensures) (did-not (fails _ (way _ (binop-step _ _ _ _ (c .before .before .before .before .before .before .before .if1 .left))) (undone (c .before .match .keys2) (c .before .before .before .before .unop2 .ensures)) refl (omega arith)))
+
+pub loop-holds : (t : ℕ) → lts.Need-loop-holds (binop-calls t) (binop-at t) reads.Post Inv-loop μ-loop
+loop-holds t c = let f = done (c .before .first .given .1) (c .before .before .before .before .before .unop2 .ensures) in
+    record {
+      fuel = length (drop (c .before .first .given .0 .0) (c .before .before .before .before .before .before .before .before .before .before .before .args .tokens .now));
+      enough = rw length-drop (omega arith);
+      run = λ t x. record { what = t; same = here; moved = omega arith; room = f .room; text = x };
+      kept = refl;
+    }
+
+pub look-requires : (t : ℕ) → lts.Need-look-requires (binop-calls t) (binop-at t) reads.Post Inv-loop μ-loop
+look-requires t c κs = let f = done (c .before .before .first .given .1) (c .before .before .before .before .before .before .unop2 .ensures) in
+    let i = c .loop .inv in
+    let g = i .run (f .what) (rebased f (omega (arith, c .before .before .before .before .before .before .before .before .before .before .before .before .pre))) in
+    g .moved .within
+
+pub enum-known-kind : (t : ℕ) → lts.Need-enum-known-kind (binop-calls t) (binop-at t) reads.Post Inv-loop μ-loop
+enum-known-kind t c = search needs
+
+pub op-level-requires : (t : ℕ) → lts.Need-op-level-requires (binop-calls t) (binop-at t) reads.Post Inv-loop μ-loop
+op-level-requires t c κs = search needs
+
+pub same-length-3 : (t : ℕ) → lts.Need-same-length-3 (binop-calls t) (binop-at t) reads.Post Inv-loop μ-loop
+same-length-3 t c = search needs
+
+pub returns-3 : (t : ℕ) → lts.Need-returns-3 (binop-calls t) (binop-at t) reads.Post Inv-loop μ-loop
+returns-3 t c = let f = done (c .before .before .before .before .before .before .before .before .first .given .1) (c .before .before .before .before .before .before .before .before .before .before .before .before .unop2 .ensures) in
+    let path = goes _ (way _ (binop-step _ _ _ _ (c .before .before .before .before .before .before .before .before .before .before .before .before .before .before .before .if1 .left))) (f .same) in
+    let i = c .before .before .before .before .before .before .loop .inv in
+    let g = i .run (f .what) (rebased f (omega (arith, c .before .before .before .before .before .before .before .before .before .before .before .before .before .before .before .before .before .before .pre))) in
+    let tk = taken (c .before .before .before .kind .given .1) (c .before .before .before .before .before .look .ensures) in
+    record { how = home path (prefix f (omega arith)) (f .moved .more) (relabel g (g .what) refl (link (g .same) (way _ (climb-ends _ _ (g .what) _ (i .fuel) _ (i .enough) tk (c .before .op-level .ensures) (λ h. absurd (h (c .if2 .taken)))))) (g .moved) (g .room)) }
+
+pub same-length-4 : (t : ℕ) → lts.Need-same-length-4 (binop-calls t) (binop-at t) reads.Post Inv-loop μ-loop
+same-length-4 t c = search needs
+
+pub returns-4 : (t : ℕ) → lts.Need-returns-4 (binop-calls t) (binop-at t) reads.Post Inv-loop μ-loop
+returns-4 t c = let f = done (c .before .before .before .before .before .before .before .before .before .first .given .1) (c .before .before .before .before .before .before .before .before .before .before .before .before .before .unop2 .ensures) in
+    let path = goes _ (way _ (binop-step _ _ _ _ (c .before .before .before .before .before .before .before .before .before .before .before .before .before .before .before .before .if1 .left))) (f .same) in
+    let i = c .before .before .before .before .before .before .before .loop .inv in
+    let g = i .run (f .what) (rebased f (omega (arith, c .before .before .before .before .before .before .before .before .before .before .before .before .before .before .before .before .before .before .before .pre))) in
+    let tk = taken (c .before .before .before .before .kind .given .1) (c .before .before .before .before .before .before .look .ensures) in
+    record { how = home path (prefix f (omega arith)) (f .moved .more) (relabel g (g .what) refl (link (g .same) (way _ (climb-ends _ _ (g .what) _ (i .fuel) _ (i .enough) tk (c .before .before .op-level .ensures) (λ h. c .if3 .taken)))) (g .moved) (g .room)) }
+
+pub sub-binop : (t : ℕ) → lts.Need-sub-binop (binop-calls t) (binop-at t) reads.Post Inv-loop μ-loop
+sub-binop t c = let n = c .before .before .before .if2 .left in
+    omega arith
+
+pub add-binop : (t : ℕ) → lts.Need-add-binop (binop-calls t) (binop-at t) reads.Post Inv-loop μ-loop
+add-binop t c = let tk = taken (c .before .before .before .before .before .before .kind .given .1) (c .before .before .before .before .before .before .before .before .look .ensures) in
+    omega arith
+
+pub binop-requires : (t : ℕ) → lts.Need-binop-requires (binop-calls t) (binop-at t) reads.Post Inv-loop μ-loop
+binop-requires t c κs = let f = done (c .before .before .before .before .before .before .before .before .before .before .before .first .given .1) (c .before .before .before .before .before .before .before .before .before .before .before .before .before .before .before .unop2 .ensures) in
+    let i = c .before .before .before .before .before .before .before .before .before .loop .inv in
+    let g = i .run (f .what) (rebased f (omega (arith, c .before .before .before .before .before .before .before .before .before .before .before .before .before .before .before .before .before .before .before .before .before .pre))) in
+    let tk = taken (c .before .before .before .before .before .before .kind .given .1) (c .before .before .before .before .before .before .before .before .look .ensures) in
+    let n = c .before .before .before .if2 .left in
+    let m = c .before .before .if3 .left in
+    omega (arith, c .before .before .before .before .before .before .before .before .before .before .before .before .before .before .before .before .before .before .before .before .before .pre)
+
+pub enum-known-r : (t : ℕ) → lts.Need-enum-known-r (binop-calls t) (binop-at t) reads.Post Inv-loop μ-loop
+enum-known-r t c = search needs
+
+pub op-number-requires : (t : ℕ) → lts.Need-op-number-requires (binop-calls t) (binop-at t) reads.Post Inv-loop μ-loop
+op-number-requires t c κs = search needs
+
+pub emit-requires : (t : ℕ) → lts.Need-emit-requires (binop-calls t) (binop-at t) reads.Post Inv-loop μ-loop
+emit-requires t c κs = let f = done (c .before .before .before .before .before .before .before .before .before .before .before .before .before .before .before .before .before .before .before .first .given .1) (c .before .before .before .before .before .before .before .before .before .before .before .before .before .before .before .before .before .before .before .before .before .before .before .unop2 .ensures) in
+    let i = c .before .before .before .before .before .before .before .before .before .before .before .before .before .before .before .before .before .loop .inv in
+    let g = i .run (f .what) (rebased f (omega (arith, c .before .before .before .before .before .before .before .before .before .before .before .before .before .before .before .before .before .before .before .before .before .before .before .before .before .before .before .before .before .pre))) in
+    let tk = taken (c .before .before .before .before .before .before .before .before .before .before .before .before .before .before .kind .given .1) (c .before .before .before .before .before .before .before .before .before .before .before .before .before .before .before .before .look .ensures) in
+    let w = done (c .before .before .before .r .given .1) (c .before .before .before .before .before .before .before .binop .ensures) in
+    omega (arith, c .before .before .before .before .before .before .before .before .before .before .before .before .before .before .before .before .before .before .before .before .before .before .before .before .before .before .before .before .before .pre, c .before .before .before .before .before .before .before .before .before .before .before .before .before .before .before .before .before .before .before .before .before .before .before .unop2 .kept .1 .0, f .moved, f .room, g .moved, g .room, i .kept, tk .within, w .moved, w .room, c .before .before .before .before .before .before .before .binop .kept .1 .0)
+
+pub loop-less : (t : ℕ) → lts.Need-loop-less (binop-calls t) (binop-at t) reads.Post Inv-loop μ-loop
+loop-less t c = let tk = taken (c .before .before .before .before .before .before .before .before .before .before .before .before .before .before .before .before .before .kind .given .1) (c .before .before .before .before .before .before .before .before .before .before .before .before .before .before .before .before .before .before .before .look .ensures) in
+    let w = done (c .before .before .before .before .before .before .r .given .1) (c .before .before .before .before .before .before .before .before .before .before .binop .ensures) in
+    omega arith
+
+pub loop-again : (t : ℕ) → lts.Need-loop-again (binop-calls t) (binop-at t) reads.Post Inv-loop μ-loop
+loop-again t c = let f = done (c .before .before .before .before .before .before .before .before .before .before .before .before .before .before .before .before .before .before .before .before .before .before .first .given .1) (c .before .before .before .before .before .before .before .before .before .before .before .before .before .before .before .before .before .before .before .before .before .before .before .before .before .before .unop2 .ensures) in
+    let i = c .before .before .before .before .before .before .before .before .before .before .before .before .before .before .before .before .before .before .before .before .loop .inv in
+    let tk = taken (c .before .before .before .before .before .before .before .before .before .before .before .before .before .before .before .before .before .kind .given .1) (c .before .before .before .before .before .before .before .before .before .before .before .before .before .before .before .before .before .before .before .look .ensures) in
+    let w = done (c .before .before .before .before .before .before .r .given .1) (c .before .before .before .before .before .before .before .before .before .before .binop .ensures) in
+    let e = c .before .before .emit .ensures in
+    record {
+      fuel = i .fuel - 1;
+      enough = omega arith;
+      run = λ t x. let g = i .run t x in made-two 13 g w e (goes _ (link (g .same) (way _ (climb-takes _ _ (g .what) _ (i .fuel) _ (i .enough) tk (c .before .before .before .before .before .before .before .before .before .before .before .before .before .before .before .op-level .ensures) (c .before .before .before .before .before .before .before .before .before .before .before .before .before .before .if2 .left) (c .before .before .before .before .before .before .before .before .before .before .before .before .before .if3 .left) (c .before .before .before .op-number .ensures)))) (w .same)) (omega arith) (omega arith) refl;
+      kept = omega arith;
+    }
+
+pub again-requires-2 : (t : ℕ) → lts.Need-again-requires-2 (binop-calls t) (binop-at t) reads.Post Inv-loop μ-loop
+again-requires-2 t c κs = search needs
+
+pub same-length-5 : (t : ℕ) → lts.Need-same-length-5 (binop-calls t) (binop-at t) reads.Post Inv-loop μ-loop
+same-length-5 t c = search needs
+
+pub returns-5 : (t : ℕ) → lts.Need-returns-5 (binop-calls t) (binop-at t) reads.Post Inv-loop μ-loop
+returns-5 t c = let f = done (c .before .before .before .before .before .before .before .before .before .before .before .before .before .before .before .before .first .given .1) (c .before .before .before .before .before .before .before .before .before .before .before .before .before .before .before .before .before .before .before .before .unop2 .ensures) in
+    let path = goes _ (way _ (binop-step _ _ _ _ (c .before .before .before .before .before .before .before .before .before .before .before .before .before .before .before .before .before .before .before .before .before .before .before .if1 .left))) (f .same) in
+    let i = c .before .before .before .before .before .before .before .before .before .before .before .before .before .before .loop .inv in
+    let g = i .run (f .what) (rebased f (omega (arith, c .before .before .before .before .before .before .before .before .before .before .before .before .before .before .before .before .before .before .before .before .before .before .before .before .before .before .pre))) in
+    let tk = taken (c .before .before .before .before .before .before .before .before .before .before .before .kind .given .1) (c .before .before .before .before .before .before .before .before .before .before .before .before .before .look .ensures) in
+    let on = link (g .same) (way _ (climb-takes _ _ (g .what) _ (i .fuel) _ (i .enough) tk (c .before .before .before .before .before .before .before .before .before .op-level .ensures) (c .before .before .before .before .before .before .before .before .if2 .left) (c .before .before .before .before .before .before .before .if3 .left) (refl))) in
+    anew (c .again2 .ensures) (did-not (fails _ (link path on) (undone (c .before .match3 .keys2) (c .before .before .before .before .binop .ensures)) (prefix g (omega (arith, c .before .before .before .before .before .before .before .before .before .before .before .before .before .before .before .before .before .before .before .before .before .before .before .before .before .before .pre, c .before .before .before .before .before .before .before .before .before .before .before .before .before .before .before .before .before .before .before .before .unop2 .kept .1 .0, f .moved, f .room, g .moved, g .room, tk .within)) ∙ prefix f (omega (arith, c .before .before .before .before .before .before .before .before .before .before .before .before .before .before .before .before .before .before .before .before .before .before .before .before .before .before .pre, c .before .before .before .before .before .before .before .before .before .before .before .before .before .before .before .before .before .before .before .before .unop2 .kept .1 .0, f .moved, f .room, g .moved, g .room, tk .within))) (omega (arith, c .before .before .before .before .before .before .before .before .before .before .before .before .before .before .before .before .before .before .before .before .before .before .before .before .before .before .pre, c .before .before .before .before .before .before .before .before .before .before .before .before .before .before .before .before .before .before .before .before .unop2 .kept .1 .0, f .moved, f .room, g .moved, g .room, tk .within))))
+
+pub enum-known-s : (t : ℕ) → lts.Need-enum-known-s (binop-calls t) (binop-at t) reads.Post Inv-loop μ-loop
+enum-known-s t c = search needs
+
+pub same-length-6 : (t : ℕ) → lts.Need-same-length-6 (binop-calls t) (binop-at t) reads.Post Inv-loop μ-loop
+same-length-6 t c = search needs
+
+pub returns-6 : (t : ℕ) → lts.Need-returns-6 (binop-calls t) (binop-at t) reads.Post Inv-loop μ-loop
+returns-6 t c = let f = done (c .before .before .before .before .before .before .first .given .1) (c .before .before .before .before .before .before .before .before .before .before .unop2 .ensures) in
+    let path = goes _ (way _ (binop-step _ _ _ _ (c .before .before .before .before .before .before .before .before .before .before .before .before .before .if1 .left))) (f .same) in
+    let i = c .before .before .before .before .loop .inv in
+    let g = i .run (f .what) (rebased f (omega (arith, c .before .before .before .before .before .before .before .before .before .before .before .before .before .before .before .before .pre))) in
+    did-not (blind (link path (g .same)) (climb-looks _ _ (g .what) _ _ (i .fuel) _ (i .enough)) (not-taken (c .before .s .given .1) (c .before .before .before .look .ensures)) (prefix g (omega arith) ∙ prefix f (omega arith)) (omega arith))

@@ -1,0 +1,217 @@
+-- The needs of `cycle::list` in its cycle of calls. Assumes nothing.
+use mathlib.Core.Path.{_≡_, refl, sym, ap, _∙_}
+use mathlib.Core.List.{List, append-nil}
+use Prim.Native.Nat.{ℕ, _+_, _*_, _-_, _≤_}
+use borrow.Author.Needs.{needs}
+use native.Mathlib.Omega.{arith}
+use lib.ListN.{length, take, drop, length-drop}
+use Rattle.tree.specs.Tree.{none, snoc, count, records, all-records}
+use Rattle.tree.specs.Node
+use Rattle.grammar.specs.Reading.Depth.{at-depth}
+use Rattle.scan.specs.Post.{Wrote}
+use Rattle.scan.proofs.Laws.{way, link, ends, goes, taken, not-taken, fails, blind, prefix, relabel}
+use Rattle.nodes.proofs.Made.{joined, count-snoc}
+use Rattle.grammar.specs.Reading.Stmt.{stmts}
+use Rattle.nodes.specs.Lists.{Ends, keeps}
+use Rattle.cycle.proofs.PathsList.{list-ends, list-goes, stmts-looks, stmts-semi, stmts-end, stmts-turn, was-stmt, was-control, was-caught, was-not, place-small, split-none, next-ends, mark-le, place-at, stmt-two, held-text}
+use Rattle.cycle.proofs.list.Reads as reads
+use Rattle.cycle.proofs.+arm+atom+begin+binop+block+body+call+catch+cond+def+dest+dots+each+expr+fun+group+index+item+jump+key+label+lhs+list+loops+param+part+path+prim+rhs+sig+stmt+sync+table+tail+term+tuple+turn+unop+val+whiles.Lts-list as lts
+use Rattle.cycle.proofs.+arm+atom+begin+binop+block+body+call+catch+cond+def+dest+dots+each+expr+fun+group+index+item+jump+key+label+lhs+list+loops+param+part+path+prim+rhs+sig+stmt+sync+table+tail+term+tuple+turn+unop+val+whiles.Proof.Base.{list-calls, list-at}
+
+-- where the loop stands: the whole is what `stmts` makes of the n statements that are written so far
+pub record Going (T S₀ Q₀ : List ℕ) (depth end pos at waiting : ℕ) (S Q : List ℕ) (p a w n last : ℕ) : Type 0 where
+  pub fuel : ℕ
+  pub enough : length T ≤ p + fuel
+  pub run : Wrote all-records (at-depth depth .list end (take waiting Q₀) (drop pos T)) (stmts (at-depth (depth - 1)) end fuel) T pos pos 8 at waiting S₀ Q₀ p a w S Q
+  pub many : count (run .what) ≡ n
+  pub short : 2 * n ≤ p
+  pub back : last ≤ a
+  pub ending : Ends (run .what) at a last
+  pub kept : length S ≡ length S₀
+
+abbrev pub Inv-loop : lts.InvT-loop
+Inv-loop tokens store₀ queue₀ depth end pos at waiting p₀ a₀ w₀ n₀ last₀ store queue p a w n last = Going tokens store₀ queue₀ depth end pos at waiting store queue p a w n last
+
+abbrev pub μ-loop : lts.MeasureT-loop
+μ-loop tokens store₀ queue₀ depth end pos at waiting p₀ a₀ w₀ n₀ last₀ store queue p a w n last = length tokens - p
+
+pub returns : (t : ℕ) → lts.Need-returns (list-calls t) (list-at t) reads.Post Inv-loop μ-loop
+returns t c = record { how = record { how = ends (list-ends _ _ _ _ (c .if1 .taken)) } }
+
+pub loop-holds : (t : ℕ) → lts.Need-loop-holds (list-calls t) (list-at t) reads.Post Inv-loop μ-loop
+unfolding records count
+loop-holds t c = record { fuel = length (drop (c .before .before .before .args .pos) (c .before .before .before .args .tokens .now)); enough = rw length-drop (omega arith); run = record { what = none; same = way _ (list-goes _ _ _ _ (c .if1 .left)); moved = omega arith; room = omega arith; text = sym (append-nil (take (c .before .before .before .args .at) (c .before .before .before .args .store .now))) }; many = refl; short = omega arith; back = omega arith; ending = keeps split-none refl; kept = refl }
+
+pub look-requires : (t : ℕ) → lts.Need-look-requires (list-calls t) (list-at t) reads.Post Inv-loop μ-loop
+look-requires t c κs = c .loop .inv .run .moved .within
+
+pub enum-known-kind : (t : ℕ) → lts.Need-enum-known-kind (list-calls t) (list-at t) reads.Post Inv-loop μ-loop
+enum-known-kind t c = search needs
+
+pub add-p : (t : ℕ) → lts.Need-add-p (list-calls t) (list-at t) reads.Post Inv-loop μ-loop
+add-p t c = let tk = taken (c .before .before .kind .given .1) (c .before .before .before .before .look .ensures) in
+    omega arith
+
+pub loop-less : (t : ℕ) → lts.Need-loop-less (list-calls t) (list-at t) reads.Post Inv-loop μ-loop
+loop-less t c = let g = c .before .before .before .before .before .loop .inv in
+    let tk = taken (c .before .before .kind .given .1) (c .before .before .before .before .look .ensures) in
+    omega arith
+
+pub loop-again : (t : ℕ) → lts.Need-loop-again (list-calls t) (list-at t) reads.Post Inv-loop μ-loop
+loop-again t c = let g = c .before .before .before .before .before .loop .inv in
+    let gr = g .run in
+    let tk = taken (c .before .before .kind .given .1) (c .before .before .before .before .look .ensures) in
+    record {
+      fuel = g .fuel - 1;
+      enough = omega arith;
+      run = relabel gr (gr .what) refl (link (gr .same) (way _ (stmts-semi _ _ (gr .what) _ (g .fuel) _ (g .enough) tk (c .if2 .taken)))) (omega arith) (omega arith);
+      many = g .many;
+      short = omega arith;
+      back = g .back;
+      ending = g .ending;
+      kept = g .kept;
+    }
+
+pub ends-requires : (t : ℕ) → lts.Need-ends-requires (list-calls t) (list-at t) reads.Post Inv-loop μ-loop
+ends-requires t c κs = search needs
+
+pub same-length : (t : ℕ) → lts.Need-same-length (list-calls t) (list-at t) reads.Post Inv-loop μ-loop
+same-length t c = search needs
+
+pub returns-2 : (t : ℕ) → lts.Need-returns-2 (list-calls t) (list-at t) reads.Post Inv-loop μ-loop
+returns-2 t c = let g = c .before .before .before .before .before .before .before .loop .inv in
+    let gr = g .run in
+    let tk = taken (c .before .before .before .before .kind .given .1) (c .before .before .before .before .before .before .look .ensures) in
+    record {
+      how = record {
+        run = relabel gr (record { suite = gr .what; control = Node.absent }) refl (link (gr .same) (way _ (stmts-end _ _ (gr .what) _ (g .fuel) _ (g .enough) tk (c .before .before .if2 .left) (sym (c .before .ends .ensures) ∙ c .if3 .taken)))) (gr .moved) (gr .room);
+        plain = refl;
+        many = g .many;
+        short = g .short;
+        back = g .back;
+        ends = g .ending;
+      };
+    }
+
+pub sub-turn : (t : ℕ) → lts.Need-sub-turn (list-calls t) (list-at t) reads.Post Inv-loop μ-loop
+sub-turn t c = search needs
+
+pub turn-requires : (t : ℕ) → lts.Need-turn-requires (list-calls t) (list-at t) reads.Post Inv-loop μ-loop
+turn-requires t c κs = let g = c .before .before .before .before .before .before .before .before .before .loop .inv in
+    let gr = g .run in
+    let tk = taken (c .before .before .before .before .before .before .kind .given .1) (c .before .before .before .before .before .before .before .before .look .ensures) in
+    omega (arith, c .before .before .before .before .before .before .before .before .before .before .before .before .before .pre, c .before .before .before .before .before .before .before .before .before .before .if1 .left, g .short, g .kept, gr .moved, gr .room, tk .within)
+
+pub enum-known-p2 : (t : ℕ) → lts.Need-enum-known-p2 (list-calls t) (list-at t) reads.Post Inv-loop μ-loop
+enum-known-p2 t c = search needs
+
+pub mark-requires : (t : ℕ) → lts.Need-mark-requires (list-calls t) (list-at t) reads.Post Inv-loop μ-loop
+mark-requires t c κs = let g = c .before .before .before .before .before .before .before .before .before .before .before .before .before .before .before .before .loop .inv in
+    let gr = g .run in
+    let tk = taken (c .before .before .before .before .before .before .before .before .before .before .before .before .before .kind .given .1) (c .before .before .before .before .before .before .before .before .before .before .before .before .before .before .before .look .ensures) in
+    let w1 = was-stmt (c .before .before .p2 .given .1) (c .before .before .before .before .before .before .turn .ensures) in
+    (stmt-two w1 (omega (arith, c .before .before .before .before .before .before .before .before .before .before .before .before .before .before .before .before .before .before .before .before .pre, g .kept, gr .moved, gr .room)) (omega (arith, c .before .before .before .before .before .before .before .before .before .before .before .before .before .before .before .before .before .before .before .before .pre, g .kept, gr .moved, gr .room, w1 .moved, w1 .room)), omega (arith, c .before .before .before .before .before .before .before .before .before .before .before .before .before .before .before .before .before .before .before .before .pre, g .kept, gr .moved, gr .room, w1 .moved, w1 .room))
+
+pub add-n : (t : ℕ) → lts.Need-add-n (list-calls t) (list-at t) reads.Post Inv-loop μ-loop
+add-n t c = let g = c .before .before .before .before .before .before .before .before .before .before .before .before .before .before .before .before .before .loop .inv in
+    let gr = g .run in
+    let tk = taken (c .before .before .before .before .before .before .before .before .before .before .before .before .before .before .kind .given .1) (c .before .before .before .before .before .before .before .before .before .before .before .before .before .before .before .before .look .ensures) in
+    let w1 = was-stmt (c .before .before .before .p2 .given .1) (c .before .before .before .before .before .before .before .turn .ensures) in
+    omega (arith, c .before .before .before .before .before .before .before .before .before .before .before .before .before .before .before .before .before .before .before .before .before .pre, g .short, gr .moved)
+
+pub loop-less-2 : (t : ℕ) → lts.Need-loop-less-2 (list-calls t) (list-at t) reads.Post Inv-loop μ-loop
+loop-less-2 t c = let g = c .before .before .before .before .before .before .before .before .before .before .before .before .before .before .before .before .before .loop .inv in
+    let tk = taken (c .before .before .before .before .before .before .before .before .before .before .before .before .before .before .kind .given .1) (c .before .before .before .before .before .before .before .before .before .before .before .before .before .before .before .before .look .ensures) in
+    let w1 = was-stmt (c .before .before .before .p2 .given .1) (c .before .before .before .before .before .before .before .turn .ensures) in
+    omega (arith, w1 .moved, tk .within)
+
+pub loop-again-2 : (t : ℕ) → lts.Need-loop-again-2 (list-calls t) (list-at t) reads.Post Inv-loop μ-loop
+loop-again-2 t c = let g = c .before .before .before .before .before .before .before .before .before .before .before .before .before .before .before .before .before .loop .inv in
+    let gr = g .run in
+    let tk = taken (c .before .before .before .before .before .before .before .before .before .before .before .before .before .before .kind .given .1) (c .before .before .before .before .before .before .before .before .before .before .before .before .before .before .before .before .look .ensures) in
+    let try = link (gr .same) (way _ (stmts-turn _ _ (gr .what) _ (g .fuel) _ (g .enough) tk (c .before .before .before .before .before .before .before .before .before .before .before .before .if2 .left) (sym (c .before .before .before .before .before .before .before .before .before .before .before .ends .ensures) ∙ c .before .before .before .before .before .before .before .before .before .before .if3 .left))) in
+    let w1 = was-stmt (c .before .before .before .p2 .given .1) (c .before .before .before .before .before .before .before .turn .ensures) in
+    let mk = c .mark .ensures (take (c .before .before .before .before .before .before .before .before .before .before .before .before .before .before .before .before .before .loop .a) (c .before .before .before .before .before .before .before .before .before .before .before .before .before .before .before .before .before .loop .store)) (w1 .what) (place-small _ _ _ _ _ _ (w1 .same)) (w1 .text) in
+    let room = w1 .room in
+    let old = gr .room in
+    let moved = w1 .moved in
+    record {
+      fuel = g .fuel - 1;
+      enough = omega (arith, g .enough, moved, tk .within);
+      run = record { what = snoc (gr .what) (w1 .what); same = goes _ try (w1 .same); moved = omega (arith, moved, gr .moved); room = omega (arith, room, old); text = joined (gr .what) (w1 .what) (take (c .before .before .before .before .before .before .before .before .before .before .before .before .before .before .before .before .before .before .before .before .before .args .at) (c .before .before .before .before .before .before .before .before .before .before .before .before .before .before .before .before .before .before .before .before .before .args .store .now)) (w1 .text) (gr .text) };
+      many = count-snoc (gr .what) (w1 .what) ∙ ap (λ (i : ℕ). i + 1) (g .many);
+      short = omega (arith, g .short, moved);
+      back = mark-le mk (w1 .room .up);
+      ending = next-ends (gr .what) mk (place-at (c .before .before .before .before .before .before .before .before .before .before .before .before .before .before .before .before .before .before .before .before .before .args .store .now) (c .before .before .before .before .before .before .before .before .before .before .before .before .before .before .before .before .before .loop .store) (all-records (gr .what)) _ _ (gr .text) (omega (arith, c .before .before .before .before .before .before .before .before .before .before .before .before .before .before .before .before .before .before .before .before .before .pre)) (omega (arith, c .before .before .before .before .before .before .before .before .before .before .before .before .before .before .before .before .before .before .before .before .before .pre, g .kept, gr .moved, old)));
+      kept = omega (arith, g .kept);
+    }
+
+pub enum-known-p2-2 : (t : ℕ) → lts.Need-enum-known-p2-2 (list-calls t) (list-at t) reads.Post Inv-loop μ-loop
+enum-known-p2-2 t c = search needs
+
+pub same-length-2 : (t : ℕ) → lts.Need-same-length-2 (list-calls t) (list-at t) reads.Post Inv-loop μ-loop
+same-length-2 t c = search needs
+
+pub returns-3 : (t : ℕ) → lts.Need-returns-3 (list-calls t) (list-at t) reads.Post Inv-loop μ-loop
+returns-3 t c = let g = c .before .before .before .before .before .before .before .before .before .before .before .before .before .before .before .loop .inv in
+    let gr = g .run in
+    let tk = taken (c .before .before .before .before .before .before .before .before .before .before .before .before .kind .given .1) (c .before .before .before .before .before .before .before .before .before .before .before .before .before .before .look .ensures) in
+    let try = link (gr .same) (way _ (stmts-turn _ _ (gr .what) _ (g .fuel) _ (g .enough) tk (c .before .before .before .before .before .before .before .before .before .before .if2 .left) (sym (c .before .before .before .before .before .before .before .before .before .ends .ensures) ∙ c .before .before .before .before .before .before .before .before .if3 .left))) in
+    let k1 = was-control (c .before .p22 .given .1) (c .before .before .before .before .before .turn .ensures) in
+    let kr = k1 .run in
+    record {
+      how = record {
+        run = record { what = record { suite = gr .what; control = kr .what }; same = goes _ try (kr .same); moved = omega (arith, gr .moved, kr .moved); room = omega (arith, gr .room, kr .room); text = held-text (gr .what) (kr .what) (take (c .before .before .before .before .before .before .before .before .before .before .before .before .before .before .before .before .before .before .before .args .at) (c .before .before .before .before .before .before .before .before .before .before .before .before .before .before .before .before .before .before .before .args .store .now)) (kr .text) (gr .text) (g .many) };
+        held = k1 .held;
+      };
+    }
+
+pub enum-known-p2-3 : (t : ℕ) → lts.Need-enum-known-p2-3 (list-calls t) (list-at t) reads.Post Inv-loop μ-loop
+enum-known-p2-3 t c = search needs
+
+pub loop-less-3 : (t : ℕ) → lts.Need-loop-less-3 (list-calls t) (list-at t) reads.Post Inv-loop μ-loop
+loop-less-3 t c = let g = c .before .before .before .before .before .before .before .before .before .before .before .before .before .before .before .loop .inv in
+    let tk = taken (c .before .before .before .before .before .before .before .before .before .before .before .before .kind .given .1) (c .before .before .before .before .before .before .before .before .before .before .before .before .before .before .look .ensures) in
+    let v = was-caught (c .before .p23 .given .1) (c .before .before .before .before .before .turn .ensures) in
+    omega (arith, v .moved, tk .within)
+
+pub loop-again-3 : (t : ℕ) → lts.Need-loop-again-3 (list-calls t) (list-at t) reads.Post Inv-loop μ-loop
+loop-again-3 t c = let g = c .before .before .before .before .before .before .before .before .before .before .before .before .before .before .before .loop .inv in
+    let gr = g .run in
+    let tk = taken (c .before .before .before .before .before .before .before .before .before .before .before .before .kind .given .1) (c .before .before .before .before .before .before .before .before .before .before .before .before .before .before .look .ensures) in
+    let try = link (gr .same) (way _ (stmts-turn _ _ (gr .what) _ (g .fuel) _ (g .enough) tk (c .before .before .before .before .before .before .before .before .before .before .if2 .left) (sym (c .before .before .before .before .before .before .before .before .before .ends .ensures) ∙ c .before .before .before .before .before .before .before .before .if3 .left))) in
+    let v = was-caught (c .before .p23 .given .1) (c .before .before .before .before .before .turn .ensures) in
+    record {
+      fuel = g .fuel - 1;
+      enough = omega (arith, g .enough, v .moved, tk .within);
+      run = record { what = gr .what; same = goes _ try (v .same); moved = omega (arith, gr .moved, v .moved); room = omega (arith, gr .room, v .moved); text = v .text ∙ append-nil _ ∙ gr .text };
+      many = g .many;
+      short = omega (arith, g .short, v .moved);
+      back = g .back;
+      ending = g .ending;
+      kept = omega (arith, g .kept);
+    }
+
+pub enum-known-s : (t : ℕ) → lts.Need-enum-known-s (list-calls t) (list-at t) reads.Post Inv-loop μ-loop
+enum-known-s t c = search needs
+
+pub same-length-3 : (t : ℕ) → lts.Need-same-length-3 (list-calls t) (list-at t) reads.Post Inv-loop μ-loop
+same-length-3 t c = search needs
+
+pub returns-4 : (t : ℕ) → lts.Need-returns-4 (list-calls t) (list-at t) reads.Post Inv-loop μ-loop
+returns-4 t c = let g = c .before .before .before .before .before .before .before .before .before .before .before .before .before .before .before .loop .inv in
+    let gr = g .run in
+    let tk = taken (c .before .before .before .before .before .before .before .before .before .before .before .before .kind .given .1) (c .before .before .before .before .before .before .before .before .before .before .before .before .before .before .look .ensures) in
+    let try = link (gr .same) (way _ (stmts-turn _ _ (gr .what) _ (g .fuel) _ (g .enough) tk (c .before .before .before .before .before .before .before .before .before .before .if2 .left) (sym (c .before .before .before .before .before .before .before .before .before .ends .ensures) ∙ c .before .before .before .before .before .before .before .before .if3 .left))) in
+    record { how = fails _ try (was-not (c .before .s .given .1) (c .before .before .before .before .before .turn .ensures)) (prefix gr (omega (arith, c .before .before .before .before .before .before .before .before .before .before .before .before .before .before .before .before .before .before .before .pre))) (omega (arith, gr .moved, gr .room)) }
+
+pub enum-known-s-2 : (t : ℕ) → lts.Need-enum-known-s-2 (list-calls t) (list-at t) reads.Post Inv-loop μ-loop
+enum-known-s-2 t c = search needs
+
+pub same-length-4 : (t : ℕ) → lts.Need-same-length-4 (list-calls t) (list-at t) reads.Post Inv-loop μ-loop
+same-length-4 t c = search needs
+
+pub returns-5 : (t : ℕ) → lts.Need-returns-5 (list-calls t) (list-at t) reads.Post Inv-loop μ-loop
+returns-5 t c = let g = c .before .before .before .before .loop .inv in
+    let gr = g .run in
+    record { how = blind (gr .same) (stmts-looks _ _ (gr .what) _ _ (g .fuel) _ (g .enough)) (not-taken (c .before .s2 .given .1) (c .before .before .before .look .ensures)) (prefix gr (omega (arith, c .before .before .before .before .before .before .before .before .pre))) (omega arith) }

@@ -1,0 +1,215 @@
+-- Every expression that is read, cleanly or not, has one of the shapes that the code relies on. Assumes nothing.
+use mathlib.Core.Path.{_≡_, refl, ap, sym, _∙_, subst}
+use mathlib.Core.Bool.{Bool, true, false, _||_, true≢false}
+use mathlib.Core.List.{List}
+use Prim.Native.Nat.{ℕ, zero, suc, _<_}
+use native.Mathlib.Omega.{arith}
+use lib.Dec.{eqb}
+use lib.ListN.{length}
+use Rattle.token.specs.declared.Token.{Token}
+use Rattle.tree.specs.NodeKind
+use Rattle.tree.specs.Tree.{Tree, Forest, node, none, more, one, snoc, kind-of}
+use Rattle.tree.specs.Node
+use Rattle.tree.specs.Records.{Small, Smalls}
+use Rattle.grammar.specs.Reading.Result.{Error, Res, ok}
+use Rattle.grammar.specs.Reading.Look.{look, expect, expect-pattern, try-assign-keyword}
+use Rattle.grammar.specs.Reading.Pattern.{to-pattern}
+use Rattle.grammar.specs.Reading.Expr.{Depth, operators, binop-expr, members, tuple-expr, expr}
+use Rattle.grammar.specs.Reading.Primary.{group-expr, literal, atom, path, table-items, with-path, primary, unpack-expr}
+use Rattle.grammar.specs.Reading.Block.{body, block-expr, expr-label, branches}
+use Rattle.grammar.specs.Reading.Function.{params, function-def, function-assignment-target, function-decl-expr}
+use Rattle.grammar.specs.Reading.Depth.{primary-expr, unary-expr, at-depth}
+use Rattle.grammar.specs.Laws.Kinds.{Holds, h-ok, h-bad, h-fail, h-stop, holds-then, holds-past, holds-if, depth-small, tuple-small, expr-small}
+use Rattle.scan.specs.Post.{As}
+use Rattle.nodes.specs.Ends.{Shape, other, a-tuple, lone, unpacked}
+
+-- what was read, as the code saw it
+pub given : {A : Type 0} {P : A → Type 0} {q : List ℕ} {d : Res A} {q′ r : List ℕ} {x : A} → Holds P d → As q d q′ (ok x r) → P x
+given {P = P} (h-ok p) a = subst P (let i = a .is in cc) p
+given {P = P} (h-bad p) a = subst P (let i = a .is in cc) p
+given h-fail a = absurd (let i = a .is in let z : _≡_ {A = ℕ} 0 1 = cc in omega arith)
+given h-stop a = absurd (let i = a .is in let z : _≡_ {A = ℕ} 0 1 = cc in omega arith)
+
+pub shape-small : {t : Tree} → Shape t → Small t
+unfolding Small
+shape-small (other a b c d e) = (b, e)
+shape-small (a-tuple a) = (omega arith, ((omega arith, a), tt))
+shape-small lone = (omega arith, ((omega arith, tt), tt))
+shape-small (unpacked a b) = (omega arith, (b, tt))
+
+-- the kinds that are told apart
+abbrev told : ℕ → Bool
+told k = eqb k NodeKind.Absent || eqb k NodeKind.Unpack || eqb k NodeKind.Tuple
+
+differs : {k n : ℕ} → told k ≡ false → told n ≡ true → k ≡ n → ⊥
+differs p t e = true≢false (sym t ∙ ap (λ m. told m) (sym e) ∙ p)
+
+-- the shapes without the bounds
+data Root : Tree → Type 0 where
+  plain : {k v : ℕ} {f : Forest} → told k ≡ false → Root (node k v f)
+  tuple-root : {f : Forest} → Root (Node.tuple f)
+  lone-root : Root (Node.unpack Node.absent)
+  unpack-root : {t : Tree} → (kind-of t ≡ NodeKind.Absent → ⊥) → Root (Node.unpack t)
+
+plain-shape : (k v : ℕ) (f : Forest) → told k ≡ false → k < 256 → Smalls f → Shape (node k v f)
+plain-shape zero v f p h g = absurd (true≢false p)
+plain-shape (suc k) v f p h g = other {k = suc k} (omega arith) h (differs p refl) (differs p refl) g
+
+root-some : {t : Tree} → Root t → kind-of t ≡ NodeKind.Absent → ⊥
+root-some (plain p) = differs p refl
+root-some tuple-root = λ e. omega arith
+root-some lone-root = λ e. omega arith
+root-some (unpack-root h) = λ e. omega arith
+
+root-shape : {t : Tree} → Root t → Small t → Shape t
+unfolding Small
+root-shape (plain p) s = plain-shape _ _ _ p (s .0) (s .1)
+root-shape tuple-root s = a-tuple (s .1 .0 .1)
+root-shape lone-root s = lone
+root-shape (unpack-root h) s = unpacked h (s .1 .0)
+
+-- both of what was read
+holds-shape : {d : Res Tree} → Holds Root d → Holds Small d → Holds Shape d
+holds-shape (h-ok x) (h-ok y) = h-ok (root-shape x y)
+holds-shape (h-bad x) (h-bad y) = h-bad (root-shape x y)
+holds-shape h-fail g = h-fail
+holds-shape h-stop g = h-stop
+
+operators-root : (operand : List Error → List ℕ → Res Tree) (l n : ℕ) (left : Tree) (q : List Error) (ts : List ℕ) → Root left → Holds Root (operators operand l n left q ts)
+unfolding operators
+operators-root operand l zero left q ts h = h-fail
+operators-root operand l (suc n) left q ts h =
+    holds-past q (look q ts) λ tok q₁ rest. holds-if _
+    (λ _. holds-past q (operand q rest) λ right q₂ r. operators-root operand l n _ q₂ r (plain refl))
+    (λ _. h-ok h)
+
+literal-root : (tok : Token) (q : List Error) (rest : List ℕ) → Holds Root (literal tok q rest)
+unfolding literal
+literal-root tok q rest =
+    holds-if _ (λ _. h-ok (plain refl)) λ _. holds-if _ (λ _. h-ok (plain refl)) λ _. holds-if _ (λ _. h-ok (plain refl)) λ _.
+    holds-if _ (λ _. h-ok (plain refl)) λ _. holds-if _ (λ _. h-ok (plain refl)) λ _. holds-if _ (λ _. h-ok (plain refl)) λ _.
+    holds-if _ (λ _. h-ok (plain refl)) λ _. h-fail
+
+with-path-root : (a : Tree) (f : Forest) → Root a → Root (with-path a f)
+with-path-root a none h = h
+with-path-root a (more i f) h = plain refl
+
+module _ (low : Depth) (U : (q : List Error) (ts : List ℕ) → Holds Root (low .unary q ts)) where
+  binop-root : (l : ℕ) (q : List Error) (ts : List ℕ) → Holds Root (binop-expr low l q ts)
+  unfolding binop-expr
+  binop-root zero q ts = U q ts
+  binop-root (suc l) q ts = holds-then q (binop-root l q ts) λ t q₁ r x. operators-root (binop-expr low l) (suc l) (length r) t q₁ r x
+
+  members-root : (n : ℕ) (f : Forest) (q : List Error) (ts : List ℕ) → Holds Root (members low n f q ts)
+  unfolding members
+  members-root zero f q ts = h-fail
+  members-root (suc n) f q ts =
+      holds-past q (look q ts) λ tok q₁ rest. holds-if _
+      (λ _. holds-past q (look q rest) λ tok₂ q₂ rest₂. holds-if _ (λ _. h-ok tuple-root) λ _.
+      holds-past q (binop-expr low 10 q rest) λ t q₃ r. members-root n (snoc f t) q₃ r)
+      (λ _. h-ok tuple-root)
+
+  tuple-expr-root : (q : List Error) (ts : List ℕ) → Holds Root (tuple-expr low q ts)
+  unfolding tuple-expr
+  tuple-expr-root q ts =
+      holds-then q (binop-root 10 q ts) λ t q₁ r x.
+      holds-past q₁ (look q₁ r) λ tok q₂ rest. holds-if _ (λ _. members-root (length r) (one t) q₁ r) (λ _. h-ok x)
+
+  expr-root : (q : List Error) (ts : List ℕ) → Holds Root (expr low q ts)
+  unfolding expr
+  expr-root q ts =
+      holds-past q (try-assign-keyword q ts) λ m q₁ r.
+      holds-then q₁ (tuple-expr-root q₁ r) λ t q₂ s x.
+      holds-past q₂ (look q₂ s) λ tok q₃ rest. holds-if _
+      (λ _. holds-if _ (λ _. h-ok x) (λ _. h-fail))
+      (λ _. holds-past q₂ (expect-pattern _ (to-pattern t) q₂ rest) λ p q₄ u.
+      holds-past q₂ (low .right q₂ u) λ e q₅ v. h-ok (plain refl))
+
+module _ (low : Depth) where
+  atom-root : (q : List Error) (ts : List ℕ) → Holds Root (atom low q ts)
+  unfolding atom group-expr
+  atom-root q ts =
+      holds-past q (look q ts) λ tok q₁ rest. holds-if _
+      (λ _. holds-past q (look q rest) λ tok₂ q₂ rest₂. holds-if _ (λ _. h-ok (plain refl)) λ _.
+      holds-past q (try-assign-keyword q rest) λ m q₃ r.
+      holds-past q₃ (expr low q₃ r) λ e q₄ s.
+      holds-past q₄ (expect _ _ q₄ s) λ tok₃ q₅ u. h-ok (plain refl))
+      (λ _. literal-root tok q rest)
+
+  primary-root : (q : List Error) (ts : List ℕ) → Holds Root (primary low q ts)
+  unfolding primary
+  primary-root q ts =
+      holds-then q (atom-root q ts) λ a q₁ r x.
+      holds-past q₁ (path low true (length r) none q₁ r) λ f q₂ s. h-ok (with-path-root a f x)
+
+  unpack-expr-root : (q : List Error) (ts : List ℕ) → Holds Root (unpack-expr low q ts)
+  unfolding unpack-expr
+  unpack-expr-root q ts =
+      holds-past q (look q ts) λ tok q₁ rest. holds-if _ (λ _. h-ok lone-root) λ _.
+      holds-then q (primary-root q ts) λ t q₂ r x.
+      holds-past q₂ (look q₂ r) λ tok₂ q₃ rest₂. holds-if _
+      (λ _. holds-if _ (λ _. h-fail) (λ _. h-ok (unpack-root (root-some x))))
+      (λ _. h-ok x)
+
+  block-root : (l : ℕ) (q : List Error) (ts : List ℕ) → Holds Root (block-expr low l q ts)
+  unfolding block-expr
+  block-root l q ts = holds-past q (body low q ts) λ s q₁ r. h-ok (plain refl)
+
+  label-root : (l : ℕ) (q : List Error) (ts : List ℕ) → Holds Root (expr-label low l q ts)
+  unfolding expr-label
+  label-root l q ts = holds-past q (look q ts) λ tok q₁ rest. holds-if _ (λ _. block-root l q rest) (λ _. h-fail)
+
+  branches-root : (n : ℕ) (f : Forest) (q : List Error) (ts : List ℕ) → Holds Root (branches low n f q ts)
+  unfolding branches
+  branches-root zero f q ts = h-fail
+  branches-root (suc n) f q ts =
+      holds-past q (expr low q ts) λ c q₁ r.
+      holds-past q₁ (expect _ _ q₁ r) λ tok q₂ s.
+      holds-past q₂ (low .list 1 q₂ s) λ b q₃ u.
+      holds-past q₃ (look q₃ u) λ tok₂ q₄ rest. holds-if _ (λ _. h-ok (plain refl)) λ _. holds-if _
+      (λ _. holds-past q₃ (body low q₃ rest) λ e q₅ v. h-ok (plain refl))
+      (λ _. branches-root n (snoc f _) q₃ rest)
+
+  def-root : (name : ℕ) (q : List Error) (ts : List ℕ) → Holds Root (function-def low name q ts)
+  unfolding function-def
+  def-root name q ts =
+      holds-past q (expect _ _ q ts) λ tok q₁ r.
+      holds-past q₁ (params low (length r) _ q₁ r) λ ps q₂ s.
+      holds-past q₂ (expect _ _ q₂ s) λ tok₂ q₃ u.
+      holds-past q₃ (body low q₃ u) λ b q₄ v. h-ok (plain refl)
+
+  decl-root : (q : List Error) (ts : List ℕ) → Holds Root (function-decl-expr low q ts)
+  unfolding function-decl-expr
+  decl-root q ts =
+      holds-past q (look q ts) λ tok q₁ rest. holds-if _ (λ _. def-root 0 q ts) λ _.
+      holds-past q (function-assignment-target low q ts) λ p q₂ r.
+      holds-past q₂ (function-def low _ q₂ r) λ d q₃ s. h-ok (plain refl)
+
+  primary-expr-root : (q : List Error) (ts : List ℕ) → Holds Root (primary-expr low q ts)
+  unfolding primary-expr
+  primary-expr-root q ts =
+      holds-past q (look q ts) λ tok q₁ rest.
+      holds-if _ (λ _. h-fail) λ _.
+      holds-if _ (λ _. decl-root q rest) λ _.
+      holds-if _ (λ _. branches-root (length rest) none q rest) λ _.
+      holds-if _ (λ _. block-root 0 q rest) λ _.
+      holds-if _ (λ _. holds-past q (table-items low (length rest) none q rest) λ f q₂ r. h-ok (plain refl)) λ _.
+      holds-if _ (λ _. label-root _ q rest) (λ _. unpack-expr-root q ts)
+
+  unary-expr-root : (q : List Error) (ts : List ℕ) → Holds Root (unary-expr low q ts)
+  unfolding unary-expr
+  unary-expr-root q ts =
+      holds-past q (look q ts) λ tok q₁ rest. holds-if _
+      (λ _. primary-expr-root q ts)
+      (λ _. holds-past q (low .unary q rest) λ t q₂ r. h-ok (plain refl))
+
+depth-root : (d : ℕ) (q : List Error) (ts : List ℕ) → Holds Root (at-depth d .unary q ts)
+unfolding at-depth
+depth-root zero q ts = h-stop
+depth-root (suc d) q ts = unary-expr-root (at-depth d) q ts
+
+pub tuple-shape : (d : ℕ) (q : List Error) (ts : List ℕ) → Holds Shape (tuple-expr (at-depth d) q ts)
+tuple-shape d q ts = holds-shape (tuple-expr-root (at-depth d) (depth-root d) q ts) (tuple-small (at-depth d) (depth-small d) q ts)
+
+pub expr-shape : (d : ℕ) (q : List Error) (ts : List ℕ) → Holds Shape (expr (at-depth d) q ts)
+expr-shape d q ts = holds-shape (expr-root (at-depth d) (depth-root d) q ts) (expr-small (at-depth d) (depth-small d) q ts)

@@ -1,0 +1,43 @@
+-- `parser::fields::params_end` meets its contract. Assumes nothing.
+use native.Mathlib.Omega.{arith}
+use borrow.Author.Needs.{needs}
+use Rattle.nodes.proofs.Names.{signature}
+use Rattle.nodes.proofs.fields.params_end.Statement.{statement}
+use Rattle.nodes.proofs.fields.params_end.Tie as tie
+
+required-end-requires : tie.Need-required-end-requires
+required-end-requires c κs = search needs
+
+list-end-requires : tie.Need-list-end-requires
+list-end-requires c κs = let r = c .before .before .before .required-end .ensures in
+    let far = r .far in
+    let whole = r .whole in
+    omega arith
+
+variadic-end-requires : tie.Need-variadic-end-requires
+variadic-end-requires c κs = let r = c .before .before .before .before .before .before .before .required-end .ensures in
+    let l = c .before .before .before .list-end .ensures in
+    let far = r .far in
+    let whole = r .whole in
+    let next = l .next in
+    let whole2 = l .whole in
+    omega arith
+
+same-length : tie.Need-same-length
+same-length c = search needs
+
+returns : tie.Need-returns
+returns c = let r = c .before .before .before .before .before .before .before .before .before .before .required-end .ensures in
+    let l = c .before .before .before .before .before .before .list-end .ensures in
+    let v = c .before .before .variadic-end .ensures in
+    let up = r .up in
+    let far = r .far in
+    let next = l .next in
+    let up2 = v .up in
+    let far2 = v .far in
+    record { up = omega arith; far = omega arith; text = λ X ps f t. signature ps _ _ _ X _ _ _ _ f t (r .text) (l .text) (v .text) }
+
+pub params-end-spec : {M : Type 1} → statement M
+params-end-spec =
+    tie.close
+    (tie.spec required-end-requires list-end-requires variadic-end-requires same-length returns)

@@ -1,0 +1,26 @@
+-- `parser::records::bare_call` meets its contract: two records more. Assumes nothing.
+use mathlib.Core.Path.{_∙_}
+use borrow.Author.Needs.{needs}
+use native.Mathlib.Omega.{arith}
+use Rattle.tree.specs.Tree.{count, records}
+use Rattle.scan.proofs.Text.{two-words}
+use Rattle.nodes.proofs.records.bare_call.Statement.{statement}
+use Rattle.nodes.proofs.records.bare_call.Tie as tie
+
+list-end-requires : tie.Need-list-end-requires
+list-end-requires c κs = search needs
+
+emit-requires : tie.Need-emit-requires
+emit-requires c κs = search needs
+
+same-length : tie.Need-same-length
+same-length c = search needs
+
+returns : tie.Need-returns
+unfolding records count
+returns c = let a = c .before .before .before .before .before .before .list-end .ensures in
+    let b = c .before .before .emit .ensures in
+    record { up = omega arith; far = omega arith; text = two-words a b; whole = b .whole ∙ a .whole }
+
+pub bare-call-spec : {M : Type 1} → statement M
+bare-call-spec = tie.close (tie.spec list-end-requires emit-requires same-length returns)

@@ -1,0 +1,57 @@
+-- `parser::records::call_end` meets its contract: a tuple's record becomes the call's; any other tree gets a list of its own. Assumes nothing.
+use mathlib.Core.Path.{sym, _∙_}
+use mathlib.Core.List.{[], _∷_}
+use borrow.Author.Needs.{needs}
+use native.Mathlib.Omega.{arith}
+use Rattle.tree.specs.NodeKind
+use Rattle.tree.specs.Tree.{records}
+use Rattle.tree.specs.Node
+use Rattle.grammar.specs.Reading.Primary.{arguments}
+use Rattle.scan.proofs.Text.{two-words}
+use Rattle.nodes.proofs.Ends.{joins, over-one, call-tuple, call-other}
+use Rattle.nodes.proofs.records.call_end.Statement.{statement}
+use Rattle.nodes.proofs.records.call_end.Tie as tie
+
+kind-of-requires : tie.Need-kind-of-requires
+kind-of-requires c κs = search needs
+
+sub-emit : tie.Need-sub-emit
+sub-emit c = search needs
+
+emit-requires : tie.Need-emit-requires
+emit-requires c κs = search needs
+
+same-length : tie.Need-same-length
+same-length c = search needs
+
+returns : tie.Need-returns
+returns c = let e = c .before .before .emit .ensures in
+    record { up = omega arith; far = omega arith; text = λ X t s text. rw (over-one NodeKind.Invoke 0 (Node.list (arguments t))) (joins X (records (Node.list (arguments t))) (295 ∷ 0 ∷ []) (e .text) (call-tuple (c .before .before .before .before .before .before .before .before .args .store .now) X (c .before .before .before .before .before .before .before .before .args .a) (omega arith) s (sym (c .before .before .before .before .before .kind-of .ensures) ∙ c .before .before .before .before .if1 .taken) text)) }
+
+list-end-requires : tie.Need-list-end-requires
+list-end-requires c κs = search needs
+
+emit-requires-2 : tie.Need-emit-requires-2
+emit-requires-2 c κs = search needs
+
+same-length-2 : tie.Need-same-length-2
+same-length-2 c = search needs
+
+returns-2 : tie.Need-returns-2
+returns-2 c = let a = c .before .before .before .before .before .before .list-end .ensures in
+    let b = c .before .before .emit2 .ensures in
+    record { up = omega arith; far = omega arith; text = λ X t s text. rw (call-other (c .before .before .before .before .before .before .before .before .before .before .before .before .args .store .now) X (c .before .before .before .before .before .before .before .before .before .before .before .before .args .a) (omega arith) s (λ x. c .before .before .before .before .before .before .before .before .if1 .left (c .before .before .before .before .before .before .before .before .before .kind-of .ensures ∙ x)) text) (joins X (records t) (257 ∷ 0 ∷ 295 ∷ 0 ∷ []) (two-words a b) text) }
+
+pub call-end-spec : {M : Type 1} → statement M
+call-end-spec =
+    tie.close
+    (tie.spec
+    kind-of-requires
+    sub-emit
+    emit-requires
+    same-length
+    returns
+    list-end-requires
+    emit-requires-2
+    same-length-2
+    returns-2)

@@ -1,0 +1,26 @@
+-- `parser::records::lone_unpack` meets its contract: two records more. Assumes nothing.
+use mathlib.Core.Path.{_∙_}
+use borrow.Author.Needs.{needs}
+use native.Mathlib.Omega.{arith}
+use Rattle.tree.specs.Tree.{count, records}
+use Rattle.scan.proofs.Text.{two-words}
+use Rattle.nodes.proofs.records.lone_unpack.Statement.{statement}
+use Rattle.nodes.proofs.records.lone_unpack.Tie as tie
+
+emit-requires : tie.Need-emit-requires
+emit-requires c κs = search needs
+
+emit-requires-2 : tie.Need-emit-requires-2
+emit-requires-2 c κs = search needs
+
+same-length : tie.Need-same-length
+same-length c = search needs
+
+returns : tie.Need-returns
+unfolding records count
+returns c = let a = c .before .before .before .before .before .before .emit .ensures in
+    let b = c .before .before .emit2 .ensures in
+    record { up = omega arith; far = omega arith; text = two-words a b; whole = b .whole ∙ a .whole }
+
+pub lone-unpack-spec : {M : Type 1} → statement M
+lone-unpack-spec = tie.close (tie.spec emit-requires emit-requires-2 same-length returns)

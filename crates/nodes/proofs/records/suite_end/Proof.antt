@@ -1,0 +1,29 @@
+-- `parser::records::suite_end` meets its contract: three records more. Assumes nothing.
+use mathlib.Core.Path.{_∙_}
+use borrow.Author.Needs.{needs}
+use native.Mathlib.Omega.{arith}
+use Rattle.scan.proofs.Text.{three-words}
+use Rattle.nodes.proofs.records.suite_end.Statement.{statement}
+use Rattle.nodes.proofs.records.suite_end.Tie as tie
+
+list-end-requires : tie.Need-list-end-requires
+list-end-requires c κs = search needs
+
+emit-requires : tie.Need-emit-requires
+emit-requires c κs = search needs
+
+emit-requires-2 : tie.Need-emit-requires-2
+emit-requires-2 c κs = search needs
+
+same-length : tie.Need-same-length
+same-length c = search needs
+
+returns : tie.Need-returns
+returns c = let a = c .before .before .before .before .before .before .before .before .before .before .list-end .ensures in
+    let b = c .before .before .before .before .before .before .emit .ensures in
+    let d = c .before .before .emit2 .ensures in
+    record { up = omega arith; far = omega arith; text = three-words a b d; whole = d .whole ∙ b .whole ∙ a .whole }
+
+pub suite-end-spec : {M : Type 1} → statement M
+suite-end-spec =
+    tie.close (tie.spec list-end-requires emit-requires emit-requires-2 same-length returns)

@@ -1,0 +1,4 @@
+pub mod Ends
+pub mod Lists
+pub mod Parameters
+pub mod Parts

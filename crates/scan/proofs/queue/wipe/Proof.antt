@@ -1,0 +1,60 @@
+-- `parser::queue::wipe` meets its contract. Assumes nothing.
+use mathlib.Core.Path.{_≡_, sym, ap, _∙_}
+use mathlib.Core.List.{List, [], _∷_, _++_, append-nil, append-assoc}
+use Prim.Native.Nat.{ℕ, _+_, _-_, _≤_, _<_}
+use native.Mathlib.Numerals.{add-one}
+use native.Mathlib.Nat.{sub-self}
+use native.Mathlib.Omega.{arith}
+use borrow.Author.Needs.{needs}
+use lib.ListN.{length, take, set, replicate, length-set, replicate-append-replicate}
+use lib.Seq.{take-suc-set, take-all, length-take-le}
+use Rattle.grammar.specs.Reading.Next.{pad}
+use Rattle.scan.proofs.queue.wipe.Statement.{statement}
+use Rattle.scan.proofs.queue.wipe.Tie as tie
+
+abbrev Inv-loop : tie.InvT-loop
+Inv-loop waiting q₀ i₀ q i = (waiting ≤ i) × (i ≤ 96) × (length q ≡ 96) × (length q₀ ≡ 96) × (take i q ≡ take waiting q₀ ++ replicate (i - waiting) 0)
+
+abbrev μ-loop : tie.MeasureT-loop
+μ-loop waiting q₀ i₀ q i = 96 - i
+
+none : (S : List ℕ) (from : ℕ) → take from S ≡ take from S ++ replicate (from - from) 0
+none S from = rw sub-self (sym (append-nil (take from S)))
+
+next : (S S₀ : List ℕ) (from i : ℕ) → from ≤ i → i < length S → take i S ≡ take from S₀ ++ replicate (i - from) 0 → take (i + 1) (set S i 0) ≡ take from S₀ ++ replicate (i + 1 - from) 0
+next S S₀ from i h l e =
+    let m : i + 1 - from ≡ i - from + 1 = omega arith in
+    rw (add-one i) (take-suc-set S i 0 l) ∙ ap (λ x. x ++ 0 ∷ []) e ∙ append-assoc (take from S₀) (replicate (i - from) 0) (0 ∷ []) ∙ rw (m, ← replicate-append-replicate {A = ℕ} (i - from) 1 0)
+
+all : (S S₀ : List ℕ) (from i : ℕ) → 96 ≤ i → i ≤ 96 → from ≤ 96 → length S ≡ 96 → length S₀ ≡ 96 → take i S ≡ take from S₀ ++ replicate (i - from) 0 → S ≡ pad (take from S₀)
+all S S₀ from i h g f n m e =
+    let l : length (take from S₀) ≡ from = length-take-le from S₀ (omega arith) in
+    let k : i - from ≡ 96 - length (take from S₀) = omega arith in
+    sym (take-all i S (omega arith)) ∙ e ∙ ap (λ (n : ℕ). take from S₀ ++ replicate n 0) k
+
+loop-holds : tie.Need-loop-holds Inv-loop μ-loop
+loop-holds c = (omega arith, omega arith, search needs, search needs, none (c .args .queue) (c .args .waiting))
+
+mul-q : tie.Need-mul-q Inv-loop μ-loop
+mul-q c = search needs
+
+array-write-q : tie.Need-array-write-q Inv-loop μ-loop
+array-write-q c = search needs
+
+add-i : tie.Need-add-i Inv-loop μ-loop
+add-i c = search needs
+
+loop-less : tie.Need-loop-less Inv-loop μ-loop
+loop-less c = search needs
+
+loop-again : tie.Need-loop-again Inv-loop μ-loop
+loop-again c = (omega arith, omega arith, simp length-set (c .before .loop .inv .2), c .before .loop .inv .3, next _ _ _ _ (c .before .loop .inv .0) (omega arith) (c .before .loop .inv .4))
+
+returns : tie.Need-returns Inv-loop μ-loop
+returns c = let i = c .before .loop .inv in
+    all _ _ _ _ (c .loop-test .left) (i .1) (c .before .before .pre) (i .2) (i .3) (i .4)
+
+pub wipe-spec : {M : Type 1} → statement M
+wipe-spec =
+    tie.close
+    (tie.spec Inv-loop μ-loop loop-holds mul-q array-write-q add-i loop-less loop-again returns)

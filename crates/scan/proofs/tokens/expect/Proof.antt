@@ -1,0 +1,50 @@
+-- `parser::scan::expect` meets its contract. Assumes nothing.
+use mathlib.Core.Path.{refl}
+use borrow.Author.Needs.{needs}
+use native.Mathlib.Omega.{arith}
+use Rattle.grammar.specs.Reading.Look.{look}
+use Rattle.scan.proofs.Laws.{taken, not-taken, not-seen}
+use Rattle.scan.proofs.Looking.{through, unread, expect-is, expect-not, expect-looks}
+use Rattle.scan.proofs.tokens.expect.Statement.{statement}
+use Rattle.scan.proofs.tokens.expect.Tie as tie
+
+look-requires : tie.Need-look-requires
+look-requires c κs = search needs
+
+enum-known-kind : tie.Need-enum-known-kind
+enum-known-kind c = search needs
+
+add-t13 : tie.Need-add-t13
+add-t13 c = let tk = taken (c .before .before .kind .given .1) (c .before .before .before .before .look .ensures) in
+    omega arith
+
+add-t14 : tie.Need-add-t14
+add-t14 c = let tk = taken (c .before .before .kind .given .1) (c .before .before .before .before .look .ensures) in
+    omega arith
+
+enum-known-s : tie.Need-enum-known-s
+enum-known-s c = search needs
+
+returns : tie.Need-returns
+returns c = let tk = taken (c .before .before .kind .given .1) (c .before .before .before .before .look .ensures) in
+    record { how = record { got = record { what = _; same = λ q. expect-is tk q _ _ (c .if1 .taken); on = omega arith; within = tk .within }; place = refl; waits = refl } }
+
+returns-2 : tie.Need-returns-2
+returns-2 c = let tk = taken (c .before .before .kind .given .1) (c .before .before .before .before .look .ensures) in
+    record { how = record { how = record { same = λ q. expect-not tk q _ _ (c .if1 .left); waits = refl; on = omega arith; within = tk .within; far = omega arith } } }
+
+returns-3 : tie.Need-returns-3
+returns-3 c = unread (through _ (λ q. expect-looks q _ _ _) (not-seen (not-taken (c .before .s .given .1) (c .before .before .before .look .ensures))))
+
+pub expect-spec : {M : Type 1} → statement M
+expect-spec =
+    tie.close
+    (tie.spec
+    look-requires
+    enum-known-kind
+    add-t13
+    add-t14
+    enum-known-s
+    returns
+    returns-2
+    returns-3)

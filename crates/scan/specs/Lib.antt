@@ -1,0 +1,3 @@
+pub mod Lists
+pub mod Parts
+pub mod Post
