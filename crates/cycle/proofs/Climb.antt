@@ -17,7 +17,7 @@ use Rattle.operator.specs.Operator.{op-level, op-number}
 use Rattle.tree.specs.Tree.{Tree}
 use Rattle.tree.specs.Node
 use Rattle.grammar.specs.Reading.Number
-use Rattle.grammar.specs.Reading.Result.{Res, ok, bad, fail, stop, then, ifb}
+use Rattle.grammar.specs.Reading.Result.{Res, ok, bad, fail, stop, then, ifb, Error}
 use Rattle.grammar.specs.Reading.Look.{looked, look}
 use Rattle.grammar.specs.Reading.Expr.{Depth, operators, binop-expr}
 use Rattle.grammar.specs.Reading.Depth.{at-depth}
@@ -29,7 +29,7 @@ use Rattle.scan.proofs.Laws.{Looks}
 use Rattle.cycle.proofs.PathsExpr.{suc-pred, left}
 
 -- the operators of the levels up to l, after a left side: the right side of one of the level k is read at the level k - 1
-unfoldable pub climb : Depth → ℕ → ℕ → Tree → List ℕ → List ℕ → Res Tree
+unfoldable pub climb : Depth → ℕ → ℕ → Tree → List Error → List ℕ → Res Tree
 climb low l zero left q ts = fail Number.end-of-tokens q ts
 climb low l (suc n) left q ts =
     then q (look q ts) λ tok q₁ rest.
@@ -48,27 +48,27 @@ abbrev first-level : List ℕ → ℕ
 first-level ts = level-seen (look [] ts)
 
 -- what a look tells
-looked-then : {B : Type 0} (q r : List ℕ) (s : Seen) (f g : Token → List ℕ → List ℕ → Res B) → ((tok : Token) → looked q r s ≡ ok tok r → level-seen (looked [] r s) ≡ op-level (tok .kind) → f tok q r ≡ g tok q r) → then q (looked q r s) f ≡ then q (looked q r s) g
+looked-then : {B : Type 0} (q : List Error) (r : List ℕ) (s : Seen) (f g : Token → List Error → List ℕ → Res B) → ((tok : Token) → looked q r s ≡ ok tok r → level-seen (looked [] r s) ≡ op-level (tok .kind) → f tok q r ≡ g tok q r) → then q (looked q r s) f ≡ then q (looked q r s) g
 unfolding looked then
 looked-then q r (Good tok) f g h = h tok refl refl
 looked-then q r LexerError f g h = refl
 looked-then q r Nothing f g h = refl
 looked-then q r Bad f g h = refl
 
-look-then : {B : Type 0} (q ts : List ℕ) (f g : Token → List ℕ → List ℕ → Res B) → ((tok : Token) (r : List ℕ) → look q ts ≡ ok tok r → first-level ts ≡ op-level (tok .kind) → length r < length ts → f tok q r ≡ g tok q r) → then q (look q ts) f ≡ then q (look q ts) g
+look-then : {B : Type 0} (q : List Error) (ts : List ℕ) (f g : Token → List Error → List ℕ → Res B) → ((tok : Token) (r : List ℕ) → look q ts ≡ ok tok r → first-level ts ≡ op-level (tok .kind) → length r < length ts → f tok q r ≡ g tok q r) → then q (look q ts) f ≡ then q (look q ts) g
 unfolding look then
 look-then q [] f g h = refl
 look-then q (w ∷ []) f g h = refl
 look-then q (w ∷ (v ∷ r)) f g h = looked-then q r (seen-word w v) f g λ tok e i. h tok r e i (omega arith)
 
-looked-keep : {B : Type 0} {I : List ℕ → Type 0} (q r : List ℕ) (s : Seen) (f : Token → List ℕ → List ℕ → Res B) → ((tok : Token) → level-seen (looked [] r s) ≡ op-level (tok .kind) → Keep I (λ e s. Unit {0}) (f tok q r)) → Keep I (λ e s. Unit {0}) (then q (looked q r s) f)
+looked-keep : {B : Type 0} {I : List ℕ → Type 0} (q : List Error) (r : List ℕ) (s : Seen) (f : Token → List Error → List ℕ → Res B) → ((tok : Token) → level-seen (looked [] r s) ≡ op-level (tok .kind) → Keep I (λ e s. Unit {0}) (f tok q r)) → Keep I (λ e s. Unit {0}) (then q (looked q r s) f)
 unfolding looked then
 looked-keep q r (Good tok) f h = h tok refl
 looked-keep q r LexerError f h = k-fail tt
 looked-keep q r Nothing f h = k-fail tt
 looked-keep q r Bad f h = k-stop
 
-look-keep : {B : Type 0} {I : List ℕ → Type 0} (q ts : List ℕ) (f : Token → List ℕ → List ℕ → Res B) → ((tok : Token) (r : List ℕ) → first-level ts ≡ op-level (tok .kind) → Keep I (λ e s. Unit {0}) (f tok q r)) → Keep I (λ e s. Unit {0}) (then q (look q ts) f)
+look-keep : {B : Type 0} {I : List ℕ → Type 0} (q : List Error) (ts : List ℕ) (f : Token → List Error → List ℕ → Res B) → ((tok : Token) (r : List ℕ) → first-level ts ≡ op-level (tok .kind) → Keep I (λ e s. Unit {0}) (f tok q r)) → Keep I (λ e s. Unit {0}) (then q (look q ts) f)
 unfolding look then
 look-keep q [] f h = k-fail tt
 look-keep q (w ∷ []) f h = k-fail tt
@@ -104,13 +104,13 @@ abbrev Past : ℕ → List ℕ → Type 0
 Past l ts = Ends (first-level ts) l
 
 -- one turn of the loop
-abbrev climb-on : Depth → ℕ → ℕ → Tree → List ℕ → List ℕ → Token → List ℕ → List ℕ → Res Tree
+abbrev climb-on : Depth → ℕ → ℕ → Tree → List ℕ → List ℕ → Token → List Error → List ℕ → Res Tree
 climb-on low l n t q ts tok q₁ rest = tested (op-level (tok .kind)) l (λ _. ok t ts) λ _. then q (binop-expr low (pred (op-level (tok .kind))) q rest) λ right q₂ r. climb low l n (Node.binary-op (op-number (tok .kind)) t right) q₂ r
 
 module _ (low : Depth) (K : (r : List ℕ) → Keeps (Left r) low) where
   -- a reading of the level l ends before what is no operator of the levels up to l
-  module _ (l : ℕ) (s : (q ts : List ℕ) → Keep (Past l) (λ e r. Unit {0}) (binop-expr low l q ts)) where
-    operators-past : (n : ℕ) (t : Tree) (q ts : List ℕ) → Past l ts → Keep (Past (suc l)) (λ e r. Unit {0}) (operators (binop-expr low l) (suc l) n t q ts)
+  module _ (l : ℕ) (s : (q : List Error) (ts : List ℕ) → Keep (Past l) (λ e r. Unit {0}) (binop-expr low l q ts)) where
+    operators-past : (n : ℕ) (t : Tree) (q : List Error) (ts : List ℕ) → Past l ts → Keep (Past (suc l)) (λ e r. Unit {0}) (operators (binop-expr low l) (suc l) n t q ts)
     unfolding operators ifb
     operators-past zero t q ts p = k-fail tt
     operators-past (suc n) t q ts p =
@@ -118,17 +118,17 @@ module _ (low : Depth) (K : (r : List ℕ) → Keeps (Left r) low) where
         (λ b. rw (ne-eqb (op-level (tok .kind)) (suc l) (λ z. let w = b (omega arith) in omega arith)) (k-ok {r = ts} (rw i b)))
         (λ b w. let a = p (λ e. b (sym i ∙ e)) in rw (eq-eqb (op-level (tok .kind)) (suc l) (omega arith)) (k-on q (s q r) λ right q₂ r₂ p₂. operators-past n _ q₂ r₂ p₂))
 
-  binop-past : (l : ℕ) (q ts : List ℕ) → Keep (Past l) (λ e r. Unit {0}) (binop-expr low l q ts)
+  binop-past : (l : ℕ) (q : List Error) (ts : List ℕ) → Keep (Past l) (λ e r. Unit {0}) (binop-expr low l q ts)
   unfolding binop-expr
   binop-past zero q ts = k-all (λ r h. omega arith) (λ e r. tt) _
   binop-past (suc l) q ts = k-on q (binop-past l q ts) λ t q₁ r p. operators-past l (binop-past l) (length r) t q₁ r p
 
-  reads : (l : ℕ) (q ts : List ℕ) → Keep (λ r. (length r ≤ length ts) × Past l r) (λ e r. Unit {0}) (binop-expr low l q ts)
+  reads : (l : ℕ) (q : List Error) (ts : List ℕ) → Keep (λ r. (length r ≤ length ts) × Past l r) (λ e r. Unit {0}) (binop-expr low l q ts)
   reads l q ts = k-weaken (λ r i. i) (λ e r j. tt) (k-both (binop-keeps (Left ts) (left-step ts) low (K ts) l q ts (here (omega arith))) (binop-past l q ts))
 
   module _ (l : ℕ) where
     -- behind a reading of the level l, climbing to the level suc l meets operators of that level alone
-    climb-level : (n m : ℕ) (t : Tree) (q ts : List ℕ) → Past l ts → length ts ≤ n → length ts ≤ m → climb low (suc l) n t q ts ≡ operators (binop-expr low l) (suc l) m t q ts
+    climb-level : (n m : ℕ) (t : Tree) (q : List Error) (ts : List ℕ) → Past l ts → length ts ≤ n → length ts ≤ m → climb low (suc l) n t q ts ≡ operators (binop-expr low l) (suc l) m t q ts
     unfolding climb operators look then ifb
     climb-level zero zero t q ts p h g = refl
     climb-level zero (suc m) t q [] p h g = refl
@@ -143,10 +143,10 @@ module _ (low : Depth) (K : (r : List ℕ) → Keeps (Left r) low) where
         tested-takes (op-level (tok .kind)) (suc l) _ _ b w ∙ rw (z, eq-eqb (suc l) (suc l) refl) (same-then _ q (reads l q r) λ right q₂ r₂ k. climb-level n m _ q₂ r₂ (k .1) (omega arith) (omega arith)))
 
     -- climbing to the level suc l is climbing to the level l, and then the operators of the level suc l
-    abbrev last : Tree → List ℕ → List ℕ → Res Tree
+    abbrev last : Tree → List Error → List ℕ → Res Tree
     last u q r = operators (binop-expr low l) (suc l) (length r) u q r
 
-    climb-more : (n : ℕ) (t : Tree) (q ts : List ℕ) → length ts ≤ n → climb low (suc l) n t q ts ≡ then q (climb low l n t q ts) last
+    climb-more : (n : ℕ) (t : Tree) (q : List Error) (ts : List ℕ) → length ts ≤ n → climb low (suc l) n t q ts ≡ then q (climb low l n t q ts) last
     unfolding climb
     climb-more zero t q ts h = sym (then-fail q last)
     climb-more (suc n) t q ts h =
@@ -155,17 +155,17 @@ module _ (low : Depth) (K : (r : List ℕ) → Keeps (Left r) low) where
         (λ b w. tested-takes (op-level (tok .kind)) (suc l) _ _ b (omega arith) ∙ same-then _ q (reads (pred (op-level (tok .kind))) q r) (λ right q₂ r₂ k. climb-more n _ q₂ r₂ (omega arith)) ∙ sym (then-then q _ _ _) ∙ sym (ap (λ (d : Res Tree). then q d last) (tested-takes (op-level (tok .kind)) l _ _ b w))))
         ∙ sym (then-then q (look q ts) _ _)
 
-  pub binop-climb : (l : ℕ) (q ts : List ℕ) → binop-expr low (suc l) q ts ≡ then q (low .unary q ts) (λ t q₁ r. climb low (suc l) (length r) t q₁ r)
+  pub binop-climb : (l : ℕ) (q : List Error) (ts : List ℕ) → binop-expr low (suc l) q ts ≡ then q (low .unary q ts) (λ t q₁ r. climb low (suc l) (length r) t q₁ r)
   unfolding binop-expr
   binop-climb zero q ts = then-same q _ λ t q₁ r. sym (climb-level zero (length r) (length r) t q₁ r (λ h. omega arith) (omega arith) (omega arith))
   binop-climb (suc l) q ts = ap (λ (d : Res Tree). then q d (last (suc l))) (binop-climb l q ts) ∙ then-then q _ _ _ ∙ then-same q _ λ t q₁ r. sym (climb-more (suc l) (length r) t q₁ r (omega arith))
 
 -- as the code goes
-pub binop-step : (d l : ℕ) (q ts : List ℕ) → (l ≡ 0 → ⊥) → binop-expr (at-depth d) l q ts ≡ then q (at-depth d .unary q ts) (λ t q₁ r. climb (at-depth d) l (length r) t q₁ r)
+pub binop-step : (d l : ℕ) (q : List Error) (ts : List ℕ) → (l ≡ 0 → ⊥) → binop-expr (at-depth d) l q ts ≡ then q (at-depth d .unary q ts) (λ t q₁ r. climb (at-depth d) l (length r) t q₁ r)
 binop-step d l q ts h = rw (← suc-pred l h) (binop-climb (at-depth d) (λ r. depth-keeps (Left r) (left-step r) d) (l - 1) q ts)
 
 -- with a count that is as long as the list the loop looks: with none, the list is empty
-module _ (low : Depth) (l : ℕ) (acc : Tree) (q : List ℕ) where
+module _ (low : Depth) (l : ℕ) (acc : Tree) (q : List Error) where
   climb-step : (fuel : ℕ) (ts : List ℕ) → length ts ≤ fuel → climb low l fuel acc q ts ≡ then q (look q ts) (climb-on low l (fuel - 1) acc q ts)
   unfolding climb look then
   climb-step zero [] h = refl

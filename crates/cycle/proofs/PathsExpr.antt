@@ -13,7 +13,7 @@ use Rattle.tree.specs.NodeKind
 use Rattle.tree.specs.Tree.{Tree, Forest, node, none, more, one, two, snoc}
 use Rattle.tree.specs.Node
 use Rattle.grammar.specs.Reading.Limit.{too-deep}
-use Rattle.grammar.specs.Reading.Result.{Res, ok, fail, stop, then, ifb}
+use Rattle.grammar.specs.Reading.Result.{Res, ok, fail, stop, then, ifb, Error}
 use Rattle.grammar.specs.Reading.Number
 use Rattle.grammar.specs.Reading.Pattern.{to-pattern}
 use Rattle.grammar.specs.Reading.Look.{look, expect-pattern, try-assign-keyword, action}
@@ -29,7 +29,7 @@ pub suc-pred : (n : ℕ) → (n ≡ 0 → ⊥) → suc (n - 1) ≡ n
 suc-pred n h = omega arith
 
 -- the readings of each depth
-module _ (d : ℕ) (q ts : List ℕ) where
+module _ (d : ℕ) (q : List Error) (ts : List ℕ) where
   unary-zero : at-depth 0 .unary q ts ≡ stop too-deep
   unfolding at-depth
   unary-zero = refl
@@ -55,24 +55,24 @@ module _ (d : ℕ) (q ts : List ℕ) where
     unfolding at-depth
     list-suc = refl
 
-pub unary-stops : (d : ℕ) (q ts : List ℕ) → d ≡ 0 → at-depth d .unary q ts ≡ stop too-deep
+pub unary-stops : (d : ℕ) (q : List Error) (ts : List ℕ) → d ≡ 0 → at-depth d .unary q ts ≡ stop too-deep
 unary-stops d q ts e = rw e (unary-zero d q ts)
 
-pub unary-step : (d : ℕ) (q ts : List ℕ) → (d ≡ 0 → ⊥) → at-depth d .unary q ts ≡ unary-expr (at-depth (d - 1)) q ts
+pub unary-step : (d : ℕ) (q : List Error) (ts : List ℕ) → (d ≡ 0 → ⊥) → at-depth d .unary q ts ≡ unary-expr (at-depth (d - 1)) q ts
 unary-step d q ts h = ap (λ (n : ℕ). at-depth n .unary q ts) (sym (suc-pred d h)) ∙ unary-suc (d - 1) q ts
 
-pub right-stops : (d : ℕ) (q ts : List ℕ) → d ≡ 0 → at-depth d .right q ts ≡ stop too-deep
+pub right-stops : (d : ℕ) (q : List Error) (ts : List ℕ) → d ≡ 0 → at-depth d .right q ts ≡ stop too-deep
 right-stops d q ts e = rw e (right-zero d q ts)
 
-pub right-step : (d : ℕ) (q ts : List ℕ) → (d ≡ 0 → ⊥) → at-depth d .right q ts ≡ expr (at-depth (d - 1)) q ts
+pub right-step : (d : ℕ) (q : List Error) (ts : List ℕ) → (d ≡ 0 → ⊥) → at-depth d .right q ts ≡ expr (at-depth (d - 1)) q ts
 right-step d q ts h = ap (λ (n : ℕ). at-depth n .right q ts) (sym (suc-pred d h)) ∙ right-suc (d - 1) q ts
 
 -- operands
-pub unary-looks : (low : Depth) (q ts : List ℕ) → Looks q ts (unary-expr low q ts)
+pub unary-looks : (low : Depth) (q : List Error) (ts : List ℕ) → Looks q ts (unary-expr low q ts)
 unfolding unary-expr
 unary-looks low q ts = record { go = _; is = refl }
 
-module _ (low : Depth) (q : List ℕ) {T : List ℕ} {pos k n v : ℕ} (at : Taken T pos k n v) {c : ℕ} (is : c ≡ unary-code k) where
+module _ (low : Depth) (q : List Error) {T : List ℕ} {pos k n v : ℕ} (at : Taken T pos k n v) {c : ℕ} (is : c ≡ unary-code k) where
   pub unary-none : c ≡ 0 → unary-expr low q (drop pos T) ≡ primary-expr low q (drop pos T)
   unfolding unary-expr then ifb
   unary-none e = rw (at .same, eq-eqb _ _ (sym is ∙ e))
@@ -84,18 +84,18 @@ module _ (low : Depth) (q : List ℕ) {T : List ℕ} {pos k n v : ℕ} (at : Tak
       rw (at .same, ne-eqb _ _ (λ z. h (is ∙ z)), e)
 
 -- binary operators
-binop-zero : (low : Depth) (q ts : List ℕ) → binop-expr low 0 q ts ≡ low .unary q ts
+binop-zero : (low : Depth) (q : List Error) (ts : List ℕ) → binop-expr low 0 q ts ≡ low .unary q ts
 unfolding binop-expr
 binop-zero low q ts = refl
 
-pub binop-unary : (low : Depth) (l : ℕ) (q ts : List ℕ) → l ≡ 0 → binop-expr low l q ts ≡ low .unary q ts
+pub binop-unary : (low : Depth) (l : ℕ) (q : List Error) (ts : List ℕ) → l ≡ 0 → binop-expr low l q ts ≡ low .unary q ts
 binop-unary low l q ts e = rw e (binop-zero low q ts)
 
 pub left : (T : List ℕ) (p fuel : ℕ) → length T ≤ p + fuel → length (drop p T) ≤ fuel
 left T p fuel h = rw length-drop (omega arith)
 
 -- tuples: the members behind the first are `tail`
-members-commas : (low : Depth) (n : ℕ) (t : Tree) (f : Forest) (q ts : List ℕ) → members low n (more t f) q ts ≡ then q (tail low n f q ts) (λ g q₁ r. ok (Node.tuple (more t g)) r)
+members-commas : (low : Depth) (n : ℕ) (t : Tree) (f : Forest) (q : List Error) (ts : List ℕ) → members low n (more t f) q ts ≡ then q (tail low n f q ts) (λ g q₁ r. ok (Node.tuple (more t g)) r)
 unfolding members tail snoc
 members-commas low zero t f q ts = sym (then-fail q _)
 members-commas low (suc n) t f q ts =
@@ -103,17 +103,17 @@ members-commas low (suc n) t f q ts =
     then-if q _ _ _ _ ∙ if-same _ (λ u. look-then q rest _ _ _ λ tok₂ rest₂.
     then-if q _ _ _ _ ∙ if-same _ (λ u. then-ok q _) (λ u. then-then q _ _ _ ∙ then-same q _ λ x q₃ r. sym (members-commas low n t (snoc f x) q₃ r))) (λ u. then-ok q _))
 
-abbrev pub tuple-go : Depth → Tree → List ℕ → List ℕ → Res Tree
+abbrev pub tuple-go : Depth → Tree → List Error → List ℕ → Res Tree
 tuple-go low t q r = then q (look q r) λ tok q₂ rest. ifb (eqb (tok .kind) Kind.Comma) (λ _. members low (length r) (one t) q r) (λ _. ok t r)
 
-pub tuple-step : (low : Depth) (q ts : List ℕ) → tuple-expr low q ts ≡ then q (inner-expr low q ts) (tuple-go low)
+pub tuple-step : (low : Depth) (q : List Error) (ts : List ℕ) → tuple-expr low q ts ≡ then q (inner-expr low q ts) (tuple-go low)
 unfolding tuple-expr
 tuple-step low q ts = refl
 
-pub tuple-looks : (low : Depth) (t : Tree) (q ts : List ℕ) → Looks q ts (tuple-go low t q ts)
+pub tuple-looks : (low : Depth) (t : Tree) (q : List Error) (ts : List ℕ) → Looks q ts (tuple-go low t q ts)
 tuple-looks low t q ts = record { go = _; is = refl }
 
-module _ (low : Depth) (t : Tree) (q : List ℕ) {T : List ℕ} {pos k n v : ℕ} (at : Taken T pos k n v) where
+module _ (low : Depth) (t : Tree) (q : List Error) {T : List ℕ} {pos k n v : ℕ} (at : Taken T pos k n v) where
   pub tuple-one : (k ≡ Kind.Comma → ⊥) → tuple-go low t q (drop pos T) ≡ ok t (drop pos T)
   unfolding then ifb
   tuple-one e = rw (at .same, ne-eqb _ _ e)
@@ -123,7 +123,7 @@ module _ (low : Depth) (t : Tree) (q : List ℕ) {T : List ℕ} {pos k n v : ℕ
   tuple-more e = rw (at .same, eq-eqb _ _ e) (members-commas low (length (drop pos T)) t none q (drop pos T))
 
 -- the members behind the first. With a count that is as long as the list a loop looks: with none, the list is empty
-module _ (low : Depth) (f : Forest) (q : List ℕ) where
+module _ (low : Depth) (f : Forest) (q : List Error) where
   commas-step : (fuel : ℕ) (ts : List ℕ) → length ts ≤ fuel → tail low fuel f q ts ≡ then q (look q ts) (λ tok q₁ rest. ifb (eqb (tok .kind) Kind.Comma) (λ _. then q (look q rest) λ tok₂ q₂ rest₂. ifb (eqb (tok₂ .kind) Kind.CloseParen) (λ _. ok f rest) λ _. then q (inner-expr low q rest) λ t q₃ r. tail low (fuel - 1) (snoc f t) q₃ r) (λ _. ok f ts))
   unfolding tail look then
   commas-step zero [] h = refl
@@ -152,7 +152,7 @@ module _ (low : Depth) (f : Forest) (q : List ℕ) where
       commas-more i = commas-comma e ∙ rw (at₂ .same, ne-eqb _ _ i)
 
 -- assignments
-abbrev pub expr-op : Depth → ℕ → Tree → List ℕ → List ℕ → Res Tree
+abbrev pub expr-op : Depth → ℕ → Tree → List Error → List ℕ → Res Tree
 expr-op low m lhs q s =
     then q (look q s) λ tok q₃ rest.
     ifb (eqb (assign-code (tok .kind)) 0)
@@ -160,14 +160,14 @@ expr-op low m lhs q s =
     (λ _. then q (expect-pattern Number.cannot-assign (to-pattern lhs) q rest) λ p q₄ u.
     then q (low .right q u) λ rhs q₅ x. ok (Node.assignment (action m) (pred (assign-code (tok .kind))) p rhs) x)
 
-abbrev pub expr-lhs : Depth → ℕ → List ℕ → List ℕ → Res Tree
+abbrev pub expr-lhs : Depth → ℕ → List Error → List ℕ → Res Tree
 expr-lhs low m q r = then q (tuple-expr low q r) (expr-op low m)
 
-pub expr-step : (low : Depth) (q ts : List ℕ) → expr low q ts ≡ then q (try-assign-keyword q ts) (expr-lhs low)
+pub expr-step : (low : Depth) (q : List Error) (ts : List ℕ) → expr low q ts ≡ then q (try-assign-keyword q ts) (expr-lhs low)
 unfolding expr
 expr-step low q ts = refl
 
-module _ (low : Depth) (m : ℕ) (lhs : Tree) (q : List ℕ) {T : List ℕ} {pos k n v : ℕ} (at : Taken T pos k n v) {c : ℕ} (is : c ≡ assign-code k) where
+module _ (low : Depth) (m : ℕ) (lhs : Tree) (q : List Error) {T : List ℕ} {pos k n v : ℕ} (at : Taken T pos k n v) {c : ℕ} (is : c ≡ assign-code k) where
   pub expr-plain : c ≡ 0 → m ≡ 0 → expr-op low m lhs q (drop pos T) ≡ ok lhs (drop pos T)
   unfolding then ifb
   expr-plain e i = rw (at .same, eq-eqb _ _ (sym is ∙ e), eq-eqb _ _ i)

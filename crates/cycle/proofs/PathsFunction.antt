@@ -19,7 +19,7 @@ use Rattle.tree.specs.Store.{Emitted}
 use Rattle.tree.specs.Records.{Small, Smalls}
 use Rattle.grammar.specs.Laws.Kinds.{Holds, h-ok, h-fail, holds-then, holds-past, holds-if, depth-small, expr-small, atom-small, pattern-small}
 use Rattle.grammar.specs.Reading.Number
-use Rattle.grammar.specs.Reading.Result.{Res, ok, then, ifb}
+use Rattle.grammar.specs.Reading.Result.{Res, ok, then, ifb, Error}
 use Rattle.grammar.specs.Reading.Look.{look, expect, expect-pattern}
 use Rattle.grammar.specs.Reading.Pattern.{to-pattern, conv, last-of, front-of, by-item, receiver}
 use Rattle.tree.specs.Maybe.{pick}
@@ -30,7 +30,7 @@ use Rattle.grammar.specs.Reading.Function.{Param, required, variadic, default, 
 use Rattle.grammar.specs.Reading.Depth.{at-depth}
 use Rattle.pattern.specs.Contract.{Whole}
 use Rattle.nodes.specs.Parts.{Header, h-required, h-variadic, h-default, param-name, variadic-head, param-kind, param-head, join, signature-words, path-words}
-use Rattle.scan.specs.Post.{As, clean, Moved, Room, Failed, Wrote, Agrees, Unread, Taken, Stored, Writes}
+use Rattle.scan.specs.Post.{As, clean, Moved, Room, Failed, Wrote, Agrees, Unread, Taken, Stored, Writes, waiting-errors}
 use Rattle.nodes.specs.Ends.{Added, tree-value}
 use Rattle.nodes.specs.Lists.{Ends, keeps, gives, ClosableAs, Closable, Unders}
 use Rattle.cycle.specs.Lists.{Lists}
@@ -58,14 +58,14 @@ unfolding ifb
 plain-if true f g = f tt
 plain-if false f g = g tt
 
-plain-known : {A B : Type 0} (q : List ℕ) {d d₀ : Res A} → Plain d → d₀ ≡ d → (f g : A → List ℕ → List ℕ → Res B) → ((a : A) (r : List ℕ) → d₀ ≡ ok a r → f a q r ≡ g a q r) → then q d f ≡ then q d g
+plain-known : {A B : Type 0} (q : List Error) {d d₀ : Res A} → Plain d → d₀ ≡ d → (f g : A → List Error → List ℕ → Res B) → ((a : A) (r : List ℕ) → d₀ ≡ ok a r → f a q r ≡ g a q r) → then q d f ≡ then q d g
 unfolding then
 plain-known q an-ok e f g h = h _ _ e
 plain-known q a-fail e f g h = refl
 plain-known q a-stop e f g h = refl
 
 -- behind a look, whose token is known
-look-known : {B : Type 0} (q ts : List ℕ) (f g : Token → List ℕ → List ℕ → Res B) → ((tok : Token) (r : List ℕ) → look q ts ≡ ok tok r → f tok q r ≡ g tok q r) → then q (look q ts) f ≡ then q (look q ts) g
+look-known : {B : Type 0} (q : List Error) (ts : List ℕ) (f g : Token → List Error → List ℕ → Res B) → ((tok : Token) (r : List ℕ) → look q ts ≡ ok tok r → f tok q r ≡ g tok q r) → then q (look q ts) f ≡ then q (look q ts) g
 look-known q ts f g h = plain-known q (look-plain q ts) refl f g h
 
 -- a text that goes on behind «at» is that long, and leaves what stands before «at»
@@ -86,12 +86,12 @@ pub added-prefix : {at most r : ℕ} {words S S′ : List ℕ} → Added at most
 added-prefix {at} {most} {r} {words} {S} {S′} e h = prefix-of S S′ words at r (e .text) h
 
 -- ONE PARAMETER: its head, and what is made of it
-abbrev pub param-end : Depth → Header → List ℕ → List ℕ → Res Param
+abbrev pub param-end : Depth → Header → List Error → List ℕ → Res Param
 param-end low (h-required v) q r = ok (required v) r
 param-end low (h-variadic v) q r = ok (variadic v) r
 param-end low (h-default v) q r = then q (expr low q r) λ e q₂ s. ok (default v e) s
 
-module _ (low : Depth) (v : ℕ) (q : List ℕ) where
+module _ (low : Depth) (v : ℕ) (q : List Error) where
   variadic-step : (ts : List ℕ) → then q (variadic-head v q ts) (param-end low) ≡ variadic-param v q ts
   unfolding variadic-head variadic-param then
   variadic-step ts = look-then q ts _ _ _ λ tok r. then-if q _ _ _ _ ∙ if-same _ (λ u. refl) (λ u. refl)
@@ -107,15 +107,15 @@ module _ (low : Depth) (v : ℕ) (q : List ℕ) where
       (λ tok r. then-if q _ _ _ _ ∙ if-same _ (λ u. variadic-step r) (λ u. then-if q _ _ _ _ ∙ if-same _ (λ u. then-ok q _) (λ u. then-ok q _)))
       ∙ look-known q ts _ _ (λ tok r e. if-same _ (λ u. refl) (λ u. sym (plain-step ts e)))
 
-pub param-step : (low : Depth) (q ts : List ℕ) → param low q ts ≡ then q (param-head q ts) (param-end low)
+pub param-step : (low : Depth) (q : List Error) (ts : List ℕ) → param low q ts ≡ then q (param-head q ts) (param-end low)
 unfolding param param-head param-name
 param-step low q ts =
     sym (then-then q _ _ _ ∙ then-then q _ _ _ ∙ then-same q _ λ mode q₁ r. then-then q₁ _ _ _ ∙ then-same q₁ _ λ name q₂ s. then-ok q₂ _ ∙ kind-step low (Node.named (name .value) mode) q₂ s)
 
-pub param-got : (low : Depth) (make : ℕ → Header) (pos : ℕ) {T : List ℕ} {least p v : ℕ} → Header-at make (λ q. param-head q (drop pos T)) T least p v → (q : List ℕ) → param low q (drop pos T) ≡ param-end low (make v) q (drop p T)
+pub param-got : (low : Depth) (make : ℕ → Header) (pos : ℕ) {T : List ℕ} {least p v : ℕ} → Header-at make (λ q. param-head q (drop pos T)) T least p v → (q : List Error) → param low q (drop pos T) ≡ param-end low (make v) q (drop p T)
 param-got low make pos {T} {least} {p} g q = param-step low q (drop pos T) ∙ ap (λ (d : Res Header). then q d (param-end low)) (g .got .same q) ∙ then-ok q _ ∙ ap (λ (h : Header). param-end low h q (drop p T)) (g .is)
 
-module _ {d : List ℕ → Res Header} {T : List ℕ} {pos least w p v : ℕ} {h : Head} where
+module _ {d : List Error → Res Header} {T : List ℕ} {pos least w p v : ℕ} {h : Head} where
   pub head-required : h ≡ HRequired p v → Heads d T pos least w h → Header-at h-required d T least p v
   head-required e x = (rw e at x) .how
 
@@ -125,7 +125,7 @@ module _ {d : List ℕ → Res Header} {T : List ℕ} {pos least w p v : ℕ} {h
   pub head-default : h ≡ HDefault p v → Heads d T pos least w h → Header-at h-default d T least p v
   head-default e x = (rw e at x) .how
 
-pub no-head : {d : List ℕ → Res Header} {T : List ℕ} {pos least w : ℕ} {h : Head} {r : Step} → h ≡ HNot r → Heads d T pos least w h → Unread d T pos pos w r
+pub no-head : {d : List Error → Res Header} {T : List ℕ} {pos least w : ℕ} {h : Head} {r : Step} → h ≡ HNot r → Heads d T pos least w h → Unread d T pos pos w r
 no-head e x = (rw e at x) .how
 
 pub default-one : (X W : List ℕ) (v : ℕ) (t : Tree) {a r : ℕ} {Y S S′ : List ℕ} → Emitted a 282 v r S S′ → take a S ≡ Y ++ records t → Y ≡ X ++ W → take r S′ ≡ X ++ (W ++ records (Node.default-def v t))
@@ -171,7 +171,7 @@ pub closable : {d : Res Stmts} {T : List ℕ} {pos slack at w₀ : ℕ} {S Q S�
 closable {l = l} most h few g room = record { how = closable-as most few g room l h }
 
 -- D goes on from a list, which then stands under a record
-module _ {D : Res Tree} {d : Res Stmts} {T : List ℕ} {pos least slack at w₀ : ℕ} {S Q : List ℕ} {pos₁ slack₁ at₁ w₁ : ℕ} {S₁ Q₁ S₂ Q₂ S₃ : List ℕ} (tree make : Stmts → Tree) (word value most : ℕ) (path : As (take w₀ Q) D (take w₁ Q₁) (then (take w₁ Q₁) d (λ b q r. ok (make b) r)))
+module _ {D : Res Tree} {d : Res Stmts} {T : List ℕ} {pos least slack at w₀ : ℕ} {S Q : List ℕ} {pos₁ slack₁ at₁ w₁ : ℕ} {S₁ Q₁ S₂ Q₂ S₃ : List ℕ} (tree make : Stmts → Tree) (word value most : ℕ) (path : As (waiting-errors w₀ Q) D (waiting-errors w₁ Q₁) (then (waiting-errors w₁ Q₁) d (λ b q r. ok (make b) r)))
     (before : take at S₁ ≡ take at S) (text : (b : Stmts) → take at₁ S₁ ++ (records (tree b) ++ word ∷ value ∷ []) ≡ take at S ++ records (make b)) (within : at₁ ≤ length S₁) (l : Later pos least at w₀ pos₁ pos₁ at₁ w₁) (room : at₁ + 8 * pos + slack + most + 8 ≤ at + 8 * pos₁ + 8 + slack₁) where
   under-as : (b : Listed) (r : Step) → Lists d T pos₁ slack₁ at₁ w₁ S₁ Q₁ S₂ Q₂ b → Unders tree word value most S₂ S₃ b r → Agrees records D T pos least slack at w₀ S Q S₃ Q₂ r
   under-as (Suite p a w n last) (Done p′ b w′) h u =
@@ -217,16 +217,16 @@ module _ {D : Res Tree} {d : Res Stmts} {T : List ℕ} {pos least slack at w₀ 
 abbrev pub def-tree : ℕ → Params → Stmts → Tree
 def-tree name ps b = Node.function-def (Node.signature-def name (ps .required-list) (ps .default-list) (ps .variadic-one)) (block-of b)
 
-abbrev pub def-body : Depth → ℕ → Params → List ℕ → List ℕ → Res Tree
+abbrev pub def-body : Depth → ℕ → Params → List Error → List ℕ → Res Tree
 def-body low name ps q u = then q (body low q u) λ b q₄ x. ok (def-tree name ps b) x
 
-abbrev pub def-close : Depth → ℕ → Params → List ℕ → List ℕ → Res Tree
+abbrev pub def-close : Depth → ℕ → Params → List Error → List ℕ → Res Tree
 def-close low name ps q s = then q (expect Kind.CloseParen Number.params-closing q s) λ tok₂ q₃ u. def-body low name ps q₃ u
 
-abbrev pub def-params : Depth → ℕ → List ℕ → List ℕ → Res Tree
+abbrev pub def-params : Depth → ℕ → List Error → List ℕ → Res Tree
 def-params low name q r = then q (function-param-list low q r) (def-close low name)
 
-pub def-step : (low : Depth) (name : ℕ) (q ts : List ℕ) → function-def low name q ts ≡ then q (expect Kind.OpenParen Number.params-opening q ts) (λ tok q₁ r. def-params low name q₁ r)
+pub def-step : (low : Depth) (name : ℕ) (q : List Error) (ts : List ℕ) → function-def low name q ts ≡ then q (expect Kind.OpenParen Number.params-opening q ts) (λ tok q₁ r. def-params low name q₁ r)
 unfolding function-def
 def-step low name q ts = refl
 
@@ -234,21 +234,21 @@ pub def-text : (name : ℕ) (ps : Params) (b : Stmts) (X : List ℕ) {Y Z : List
 unfolding records count
 def-text name ps b X e f = rw (e, f) (simp (append-nil, append-assoc))
 
-pub stored-prefix : {A : Type 0} {words : A → List ℕ} {d : List ℕ → Res A} {T : List ℕ} {least most at₁ w₀ p a w : ℕ} {S′ : List ℕ} (at : ℕ) (S : List ℕ) → Stored words d T least most at₁ w₀ (take at S) p a w S′ → at ≤ length S → take at S′ ≡ take at S
+pub stored-prefix : {A : Type 0} {words : A → List ℕ} {d : List Error → Res A} {T : List ℕ} {least most at₁ w₀ p a w : ℕ} {S′ : List ℕ} (at : ℕ) (S : List ℕ) → Stored words d T least most at₁ w₀ (take at S) p a w S′ → at ≤ length S → take at S′ ≡ take at S
 stored-prefix {words = words} {a = a} {S′ = S′} at S s h = prefix-of S S′ (words (s .got .what)) at a (s .text) h
 
-pub stored-up : {A : Type 0} {words : A → List ℕ} {d : List ℕ → Res A} {T : List ℕ} {least most at₁ w₀ p a w : ℕ} {S′ : List ℕ} (at : ℕ) (S : List ℕ) → Stored words d T least most at₁ w₀ (take at S) p a w S′ → at ≤ length S → at ≤ a
+pub stored-up : {A : Type 0} {words : A → List ℕ} {d : List Error → Res A} {T : List ℕ} {least most at₁ w₀ p a w : ℕ} {S′ : List ℕ} (at : ℕ) (S : List ℕ) → Stored words d T least most at₁ w₀ (take at S) p a w S′ → at ≤ length S → at ≤ a
 stored-up {words = words} {a = a} {S′ = S′} at S s h =
     let u = up-of S S′ (words (s .got .what)) at a (s .text) h in
     omega arith
 
 -- TARGETS
-pub target-step : (low : Depth) (q ts : List ℕ) → function-assignment-target low q ts ≡ then q (atom low q ts) (λ a q₁ r. then q₁ (path low false (length r) none q₁ r) λ f q₂ s. expect-pattern Number.function-target (to-pattern (with-path a f)) q₂ s)
+pub target-step : (low : Depth) (q : List Error) (ts : List ℕ) → function-assignment-target low q ts ≡ then q (atom low q ts) (λ a q₁ r. then q₁ (path low false (length r) none q₁ r) λ f q₂ s. expect-pattern Number.function-target (to-pattern (with-path a f)) q₂ s)
 unfolding function-assignment-target
 target-step low q ts = refl
 
 -- where D ends by a function that writes, without a word more
-module _ {A : Type 0} {words : A → List ℕ} {D : Res A} {d : List ℕ → Res A} {T : List ℕ} {pos slack at w₀ : ℕ} {S Q S₂ Q₂ S₃ : List ℕ} {p a w : ℕ} (on : As (take w₀ Q) D (take w Q₂) (d (take w Q₂))) (before : take at S₂ ≡ take at S) (within : at ≤ length S₂) (m : Moved (length T) pos w₀ p w (length Q₂)) (room : Room pos at slack p a) where
+module _ {A : Type 0} {words : A → List ℕ} {D : Res A} {d : List Error → Res A} {T : List ℕ} {pos slack at w₀ : ℕ} {S Q S₂ Q₂ S₃ : List ℕ} {p a w : ℕ} (on : As (waiting-errors w₀ Q) D (waiting-errors w Q₂) (d (waiting-errors w Q₂))) (before : take at S₂ ≡ take at S) (within : at ≤ length S₂) (m : Moved (length T) pos w₀ p w (length Q₂)) (room : Room pos at slack p a) where
   written-as : (r : Step) → Writes words d T p p 0 a w (take at S₂) S₂ S₃ r → Agrees words D T pos pos slack at w₀ S Q S₃ Q₂ r
   written-as (Done p′ a′ w′) h =
       let x = h .how in
@@ -288,16 +288,16 @@ unfolding Small
 with-path-small a none h g = h
 with-path-small a (more i f) h g = search (arith, h, g)
 
-member-small : (q : List ℕ) (ts : List ℕ) → Holds Small (member-access q ts)
+member-small : (q : List Error) (ts : List ℕ) → Holds Small (member-access q ts)
 unfolding member-access Small
 member-small q ts = holds-past q (expect _ _ q ts) λ tok q₁ r. h-ok (search arith)
 
 module _ (d : ℕ) where
-  indexing-small : (q : List ℕ) (ts : List ℕ) → Holds Small (indexing-expr (at-depth d) q ts)
+  indexing-small : (q : List Error) (ts : List ℕ) → Holds Small (indexing-expr (at-depth d) q ts)
   unfolding indexing-expr
   indexing-small q ts = holds-then q (expr-small (at-depth d) (depth-small d) q ts) λ e q₁ r x. holds-past q₁ (expect _ _ q₁ r) λ tok q₂ s. h-ok x
 
-  path-small : (n : ℕ) (f : Forest) (q : List ℕ) (ts : List ℕ) → Smalls f → Holds Smalls (path (at-depth d) false n f q ts)
+  path-small : (n : ℕ) (f : Forest) (q : List Error) (ts : List ℕ) → Smalls f → Holds Smalls (path (at-depth d) false n f q ts)
   unfolding path
   path-small zero f q ts h = h-fail
   path-small (suc n) f q ts h =
@@ -306,7 +306,7 @@ module _ (d : ℕ) where
       holds-if _ (λ _. holds-then q (indexing-small q rest) λ e q₂ r x. path-small n (snoc f (Node.index e)) q₂ r (smalls-snoc f _ h (index-small e x))) λ _.
       holds-no _ _ (holds-no _ _ (h-ok h))
 
-  pub target-small : (q : List ℕ) (ts : List ℕ) → Holds Small (function-assignment-target (at-depth d) q ts)
+  pub target-small : (q : List Error) (ts : List ℕ) → Holds Small (function-assignment-target (at-depth d) q ts)
   unfolding function-assignment-target
   target-small q ts =
       holds-then q (atom-small (at-depth d) (depth-small d) q ts) λ a q₁ r x.
@@ -314,8 +314,8 @@ module _ (d : ℕ) where
       pattern-small _ q₂ s (with-path a f) (with-path-small a f x y)
 
   -- an atom and its path in the store
-  pub stands : {T : List ℕ} {pos least slack at w₀ : ℕ} {S Q : List ℕ} {p a w : ℕ} {S₁ Q₁ : List ℕ} {least₁ slack₁ p₂ a₂ w₂ : ℕ} {S₂ Q₂ : List ℕ} (g : Wrote records (atom (at-depth d) (take w₀ Q) (drop pos T)) clean T pos least slack at w₀ S Q p a w S₁ Q₁)
-      (h : Wrote path-words (path (at-depth d) false (length (drop p T)) none (take w Q₁) (drop p T)) clean T p least₁ slack₁ a w S₁ Q₁ p₂ a₂ w₂ S₂ Q₂) → at ≤ length S → a ≤ length S₁ → a₂ ≤ length S₂ → Whole (with-path (g .what) (h .what)) S₂ at a₂
+  pub stands : {T : List ℕ} {pos least slack at w₀ : ℕ} {S Q : List ℕ} {p a w : ℕ} {S₁ Q₁ : List ℕ} {least₁ slack₁ p₂ a₂ w₂ : ℕ} {S₂ Q₂ : List ℕ} (g : Wrote records (atom (at-depth d) (waiting-errors w₀ Q) (drop pos T)) clean T pos least slack at w₀ S Q p a w S₁ Q₁)
+      (h : Wrote path-words (path (at-depth d) false (length (drop p T)) none (waiting-errors w Q₁) (drop p T)) clean T p least₁ slack₁ a w S₁ Q₁ p₂ a₂ w₂ S₂ Q₂) → at ≤ length S → a ≤ length S₁ → a₂ ≤ length S₂ → Whole (with-path (g .what) (h .what)) S₂ at a₂
   stands {at = at} {S = S} {a = a} {S₁ = S₁} {a₂ = a₂} {S₂ = S₂} g h i j k =
       let o = g .room in
       let o₂ = h .room in
@@ -332,21 +332,21 @@ unfolding ifb
 if-false x y = refl
 
 -- PARAMETERS: what is read of one joins those before it
-joined-plain : (ps : Params) (x : Param) (k : ℕ) (q ts : List ℕ) → Plain (joined ps x k q ts)
+joined-plain : (ps : Params) (x : Param) (k : ℕ) (q : List Error) (ts : List ℕ) → Plain (joined ps x k q ts)
 unfolding joined
 joined-plain ps (required v) k q ts = plain-if _ (λ u. plain-if _ (λ u. an-ok) (λ u. a-fail)) (λ u. a-fail)
 joined-plain ps (variadic v) k q ts = plain-if _ (λ u. a-fail) (λ u. plain-if _ (λ u. an-ok) (λ u. a-fail))
 joined-plain ps (default v e) k q ts = plain-if _ (λ u. an-ok) (λ u. a-fail)
 
-join-step : (low : Depth) (n : ℕ) (ps : Params) (x : Param) (q ts : List ℕ) → then q (join ps x q ts) (λ ps₂ q₃ s. params low n ps₂ q₃ s) ≡ then q (look q ts) (λ tok₂ q₃ rest₂. then q (joined ps x (tok₂ .kind) q ts) λ ps₂ q₄ s. ifb (eqb (tok₂ .kind) Kind.Comma) (λ _. params low n ps₂ q rest₂) (λ _. params low n ps₂ q ts))
+join-step : (low : Depth) (n : ℕ) (ps : Params) (x : Param) (q : List Error) (ts : List ℕ) → then q (join ps x q ts) (λ ps₂ q₃ s. params low n ps₂ q₃ s) ≡ then q (look q ts) (λ tok₂ q₃ rest₂. then q (joined ps x (tok₂ .kind) q ts) λ ps₂ q₄ s. ifb (eqb (tok₂ .kind) Kind.Comma) (λ _. params low n ps₂ q rest₂) (λ _. params low n ps₂ q ts))
 unfolding join
 join-step low n ps x q ts =
     look-then q ts _ _ _ λ tok r. plain-then q (joined-plain ps x (tok .kind) q ts) _ _ _ λ ps₂ s. then-if q _ _ _ _ ∙ if-same _ (λ u. then-ok q _) (λ u. then-ok q _)
 
-abbrev params-go : Depth → ℕ → Params → List ℕ → List ℕ → Res Params
+abbrev params-go : Depth → ℕ → Params → List Error → List ℕ → Res Params
 params-go low n ps q ts = then q (param low q ts) λ x q₂ r. then q₂ (join ps x q₂ r) λ ps₂ q₃ s. params low n ps₂ q₃ s
 
-module _ (low : Depth) (ps : Params) (q : List ℕ) where
+module _ (low : Depth) (ps : Params) (q : List Error) where
   params-suc : (n : ℕ) (ts : List ℕ) → params low (suc n) ps q ts ≡ then q (look q ts) (λ tok q₁ rest. ifb (eqb (tok .kind) Kind.CloseParen) (λ _. ok ps ts) λ _. params-go low n ps q ts)
   unfolding params
   params-suc n ts = look-same q ts _ _ λ tok r. if-same _ (λ u. refl) (λ u. then-same q _ λ x q₂ s. sym (join-step low n ps x q₂ s))
@@ -395,11 +395,11 @@ default-text at a a₁ m n v S₀ S S₁ ps x fits e g =
     ∙ ap (λ (y : List ℕ). take at S₀ ++ y) (default-words-are (ps .required-list) (ps .default-list) m n (Node.default-def (x .name) (x .value)) (fits .are-required) (fits .are-default))
 
 -- what joins as a default is one
-joins-default : (ps : Params) (x : ℕ) (e : Tree) (q ts : List ℕ) → Holds (λ p. p ≡ with-default ps x e) (join ps (default x e) q ts)
+joins-default : (ps : Params) (x : ℕ) (e : Tree) (q : List Error) (ts : List ℕ) → Holds (λ p. p ≡ with-default ps x e) (join ps (default x e) q ts)
 unfolding join joined
 joins-default ps x e q ts = holds-past q (look q ts) λ tok q₁ rest. holds-then q (holds-if _ (λ _. h-ok refl) (λ _. h-fail)) λ ps₂ q₂ s z. holds-if _ (λ _. h-ok z) (λ _. h-ok z)
 
-join-default : (ps : Params) (x : ℕ) (e : Tree) (q ts r : List ℕ) (ps₂ : Params) → join ps (default x e) q ts ≡ ok ps₂ r → ps₂ ≡ with-default ps x e
+join-default : (ps : Params) (x : ℕ) (e : Tree) (q : List Error) (ts r : List ℕ) (ps₂ : Params) → join ps (default x e) q ts ≡ ok ps₂ r → ps₂ ≡ with-default ps x e
 join-default ps x e q ts r ps₂ i = given (joins-default ps x e q ts) (way q i)
 
 -- ONE ROUND of the loop
@@ -411,9 +411,9 @@ pub record Round (D : Res Params) (low : Depth) (fuel : ℕ) (T : List ℕ) (pos
   pub far : p₀ + 2 ≤ p
 
 module _ {D : Res Params} (low : Depth) (fuel : ℕ) {T : List ℕ} {pos at w₀ : ℕ} {S₀ Q₀ : List ℕ} {p a w m n v : ℕ} {S Q S₁ Q₁ S₂ : List ℕ} (g : Wrote params-words D (params low fuel) T pos pos 8 at w₀ S₀ Q₀ p a w S Q) (fits : Fitting (g .what) m n v) (few : 2 * (m + n) ≤ p)
-    (on : As (take w₀ Q₀) D (take w Q) (params-go low (fuel - 1) (g .what) (take w Q) (drop p T))) (start : at ≤ length S₀) (within : a ≤ length S) (same-length : length S₁ ≡ length S) (same-length₂ : length S₂ ≡ length S) (space : a + 8 * (length T - p) + 8 ≤ length S) where
+    (on : As (waiting-errors w₀ Q₀) D (waiting-errors w Q) (params-go low (fuel - 1) (g .what) (waiting-errors w Q) (drop p T))) (start : at ≤ length S₀) (within : a ≤ length S) (same-length : length S₁ ≡ length S) (same-length₂ : length S₂ ≡ length S) (space : a + 8 * (length T - p) + 8 ≤ length S) where
   -- a parameter that writes nothing
-  bare : {make : ℕ → Param} {p₁ w₁ x p₂ a₂ w₂ m₂ n₂ v₂ : ℕ} → Parameter-at make (param low (take w Q) (drop p T)) T p a w S Q p₁ w₁ x S₁ Q₁ → Joins-to (λ q. join (g .what) (make x) q (drop p₁ T)) (take at S₀) T p₁ (m + n) a w₁ S₂ p₂ a₂ w₂ m₂ n₂ v₂ → Round D low (fuel - 1) T pos at w₀ S₀ Q₀ p p₂ a₂ w₂ m₂ n₂ v₂ S₂ Q₁
+  bare : {make : ℕ → Param} {p₁ w₁ x p₂ a₂ w₂ m₂ n₂ v₂ : ℕ} → Parameter-at make (param low (waiting-errors w Q) (drop p T)) T p a w S Q p₁ w₁ x S₁ Q₁ → Joins-to (λ q. join (g .what) (make x) q (drop p₁ T)) (take at S₀) T p₁ (m + n) a w₁ S₂ p₂ a₂ w₂ m₂ n₂ v₂ → Round D low (fuel - 1) T pos at w₀ S₀ Q₀ p p₂ a₂ w₂ m₂ n₂ v₂ S₂ Q₁
   bare h j =
       let r = h .run in
       let mv = r .moved in
@@ -435,7 +435,7 @@ module _ {D : Res Params} (low : Depth) (fuel : ℕ) {T : List ℕ} {pos at w₀
       }
 
   -- one with a default
-  full : {p₁ a₁ w₁ p₂ a₂ w₂ m₂ n₂ v₂ : ℕ} (h : Wrote (default-words m n) (param low (take w Q) (drop p T)) (λ x q r. ok (default (x .name) (x .value)) r) T p (p + 2) 8 a w S Q p₁ a₁ w₁ S₁ Q₁)
+  full : {p₁ a₁ w₁ p₂ a₂ w₂ m₂ n₂ v₂ : ℕ} (h : Wrote (default-words m n) (param low (waiting-errors w Q) (drop p T)) (λ x q r. ok (default (x .name) (x .value)) r) T p (p + 2) 8 a w S Q p₁ a₁ w₁ S₁ Q₁)
       → Joins-to (λ q. join (g .what) (default (h .what .name) (h .what .value)) q (drop p₁ T)) (take at S₀) T p₁ (m + n) a₁ w₁ S₂ p₂ a₂ w₂ m₂ n₂ v₂ → Round D low (fuel - 1) T pos at w₀ S₀ Q₀ p p₂ a₂ w₂ m₂ n₂ v₂ S₂ Q₁
   full {p₁} {a₁} {w₁} {p₂} {a₂} h j =
       let mv = h .moved in
@@ -461,20 +461,20 @@ module _ {D : Res Params} (low : Depth) (fuel : ℕ) {T : List ℕ} {pos at w₀
         far = omega arith;
       }
 
-  round-as : {p₂ a₂ w₂ m₂ n₂ v₂ : ℕ} (one : Parameter) (r : Joined) → r ≡ To p₂ a₂ w₂ m₂ n₂ v₂ → Params-read (param low (take w Q) (drop p T)) T p m n a w S Q S₁ Q₁ one → Joined-by T m n v a S₁ S₂ one r → Round D low (fuel - 1) T pos at w₀ S₀ Q₀ p p₂ a₂ w₂ m₂ n₂ v₂ S₂ Q₁
+  round-as : {p₂ a₂ w₂ m₂ n₂ v₂ : ℕ} (one : Parameter) (r : Joined) → r ≡ To p₂ a₂ w₂ m₂ n₂ v₂ → Params-read (param low (waiting-errors w Q) (drop p T)) T p m n a w S Q S₁ Q₁ one → Joined-by T m n v a S₁ S₂ one r → Round D low (fuel - 1) T pos at w₀ S₀ Q₀ p p₂ a₂ w₂ m₂ n₂ v₂ S₂ Q₁
   round-as (PRequired p₁ w₁ x) r e h j = bare (h .how) ((rw e at (j .how (take at S₀) (g .what) fits (plain-text at a S₀ S S₁ (params-words (g .what)) (h .how .run .text) (g .text)))) .how)
   round-as (PVariadic p₁ w₁ x) r e h j = bare (h .how) ((rw e at (j .how (take at S₀) (g .what) fits (plain-text at a S₀ S S₁ (params-words (g .what)) (h .how .run .text) (g .text)))) .how)
   round-as (PDefault p₁ a₁ w₁) r e h j = let k = h .how in full k ((rw e at (j .how (take at S₀) (g .what) (k .what .name) (k .what .value) fits (default-text at a a₁ m n v S₀ S S₁ (g .what) (k .what) fits (k .text) (g .text)))) .how)
   round-as (PNot s) r e h j = absurd (let i = sym e ∙ j .how .0 in let z : _≡_ {A = ℕ} 0 1 = cc in omega arith)
 
-  pub round : {p₂ a₂ w₂ m₂ n₂ v₂ : ℕ} {one : Parameter} {r : Joined} → r ≡ To p₂ a₂ w₂ m₂ n₂ v₂ → Params-read (param low (take w Q) (drop p T)) T p m n a w S Q S₁ Q₁ one → Joined-by T m n v a S₁ S₂ one r → Round D low (fuel - 1) T pos at w₀ S₀ Q₀ p p₂ a₂ w₂ m₂ n₂ v₂ S₂ Q₁
+  pub round : {p₂ a₂ w₂ m₂ n₂ v₂ : ℕ} {one : Parameter} {r : Joined} → r ≡ To p₂ a₂ w₂ m₂ n₂ v₂ → Params-read (param low (waiting-errors w Q) (drop p T)) T p m n a w S Q S₁ Q₁ one → Joined-by T m n v a S₁ S₂ one r → Round D low (fuel - 1) T pos at w₀ S₀ Q₀ p p₂ a₂ w₂ m₂ n₂ v₂ S₂ Q₁
   round {one = one} {r = r} e h j = round-as one r e h j
 
   -- none joined
-  apart : {d : List ℕ → Res Params} {p₁ w₁ : ℕ} {s : Step} → As (take w₀ Q₀) D (take w₁ Q₁) (then (take w₁ Q₁) (d (take w₁ Q₁)) (λ ps₂ q₃ r. params low (fuel - 1) ps₂ q₃ r)) → Unjoined d T p₁ w₁ S₁ S₂ s → take at S₁ ≡ take at S₀ → Beyond pos pos w₀ p₁ p₁ w₁ (length Q₁) → Failed D T pos pos at w₀ S₀ Q₀ S₂ Q₁ s
+  apart : {d : List Error → Res Params} {p₁ w₁ : ℕ} {s : Step} → As (waiting-errors w₀ Q₀) D (waiting-errors w₁ Q₁) (then (waiting-errors w₁ Q₁) (d (waiting-errors w₁ Q₁)) (λ ps₂ q₃ r. params low (fuel - 1) ps₂ q₃ r)) → Unjoined d T p₁ w₁ S₁ S₂ s → take at S₁ ≡ take at S₀ → Beyond pos pos w₀ p₁ p₁ w₁ (length Q₁) → Failed D T pos pos at w₀ S₀ Q₀ S₂ Q₁ s
   apart a u x b = lacks _ (u .unread) a (ap (take at) (u .text) ∙ x) b
 
-  unjoined-as : {s : Step} (one : Parameter) (r : Joined) → r ≡ JNot s → Params-read (param low (take w Q) (drop p T)) T p m n a w S Q S₁ Q₁ one → Joined-by T m n v a S₁ S₂ one r → Failed D T pos pos at w₀ S₀ Q₀ S₂ Q₁ s
+  unjoined-as : {s : Step} (one : Parameter) (r : Joined) → r ≡ JNot s → Params-read (param low (waiting-errors w Q) (drop p T)) T p m n a w S Q S₁ Q₁ one → Joined-by T m n v a S₁ S₂ one r → Failed D T pos pos at w₀ S₀ Q₀ S₂ Q₁ s
   unjoined-as (PRequired p₁ w₁ x) r e h j =
       let k = h .how .run in
       let t = plain-text at a S₀ S S₁ (params-words (g .what)) (k .text) (g .text) in
@@ -501,7 +501,7 @@ module _ {D : Res Params} (low : Depth) (fuel : ℕ) {T : List ℕ} {pos at w₀
       let f : Failed D T pos pos at w₀ S₀ Q₀ S₁ Q₁ s′ = fails _ on (h .how) (prefix g start) (omega arith) in
       rw (← c, j .how .1) f
 
-  pub unjoined : {s : Step} {one : Parameter} {r : Joined} → r ≡ JNot s → Params-read (param low (take w Q) (drop p T)) T p m n a w S Q S₁ Q₁ one → Joined-by T m n v a S₁ S₂ one r → Failed D T pos pos at w₀ S₀ Q₀ S₂ Q₁ s
+  pub unjoined : {s : Step} {one : Parameter} {r : Joined} → r ≡ JNot s → Params-read (param low (waiting-errors w Q) (drop p T)) T p m n a w S Q S₁ Q₁ one → Joined-by T m n v a S₁ S₂ one r → Failed D T pos pos at w₀ S₀ Q₀ S₂ Q₁ s
   unjoined {one = one} {r = r} e h j = unjoined-as one r e h j
 
 -- what may join
@@ -527,11 +527,11 @@ unfolding records
 no-words-yet X = sym (append-nil X)
 
 -- DECLARATIONS
-pub decl-looks : (low : Depth) (q ts : List ℕ) → Looks q ts (function-decl-expr low q ts)
+pub decl-looks : (low : Depth) (q : List Error) (ts : List ℕ) → Looks q ts (function-decl-expr low q ts)
 unfolding function-decl-expr
 decl-looks low q ts = record { go = _; is = refl }
 
-module _ (low : Depth) (q : List ℕ) {T : List ℕ} {pos k n v : ℕ} (at : Taken T pos k n v) where
+module _ (low : Depth) (q : List Error) {T : List ℕ} {pos k n v : ℕ} (at : Taken T pos k n v) where
   pub decl-open : k ≡ Kind.OpenParen → function-decl-expr low q (drop pos T) ≡ function-def low 0 q (drop pos T)
   unfolding function-decl-expr then ifb
   decl-open e = rw (at .same, eq-eqb _ _ e)
@@ -540,7 +540,7 @@ module _ (low : Depth) (q : List ℕ) {T : List ℕ} {pos k n v : ℕ} (at : Tak
   unfolding function-decl-expr then ifb
   decl-target e = rw (at .same, ne-eqb _ _ e)
 
-pub decl-name : (low : Depth) (p : Tree) {n : ℕ} → n ≡ target-name p → (q r : List ℕ) → then q (function-def low (target-name p) q r) (λ d q₃ s. ok (Node.assignment 2 0 p d) s) ≡ then q (function-def low n q r) (λ d q₃ s. ok (Node.assignment 2 0 p d) s)
+pub decl-name : (low : Depth) (p : Tree) {n : ℕ} → n ≡ target-name p → (q : List Error) (r : List ℕ) → then q (function-def low (target-name p) q r) (λ d q₃ s. ok (Node.assignment 2 0 p d) s) ≡ then q (function-def low n q r) (λ d q₃ s. ok (Node.assignment 2 0 p d) s)
 decl-name low p e q r = ap (λ (m : ℕ). then q (function-def low m q r) (λ d q₃ s. ok (Node.assignment 2 0 p d) s)) (sym e)
 
 -- THE NAME of a target is its first token's, if it is a name alone
@@ -558,14 +558,14 @@ unfolding ifb
 holds-test true f g = f refl tt
 holds-test false f g = g tt
 
-literal-named : (tok : Token) (q rest : List ℕ) → Holds (Named (tok .kind) (tok .value)) (literal tok q rest)
+literal-named : (tok : Token) (q : List Error) (rest : List ℕ) → Holds (Named (tok .kind) (tok .value)) (literal tok q rest)
 unfolding literal conv
 literal-named tok q rest =
     holds-test _ (λ e u. h-ok (the-name (eqb-true _ _ e))) λ _.
     holds-if _ (λ _. h-ok (no-name refl)) λ _. holds-if _ (λ _. h-ok (no-name refl)) λ _. holds-if _ (λ _. h-ok (no-name refl)) λ _.
     holds-if _ (λ _. h-ok (no-name refl)) λ _. holds-if _ (λ _. h-ok (no-name refl)) λ _. holds-if _ (λ _. h-ok (no-name refl)) λ _. h-fail
 
-atom-named : (low : Depth) (q : List ℕ) {T : List ℕ} {pos k n v : ℕ} → Taken T pos k n v → (k ≡ Kind.OpenParen → ⊥) → Holds (Named k v) (atom low q (drop pos T))
+atom-named : (low : Depth) (q : List Error) {T : List ℕ} {pos k n v : ℕ} → Taken T pos k n v → (k ≡ Kind.OpenParen → ⊥) → Holds (Named k v) (atom low q (drop pos T))
 unfolding atom then ifb
 atom-named low q {T} {pos} {k} {n} {v} at e = rw (at .same, ne-eqb _ _ e) (literal-named (record { kind = k; newline = n; value = v }) q (drop (pos + 2) T))
 
@@ -587,7 +587,7 @@ path-other : (a i : Tree) (f : Forest) → Other (to-pattern (Node.primary a (mo
 unfolding conv
 path-other a i f = item-other (receiver 0 a 0 (front-of i f)) (last-of i f)
 
-expect-other : {k v : ℕ} (e : ℕ) (m : Maybe Tree) (q ts : List ℕ) → Other m → Holds (Names k v) (expect-pattern e m q ts)
+expect-other : {k v : ℕ} (e : ℕ) (m : Maybe Tree) (q : List Error) (ts : List ℕ) → Other m → Holds (Names k v) (expect-pattern e m q ts)
 unfolding expect-pattern
 expect-other e nothing q ts is-none = h-fail
 expect-other e (just t) q ts (is-other h) = h-ok (λ x. absurd (h x))
@@ -596,19 +596,19 @@ name-pattern : (v : ℕ) → to-pattern (Node.identifier v) ≡ just (node NodeK
 unfolding conv
 name-pattern v = refl
 
-expect-name : {k v : ℕ} (e : ℕ) (m : Maybe Tree) (q ts : List ℕ) → k ≡ Kind.Identifier → m ≡ just (node NodeKind.IdentifierPattern v none) → Holds (Names k v) (expect-pattern e m q ts)
+expect-name : {k v : ℕ} (e : ℕ) (m : Maybe Tree) (q : List Error) (ts : List ℕ) → k ≡ Kind.Identifier → m ≡ just (node NodeKind.IdentifierPattern v none) → Holds (Names k v) (expect-pattern e m q ts)
 unfolding expect-pattern
 expect-name e m q ts i j = rw j (h-ok (λ x. (i, refl)))
 
-expect-none : {k v : ℕ} (e : ℕ) (m : Maybe Tree) (q ts : List ℕ) → m ≡ nothing → Holds (Names k v) (expect-pattern e m q ts)
+expect-none : {k v : ℕ} (e : ℕ) (m : Maybe Tree) (q : List Error) (ts : List ℕ) → m ≡ nothing → Holds (Names k v) (expect-pattern e m q ts)
 unfolding expect-pattern
 expect-none e m q ts j = rw j h-fail
 
-pattern-named : {k v : ℕ} (e : ℕ) (a : Tree) (f : Forest) (q ts : List ℕ) → Named k v a → Holds (Names k v) (expect-pattern e (to-pattern (with-path a f)) q ts)
+pattern-named : {k v : ℕ} (e : ℕ) (a : Tree) (f : Forest) (q : List Error) (ts : List ℕ) → Named k v a → Holds (Names k v) (expect-pattern e (to-pattern (with-path a f)) q ts)
 pattern-named {k} {v} e a none q ts (the-name i) = expect-name e _ q ts i (name-pattern v)
 pattern-named e a none q ts (no-name j) = expect-none e _ q ts j
 pattern-named e a (more i f) q ts h = expect-other e _ q ts (path-other a i f)
 
-pub target-named : (low : Depth) (q : List ℕ) {T : List ℕ} {pos k n v : ℕ} → Taken T pos k n v → (k ≡ Kind.OpenParen → ⊥) → Holds (Names k v) (function-assignment-target low q (drop pos T))
+pub target-named : (low : Depth) (q : List Error) {T : List ℕ} {pos k n v : ℕ} → Taken T pos k n v → (k ≡ Kind.OpenParen → ⊥) → Holds (Names k v) (function-assignment-target low q (drop pos T))
 unfolding function-assignment-target
 target-named low q at e = holds-then q (atom-named low q at e) λ a q₁ r x. holds-past q₁ (path low false (length r) none q₁ r) λ f q₂ s. pattern-named _ a f q₂ s x

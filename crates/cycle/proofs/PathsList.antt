@@ -17,16 +17,16 @@ use Rattle.tree.specs.Store.{Emitted}
 use Rattle.tree.specs.Tree.{Tree, Forest, node, none, more, one, snoc, count, records, all-records, kind-of}
 use Rattle.tree.specs.Records.{Small}
 use Rattle.tree.specs.Node
-use Rattle.grammar.specs.Reading.Limit.{too-deep}
+use Rattle.grammar.specs.Reading.Limit.{too-deep, queue-limit}
 use Rattle.grammar.specs.Reading.Number
-use Rattle.grammar.specs.Reading.Result.{Res, ok, bad, fail, stop, spoil, either, then, ifb, push, pop}
+use Rattle.grammar.specs.Reading.Result.{Res, ok, bad, fail, stop, spoil, either, then, ifb, push, pop, Error}
 use Rattle.grammar.specs.Reading.Look.{looked, look, try-label}
 use Rattle.grammar.specs.Reading.Expr.{Depth, Stmts, expr}
 use Rattle.grammar.specs.Reading.Block.{whole, split-before, split-last, split}
 use Rattle.grammar.specs.Reading.Stmt.{ends, control-value, is-control, control-flow, starts-stmt, control-last, synchronize, synchronized, stmt, caught, stmts}
 use Rattle.grammar.specs.Reading.Depth.{at-depth}
 use Rattle.grammar.specs.Laws.Kinds.{Holds, h-ok, h-bad, h-fail, h-stop, holds-past, holds-if, stmt-small, depth-small}
-use Rattle.scan.specs.Post.{won, out, As, no-words, Failed, Wrote, Agrees, Taken, Missed, Queues, Resumes}
+use Rattle.scan.specs.Post.{won, out, As, no-words, Failed, Wrote, Agrees, Taken, Missed, Queues, Resumes, waiting-errors}
 use Rattle.cycle.specs.Parts.{Place, a-stmt, a-control, a-caught, resume, turn, control-words}
 use Rattle.scan.specs.Parts.{closed-step, resumed-step}
 use Rattle.nodes.specs.Ends.{Marked, statement, no-statement}
@@ -41,11 +41,11 @@ use Rattle.scan.proofs.Laws.{Looks, way, link, spoiled, goes, shorter, fails, e
 use Rattle.cycle.proofs.Shapes.{given}
 
 -- the value of a control
-pub value-looks : (low : Depth) (q ts : List ℕ) → Looks q ts (control-value low q ts)
+pub value-looks : (low : Depth) (q : List Error) (ts : List ℕ) → Looks q ts (control-value low q ts)
 unfolding control-value
 value-looks low q ts = record { go = _; is = refl }
 
-module _ (low : Depth) (q : List ℕ) {T : List ℕ} {pos k n v : ℕ} (at : Taken T pos k n v) where
+module _ (low : Depth) (q : List Error) {T : List ℕ} {pos k n v : ℕ} (at : Taken T pos k n v) where
   pub value-none : (ends 1 k || eqb k Kind.Semicolon) ≡ true → control-value low q (drop pos T) ≡ ok Node.absent (drop pos T)
   unfolding control-value then ifb
   value-none e = rw (at .same, e)
@@ -55,10 +55,10 @@ module _ (low : Depth) (q : List ℕ) {T : List ℕ} {pos k n v : ℕ} (at : Tak
   value-some e = rw (at .same, e)
 
 -- a control, behind its label
-unfoldable pub label-go : Depth → ℕ → ℕ → List ℕ → List ℕ → Res Tree
+unfoldable pub label-go : Depth → ℕ → ℕ → List Error → List ℕ → Res Tree
 label-go low k l q r = ifb (eqb k Kind.Continue) (λ _. ok (Node.continue l) r) (λ _. then q (control-value low q r) λ e q₂ s. ok (Node.break l e) s)
 
-module _ (low : Depth) (k : ℕ) (q ts : List ℕ) where
+module _ (low : Depth) (k : ℕ) (q : List Error) (ts : List ℕ) where
   pub control-return : k ≡ Kind.Return → control-flow low k q ts ≡ then q (control-value low q ts) (λ e q₁ r. ok (Node.return e) r)
   unfolding control-flow ifb
   control-return e = rw e
@@ -76,7 +76,7 @@ module _ (low : Depth) (k : ℕ) (q ts : List ℕ) where
   unfolding control-flow label-go
   control-label e h = label-by (eqb k Kind.Continue) (eqb k Kind.Break) (eqb k Kind.Return) (try-label q ts) _ h (ne-eqb _ _ e)
 
-module _ (low : Depth) (k : ℕ) (q r : List ℕ) {x l : ℕ} where
+module _ (low : Depth) (k : ℕ) (q : List Error) (r : List ℕ) {x l : ℕ} where
   pub label-continue : k ≡ Kind.Continue → x ≡ l → label-go low k x q r ≡ ok (Node.continue l) r
   unfolding label-go ifb
   label-continue e h = rw (e, h)
@@ -93,13 +93,13 @@ fuel-some : (T : List ℕ) (fuel p : ℕ) → length T ≤ p + fuel → p + 2 �
 fuel-some T fuel p enough h = omega arith
 
 -- resynchronization
-abbrev pub sync-no : Depth → Bool → ℕ → ℕ → List ℕ → List ℕ → Res (Unit {0})
+abbrev pub sync-no : Depth → Bool → ℕ → ℕ → List Error → List ℕ → Res (Unit {0})
 sync-no low inside fuel e q r = synchronize low inside fuel q r
 
 abbrev halts-at : Bool → ℕ → Bool
 halts-at inside k = starts-stmt k || (inside && eqb k Kind.End)
 
-module _ (low : Depth) (inside : Bool) (q : List ℕ) where
+module _ (low : Depth) (inside : Bool) (q : List Error) where
   sync-suc : (fuel : ℕ) (ts : List ℕ) → synchronize low inside (suc fuel) q ts
       ≡ either q (look q ts) (λ tok q₁ rest. ifb (halts-at inside (tok .kind)) (λ _. ok tt ts) (λ _. either q (expr low q ts) (λ t q₂ r. ok tt r) (sync-no low inside fuel))) (λ e q₁ r. ifb (eqb e Number.end-of-tokens) (λ _. ok tt ts) (λ _. synchronize low inside fuel q₁ r))
   unfolding synchronize
@@ -146,20 +146,20 @@ module _ (low : Depth) (inside : Bool) (q : List ℕ) where
       unfolding ifb
       sync-try e = ap (λ (n : ℕ). synchronize low inside n q (drop p T)) (sym (fuel-some T fuel p enough (at .within))) ∙ sync-taken (fuel - 1) (drop p T) (at .same q) ∙ rw e
 
-sync-stops : (low : Depth) (inside : Bool) (q : List ℕ) (fuel : ℕ) (ts : List ℕ) {n : ℕ} → length ts ≤ fuel → look q ts ≡ stop n → synchronize low inside fuel q ts ≡ stop n
+sync-stops : (low : Depth) (inside : Bool) (q : List Error) (fuel : ℕ) (ts : List ℕ) {n : ℕ} → length ts ≤ fuel → look q ts ≡ stop n → synchronize low inside fuel q ts ≡ stop n
 unfolding look
 sync-stops low inside q zero [] h l = absurd (let z : _≡_ {A = ℕ} 0 1 = cc in omega arith)
 sync-stops low inside q zero (x ∷ ts) h l = absurd (omega arith)
 sync-stops low inside q (suc fuel) ts h l = sync-halted low inside q fuel ts l
 
-pub sync-stop : (low : Depth) (inside : Bool) (q T : List ℕ) (fuel p : ℕ) → length T ≤ p + fuel → (n : ℕ) → ((q : List ℕ) → look q (drop p T) ≡ stop n) → synchronize low inside fuel q (drop p T) ≡ stop n
+pub sync-stop : (low : Depth) (inside : Bool) (q : List Error) (T : List ℕ) (fuel p : ℕ) → length T ≤ p + fuel → (n : ℕ) → ((q : List Error) → look q (drop p T) ≡ stop n) → synchronize low inside fuel q (drop p T) ≡ stop n
 sync-stop low inside q T fuel p enough n l = sync-stops low inside q fuel (drop p T) (left T p fuel enough) (l q)
 
 -- catching
-abbrev pub caught-go : Depth → List ℕ → List ℕ → Res (Unit {0})
+abbrev pub caught-go : Depth → List Error → List ℕ → Res (Unit {0})
 caught-go low ts q = then q (synchronize low true (length ts) q ts) λ u q₂ r. synchronized q₂ r
 
-module _ (low : Depth) (e : ℕ) (q ts : List ℕ) where
+module _ (low : Depth) (e : ℕ) (q : List Error) (ts : List ℕ) where
   pub caught-out : e ≡ Number.end-of-tokens → caught low e q ts ≡ fail e q ts
   unfolding caught ifb
   caught-out h = rw (eq-eqb _ _ h)
@@ -173,10 +173,10 @@ pub record Resuming (n pos w₀ p w z : ℕ) : Type 0 where
   pub on : pos ≤ p
   pub within : p ≤ n
   pub more : w₀ + 1 ≤ w
-  pub few : w ≤ 96
-  pub whole : z ≡ 96
+  pub few : w ≤ queue-limit
+  pub whole : z ≡ queue-limit
 
-module _ {D d : Res (Unit {0})} {T : List ℕ} {pos at w₀ p w : ℕ} {S₀ Q₀ S Q Q′ : List ℕ} (on : As (take w₀ Q₀) D (take w Q) d) (text : take at S ≡ take at S₀) (n : Resuming (length T) pos w₀ p w (length Q)) where
+module _ {D d : Res (Unit {0})} {T : List ℕ} {pos at w₀ p w : ℕ} {S₀ Q₀ S Q Q′ : List ℕ} (on : As (waiting-errors w₀ Q₀) D (waiting-errors w Q) d) (text : take at S ≡ take at S₀) (n : Resuming (length T) pos w₀ p w (length Q)) where
   resumes-as : (r : Step) → Resumes d T p at w Q Q′ r → Agrees no-words D T pos pos 8 at w₀ S₀ Q₀ S Q′ r
   resumes-as (Done p′ a w′) h =
       let x = h .how in
@@ -201,7 +201,7 @@ module _ {D d : Res (Unit {0})} {T : List ℕ} {pos at w₀ p w : ℕ} {S₀ Q�
 abbrev pub Some : Tree → Type 0
 Some t = kind-of t ≡ NodeKind.Absent → ⊥
 
-pub control-held : (low : Depth) (k : ℕ) (q ts : List ℕ) → Holds Some (control-flow low k q ts)
+pub control-held : (low : Depth) (k : ℕ) (q : List Error) (ts : List ℕ) → Holds Some (control-flow low k q ts)
 unfolding control-flow
 control-held low k q ts =
     holds-if _ (λ _. holds-past q (try-label q ts) λ l q₁ r. h-ok (λ e. omega arith)) λ _. holds-if _
@@ -209,13 +209,13 @@ control-held low k q ts =
     (λ _. holds-past q (control-value low q ts) λ e q₁ r. h-ok (λ e. omega arith))
 
 -- A PLACE of a list
-abbrev pub control-go : Depth → ℕ → ℕ → Tree → List ℕ → List ℕ → Res Place
+abbrev pub control-go : Depth → ℕ → ℕ → Tree → List Error → List ℕ → Res Place
 control-go low end k c q r = then q (control-last end k q r) λ u q₂ s. ok (a-control c) s
 
-abbrev pub stmt-go : Tree → List ℕ → List ℕ → Res Place
+abbrev pub stmt-go : Tree → List Error → List ℕ → Res Place
 stmt-go t q r = ok (a-stmt t) r
 
-module _ (low : Depth) (end k : ℕ) (rest q ts : List ℕ) where
+module _ (low : Depth) (end k : ℕ) (rest : List ℕ) (q : List Error) (ts : List ℕ) where
   pub turn-control : is-control k ≡ true → turn low end k rest q ts ≡ either q (control-flow low k q rest) (control-go low end k) (resume low)
   unfolding turn ifb
   turn-control e = rw e
@@ -227,18 +227,18 @@ module _ (low : Depth) (end k : ℕ) (rest q ts : List ℕ) where
 -- the words left where an error was caught hold a token
 pub data Two {A : Type 0} : Res A → Type 0 where
   t-ok : {a : A} {r : List ℕ} → 2 ≤ length r → Two (ok a r)
-  t-bad : {a : A} {q r : List ℕ} → 2 ≤ length r → Two (bad a q r)
-  t-fail : {e : ℕ} {q r : List ℕ} → Two (fail e q r)
+  t-bad : {a : A} {q : List Error} {r : List ℕ} → 2 ≤ length r → Two (bad a q r)
+  t-fail : {e : ℕ} {q : List Error} {r : List ℕ} → Two (fail e q r)
   t-stop : {n : ℕ} → Two (stop n)
 
-two-spoil : {A : Type 0} (q : List ℕ) {d : Res A} → Two d → Two (spoil q d)
+two-spoil : {A : Type 0} (q : List Error) {d : Res A} → Two d → Two (spoil q d)
 unfolding spoil
 two-spoil q (t-ok h) = t-bad h
 two-spoil q (t-bad h) = t-bad h
 two-spoil q t-fail = t-fail
 two-spoil q t-stop = t-stop
 
-two-then : {A B : Type 0} (q : List ℕ) (d : Res A) {k : A → List ℕ → List ℕ → Res B} → ((a : A) (q r : List ℕ) → Two (k a q r)) → Two (then q d k)
+two-then : {A B : Type 0} (q : List Error) (d : Res A) {k : A → List Error → List ℕ → Res B} → ((a : A) (q : List Error) (r : List ℕ) → Two (k a q r)) → Two (then q d k)
 unfolding then
 two-then q (ok a r) h = h a q r
 two-then q (bad a q′ r) h = two-spoil q′ (h a q′ r)
@@ -250,12 +250,12 @@ unfolding ifb
 two-if true f g = f tt
 two-if false f g = g tt
 
-two-pop : {A : Type 0} (q r : List ℕ) → Two {A = A} (pop q r)
+two-pop : {A : Type 0} (q : List Error) (r : List ℕ) → Two {A = A} (pop q r)
 unfolding pop
 two-pop [] r = t-fail
 two-pop (e ∷ q) r = t-fail
 
-synced-two : (q ts : List ℕ) → Two (synchronized q ts)
+synced-two : (q : List Error) (ts : List ℕ) → Two (synchronized q ts)
 unfolding synchronized look either spoil
 synced-two q [] = two-spoil q (two-pop q [])
 synced-two q (w ∷ []) = two-spoil q (two-pop q (w ∷ []))
@@ -267,20 +267,20 @@ synced-two q (w ∷ (v ∷ r)) = by (looked q r (seen-word w v))
     by (fail e q₁ s) = two-spoil q₁ (two-pop q₁ s)
     by (stop n) = t-stop
 
-pub caught-two : (low : Depth) (e : ℕ) (q ts : List ℕ) → Two (caught low e q ts)
+pub caught-two : (low : Depth) (e : ℕ) (q : List Error) (ts : List ℕ) → Two (caught low e q ts)
 unfolding caught push
 caught-two low e q ts = two-if _ (λ _. t-fail) (λ _. two-if _ (λ _. t-stop) (λ _. two-spoil _ (two-then _ _ λ u q₂ r. synced-two q₂ r)))
 
-two-left : {A : Type 0} {d : Res A} {q q′ r : List ℕ} {x : A} → Two d → As q d q′ (ok x r) → 2 ≤ length r
+two-left : {A : Type 0} {d : Res A} {q q′ : List Error} {r : List ℕ} {x : A} → Two d → As q d q′ (ok x r) → 2 ≤ length r
 two-left {A = A} {q = q} {q′ = q′} {r = r} {x = x} h a = by q h (a .is)
   where
-    by : {d : Res A} (q : List ℕ) → Two d → out q d ≡ won x q′ r → 2 ≤ length r
+    by : {d : Res A} (q : List Error) → Two d → out q d ≡ won x q′ r → 2 ≤ length r
     by q (t-ok {r = s} p) e = let z : s ≡ r = cc in rw (← z) p
     by q (t-bad {r = s} p) e = let z : s ≡ r = cc in rw (← z) p
     by q t-fail e = absurd (let z : _≡_ {A = ℕ} 0 1 = cc in omega arith)
     by q t-stop e = absurd (let z : _≡_ {A = ℕ} 0 1 = cc in omega arith)
 
-two-at : {A : Type 0} {d : Res A} {q q′ : List ℕ} {u : A} (T : List ℕ) (p : ℕ) → Two d → As q d q′ (ok u (drop p T)) → p + 2 ≤ length T
+two-at : {A : Type 0} {d : Res A} {q q′ : List Error} {u : A} (T : List ℕ) (p : ℕ) → Two d → As q d q′ (ok u (drop p T)) → p + 2 ≤ length T
 two-at T p t a =
     let h = two-left t a in
     let l : length (drop p T) ≡ length T - p = length-drop p T in
@@ -293,7 +293,7 @@ pub record Catching (n m pos at w₀ p w : ℕ) : Type 0 where
   pub more : w₀ ≤ w
   pub room : at ≤ m
 
-module _ {D : Res Place} {d : Res (Unit {0})} {T : List ℕ} {pos n at w₀ p w : ℕ} {S₀ Q₀ S Q S′ Q′ : List ℕ} (on : As (take w₀ Q₀) D (take w Q) (then (take w Q) d (λ u q r. ok a-caught r))) (text : take at S ≡ take at S₀) (c : Catching (length T) (length S) pos at w₀ p w) where
+module _ {D : Res Place} {d : Res (Unit {0})} {T : List ℕ} {pos n at w₀ p w : ℕ} {S₀ Q₀ S Q S′ Q′ : List ℕ} (on : As (waiting-errors w₀ Q₀) D (waiting-errors w Q) (then (waiting-errors w Q) d (λ u q r. ok a-caught r))) (text : take at S ≡ take at S₀) (c : Catching (length T) (length S) pos at w₀ p w) where
   catches-as : Two d → (r : Step) → Agrees no-words d T p p 8 at w S Q S′ Q′ r → Enters D T pos n at w₀ S₀ Q₀ S′ Q′ (resumed-step r)
   catches-as two (Done p′ a w′) h =
       let x = h .how in
@@ -330,7 +330,7 @@ pub record Held-at (pos at w₀ p a w : ℕ) : Type 0 where
   pub room : a + 8 * pos ≤ at + 8 * p
 
 module _ {D : Res Place} {d : Res (Unit {0})} {T : List ℕ} {pos n at w₀ p a w : ℕ} {S₀ Q₀ S Q Q′ : List ℕ} (t : Tree)
-    (on : As (take w₀ Q₀) D (take w Q) (then (take w Q) d λ u q₂ s. ok (a-control t) s)) (some : Some t) (text : take a S ≡ take at S₀ ++ control-words n t) (before : take at S ≡ take at S₀) (c : Held-at pos at w₀ p a w) where
+    (on : As (waiting-errors w₀ Q₀) D (waiting-errors w Q) (then (waiting-errors w Q) d λ u q₂ s. ok (a-control t) s)) (some : Some t) (text : take a S ≡ take at S₀ ++ control-words n t) (before : take at S ≡ take at S₀) (c : Held-at pos at w₀ p a w) where
   closes-as : (r : Step) → Queues d T p a w Q Q′ r → Enters D T pos n at w₀ S₀ Q₀ S Q′ (closed-step r)
   closes-as (Done p′ a′ w′) h =
       let x = h .how in
@@ -344,18 +344,18 @@ module _ {D : Res Place} {d : Res (Unit {0})} {T : List ℕ} {pos n at w₀ p a 
   closes {r = r} i h = rw i (closes-as r h)
 
 -- A LIST
-list-zero : (end : ℕ) (q ts : List ℕ) → at-depth 0 .list end q ts ≡ stop too-deep
+list-zero : (end : ℕ) (q : List Error) (ts : List ℕ) → at-depth 0 .list end q ts ≡ stop too-deep
 unfolding at-depth
 list-zero end q ts = refl
 
-list-suc : (d end : ℕ) (q ts : List ℕ) → at-depth (suc d) .list end q ts ≡ stmts (at-depth d) end (length ts) none q ts
+list-suc : (d end : ℕ) (q : List Error) (ts : List ℕ) → at-depth (suc d) .list end q ts ≡ stmts (at-depth d) end (length ts) none q ts
 unfolding at-depth
 list-suc d end q ts = refl
 
-pub list-ends : (d end : ℕ) (q ts : List ℕ) → d ≡ 0 → at-depth d .list end q ts ≡ stop too-deep
+pub list-ends : (d end : ℕ) (q : List Error) (ts : List ℕ) → d ≡ 0 → at-depth d .list end q ts ≡ stop too-deep
 list-ends d end q ts e = rw e (list-zero end q ts)
 
-pub list-goes : (d end : ℕ) (q ts : List ℕ) → (d ≡ 0 → ⊥) → at-depth d .list end q ts ≡ stmts (at-depth (d - 1)) end (length ts) none q ts
+pub list-goes : (d end : ℕ) (q : List Error) (ts : List ℕ) → (d ≡ 0 → ⊥) → at-depth d .list end q ts ≡ stmts (at-depth (d - 1)) end (length ts) none q ts
 list-goes d end q ts h =
     let s : suc (d - 1) ≡ d = omega arith in
     ap (λ (n : ℕ). at-depth n .list end q ts) (sym s) ∙ list-suc (d - 1) end q ts
@@ -365,12 +365,12 @@ unfolding ifb
 if-no b x y e = rw e
 
 -- how a list goes on from a place
-abbrev pub place-go : Depth → ℕ → ℕ → Forest → Place → List ℕ → List ℕ → Res Stmts
+abbrev pub place-go : Depth → ℕ → ℕ → Forest → Place → List Error → List ℕ → Res Stmts
 place-go low end n f (a-stmt t) q r = stmts low end n (snoc f t) q r
 place-go low end n f (a-control c) q r = ok (record { suite = f; control = c }) r
 place-go low end n f a-caught q r = stmts low end n f q r
 
-module _ (low : Depth) (end : ℕ) (f : Forest) (q : List ℕ) where
+module _ (low : Depth) (end : ℕ) (f : Forest) (q : List Error) where
   stmts-turns : (n k : ℕ) (rest ts : List ℕ) → then q (turn low end k rest q ts) (place-go low end n f)
       ≡ ifb (is-control k)
       (λ _. either q (control-flow low k q rest) (λ c q₂ r. then q₂ (control-last end k q₂ r) λ u q₃ s. ok (record { suite = f; control = c }) s) (λ e q₂ r. then q₂ (caught low e q₂ r) λ u q₃ s. stmts low end n f q₃ s))
@@ -381,10 +381,10 @@ module _ (low : Depth) (end : ℕ) (f : Forest) (q : List ℕ) where
       (λ _. then-either q (control-flow low k q rest) _ _ _ ∙ either-same q (control-flow low k q rest) (λ c q₂ r. then-then q₂ (control-last end k q₂ r) _ _ ∙ then-same q₂ (control-last end k q₂ r) (λ u q₃ s. then-ok q₃ (place-go low end n f))) (λ e q₂ r. after e q₂ r))
       (λ _. then-either q (stmt low q ts) _ _ _ ∙ either-same q (stmt low q ts) (λ t q₂ r. then-ok q₂ (place-go low end n f)) (λ e q₂ r. after e q₂ r))
     where
-      after : (e : ℕ) (q₂ r : List ℕ) → then q₂ (resume low e q₂ r) (place-go low end n f) ≡ then q₂ (caught low e q₂ r) (λ u q₃ s. stmts low end n f q₃ s)
+      after : (e : ℕ) (q₂ : List Error) (r : List ℕ) → then q₂ (resume low e q₂ r) (place-go low end n f) ≡ then q₂ (caught low e q₂ r) (λ u q₃ s. stmts low end n f q₃ s)
       after e q₂ r = then-then q₂ (caught low e q₂ r) _ _ ∙ then-same q₂ (caught low e q₂ r) (λ u q₃ s. then-ok q₃ (place-go low end n f))
 
-  abbrev stmts-on : ℕ → List ℕ → Token → List ℕ → List ℕ → Res Stmts
+  abbrev stmts-on : ℕ → List ℕ → Token → List Error → List ℕ → Res Stmts
   stmts-on n ts tok q₁ rest =
       ifb (eqb (tok .kind) Kind.Semicolon) (λ _. stmts low end n f q rest) λ _.
       ifb (ends end (tok .kind)) (λ _. ok (record { suite = f; control = Node.absent }) ts) λ _.
@@ -443,29 +443,29 @@ Small-place (a-stmt t) = Small t
 Small-place (a-control t) = Unit {0}
 Small-place a-caught = Unit {0}
 
-held-spoil : {A : Type 0} {P : A → Type 0} (q : List ℕ) {d : Res A} → Holds P d → Holds P (spoil q d)
+held-spoil : {A : Type 0} {P : A → Type 0} (q : List Error) {d : Res A} → Holds P d → Holds P (spoil q d)
 unfolding spoil
 held-spoil q (h-ok x) = h-bad x
 held-spoil q (h-bad x) = h-bad x
 held-spoil q h-fail = h-fail
 held-spoil q h-stop = h-stop
 
-held-either : {A B : Type 0} {Q : A → Type 0} {P : B → Type 0} (q : List ℕ) {d : Res A} {k : A → List ℕ → List ℕ → Res B} {or : ℕ → List ℕ → List ℕ → Res B}
-    → Holds Q d → ((a : A) (q r : List ℕ) → Q a → Holds P (k a q r)) → ((e : ℕ) (q r : List ℕ) → Holds P (or e q r)) → Holds P (either q d k or)
+held-either : {A B : Type 0} {Q : A → Type 0} {P : B → Type 0} (q : List Error) {d : Res A} {k : A → List Error → List ℕ → Res B} {or : ℕ → List Error → List ℕ → Res B}
+    → Holds Q d → ((a : A) (q : List Error) (r : List ℕ) → Q a → Holds P (k a q r)) → ((e : ℕ) (q : List Error) (r : List ℕ) → Holds P (or e q r)) → Holds P (either q d k or)
 unfolding either
 held-either q (h-ok x) h g = h _ _ _ x
 held-either q (h-bad x) h g = held-spoil _ (h _ _ _ x)
 held-either q h-fail h g = held-spoil _ (g _ _ _)
 held-either q h-stop h g = h-stop
 
-turn-small : (d end k : ℕ) (rest q ts : List ℕ) → Holds Small-place (turn (at-depth d) end k rest q ts)
+turn-small : (d end k : ℕ) (rest : List ℕ) (q : List Error) (ts : List ℕ) → Holds Small-place (turn (at-depth d) end k rest q ts)
 unfolding turn
 turn-small d end k rest q ts =
     holds-if _
     (λ _. held-either q (control-held (at-depth d) k q rest) (λ c q₁ r x. holds-past q₁ (control-last end k q₁ r) λ u q₂ s. h-ok tt) (λ e q₁ r. holds-past q₁ (caught (at-depth d) e q₁ r) λ u q₂ s. h-ok tt))
     (λ _. held-either q (stmt-small (at-depth d) (depth-small d) q ts) (λ t q₁ r x. h-ok x) (λ e q₁ r. holds-past q₁ (caught (at-depth d) e q₁ r) λ u q₂ s. h-ok tt))
 
-pub place-small : (d end k : ℕ) (rest q ts : List ℕ) {q′ r : List ℕ} {t : Tree} → As q (turn (at-depth d) end k rest q ts) q′ (ok (a-stmt t) r) → Small t
+pub place-small : (d end k : ℕ) (rest : List ℕ) (q : List Error) (ts : List ℕ) {q′ : List Error} {r : List ℕ} {t : Tree} → As q (turn (at-depth d) end k rest q ts) q′ (ok (a-stmt t) r) → Small t
 place-small d end k rest q ts a = given (turn-small d end k rest q ts) a
 
 -- the end of a list's statements
@@ -495,7 +495,7 @@ two-records : (t : Tree) → 2 ≤ length (records t)
 unfolding records
 two-records (node k v f) = rw length-append (omega arith)
 
-pub stmt-two : {B : Type 0} {d : Res B} {k : Tree → List ℕ → List ℕ → Res B} {T : List ℕ} {pos least slack at w₀ : ℕ} {S Q : List ℕ} {p a w : ℕ} {S′ Q′ : List ℕ} (g : Wrote records d k T pos least slack at w₀ S Q p a w S′ Q′) → at ≤ length S → a ≤ length S′ → 2 ≤ a
+pub stmt-two : {B : Type 0} {d : Res B} {k : Tree → List Error → List ℕ → Res B} {T : List ℕ} {pos least slack at w₀ : ℕ} {S Q : List ℕ} {p a w : ℕ} {S′ Q′ : List ℕ} (g : Wrote records d k T pos least slack at w₀ S Q p a w S′ Q′) → at ≤ length S → a ≤ length S′ → 2 ≤ a
 stmt-two {at = at} {S = S} {a = a} {S′ = S′} g h i =
     let x = place-at S S′ (records (g .what)) at a (g .text) h i in
     let y = two-records (g .what) in

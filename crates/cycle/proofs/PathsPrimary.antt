@@ -17,14 +17,14 @@ use Rattle.tree.specs.Tree.{Tree, Forest, node, none, more, one, snoc, count, r
 use Rattle.tree.specs.Node
 use Rattle.tree.specs.Store.{Emitted}
 use Rattle.grammar.specs.Reading.Number
-use Rattle.grammar.specs.Reading.Result.{Res, ok, fail, then, ifb}
+use Rattle.grammar.specs.Reading.Result.{Res, ok, fail, then, ifb, Error}
 use Rattle.grammar.specs.Reading.Look.{look, expect, try-assign-keyword}
 use Rattle.grammar.specs.Reading.Expr.{Depth, inner-expr, expr}
 use Rattle.grammar.specs.Reading.Primary.{with-action, group-expr, literal, atom, indexing-expr, table-field, table-item, table-items, table-literal, member-access, arguments, invocation, path, with-path, primary, unpack-expr}
 use Rattle.grammar.specs.Reading.Block.{block-expr, expr-label, if-expr}
 use Rattle.grammar.specs.Reading.Function.{function-decl-expr}
 use Rattle.grammar.specs.Reading.Depth.{primary-expr}
-use Rattle.scan.specs.Post.{As, Moved, Room, Wrote, Agrees, Taken, Writes}
+use Rattle.scan.specs.Post.{As, Moved, Room, Wrote, Agrees, Taken, Writes, waiting-errors}
 use Rattle.scan.specs.Parts.{goes-on}
 use Rattle.cycle.specs.Parts.{part, list-words}
 use Rattle.nodes.specs.Parts.{path-words, unpack-end, named-field, item-end}
@@ -50,8 +50,8 @@ pub taken-label : {T : List ℕ} {pos k n v : ℕ} → Taken T pos k n v → k �
 taken-label at e = label-small (at .fits) e
 
 -- what is read last by a function that needs no queue, d, and written behind «at»
-module _ {A : Type 0} {words : A → List ℕ} {D : Res A} {d : List ℕ → Res A} {T : List ℕ} {pos least slack at w₀ : ℕ} {S Q : List ℕ} {p least₁ most b w : ℕ} {S₁ S′ Q′ : List ℕ} where
-  writes-as : As (take w₀ Q) D (take w Q′) (d (take w Q′)) → take at S₁ ≡ take at S → Beyond pos least w₀ p least₁ w (length Q′) → at ≤ length S → b + most ≤ length S′ → b + most + 8 * pos + slack ≤ at + 8 * least₁ + 8
+module _ {A : Type 0} {words : A → List ℕ} {D : Res A} {d : List Error → Res A} {T : List ℕ} {pos least slack at w₀ : ℕ} {S Q : List ℕ} {p least₁ most b w : ℕ} {S₁ S′ Q′ : List ℕ} where
+  writes-as : As (waiting-errors w₀ Q) D (waiting-errors w Q′) (d (waiting-errors w Q′)) → take at S₁ ≡ take at S → Beyond pos least w₀ p least₁ w (length Q′) → at ≤ length S → b + most ≤ length S′ → b + most + 8 * pos + slack ≤ at + 8 * least₁ + 8
       → (r : Step) → Writes words d T p least₁ most b w (take at S) S₁ S′ r → Agrees words D T pos least slack at w₀ S Q S′ Q′ r
   writes-as a x y h i j (Done p′ c w′) f =
       let g = f .how in
@@ -65,13 +65,13 @@ module _ {A : Type 0} {words : A → List ℕ} {D : Res A} {d : List ℕ → Res
   writes-as a x y h i j (Fail e p′ w′) f = record { how = lacking (f .how .unread) a (ap (take at) (f .how .text) ∙ x) y }
   writes-as a x y h i j (Stop n) f = record { how = lacking (f .how .unread) a (ap (take at) (f .how .text) ∙ x) y }
 
-  pub writing : {r : Step} → Writes words d T p least₁ most b w (take at S) S₁ S′ r → As (take w₀ Q) D (take w Q′) (d (take w Q′)) → take at S₁ ≡ take at S → Beyond pos least w₀ p least₁ w (length Q′) → at ≤ length S → b + most ≤ length S′
+  pub writing : {r : Step} → Writes words d T p least₁ most b w (take at S) S₁ S′ r → As (waiting-errors w₀ Q) D (waiting-errors w Q′) (d (waiting-errors w Q′)) → take at S₁ ≡ take at S → Beyond pos least w₀ p least₁ w (length Q′) → at ≤ length S → b + most ≤ length S′
       → b + most + 8 * pos + slack ≤ at + 8 * least₁ + 8 → Agrees words D T pos least slack at w₀ S Q S′ Q′ r
   writing {r = r} f a x y h i j = writes-as a x y h i j r f
 
 -- what is read last, d, becomes a part of what is answered
 module _ {A B : Type 0} {words : A → List ℕ} {words′ : B → List ℕ} {D : Res B} {d : Res A} {T : List ℕ} {pos least slack at w₀ : ℕ} {S Q : List ℕ} {pos₁ least₁ slack₁ at₁ w₁ : ℕ} {S₁ Q₁ S′ Q′ : List ℕ} (make : A → B) where
-  mapped-as : As (take w₀ Q) D (take w₁ Q₁) (then (take w₁ Q₁) d (λ x q r. ok (make x) r)) → ((x : A) → take at₁ S₁ ++ words x ≡ take at S ++ words′ (make x)) → take at S₁ ≡ take at S → Later pos least at w₀ pos₁ least₁ at₁ w₁ → at₁ + 8 * pos + slack ≤ at + 8 * pos₁ + slack₁
+  mapped-as : As (waiting-errors w₀ Q) D (waiting-errors w₁ Q₁) (then (waiting-errors w₁ Q₁) d (λ x q r. ok (make x) r)) → ((x : A) → take at₁ S₁ ++ words x ≡ take at S ++ words′ (make x)) → take at S₁ ≡ take at S → Later pos least at w₀ pos₁ least₁ at₁ w₁ → at₁ + 8 * pos + slack ≤ at + 8 * pos₁ + slack₁
       → (r : Step) → Agrees words d T pos₁ least₁ slack₁ at₁ w₁ S₁ Q₁ S′ Q′ r → Agrees words′ D T pos least slack at w₀ S Q S′ Q′ r
   mapped-as a h x l j (Done p c w) f =
       let u = f .how in
@@ -81,22 +81,22 @@ module _ {A B : Type 0} {words : A → List ℕ} {words′ : B → List ℕ} {D 
   mapped-as a h x l j (Fail e p w) f = record { how = fails _ a (f .how) x l }
   mapped-as a h x l j (Stop n) f = record { how = fails _ a (f .how) x l }
 
-  pub mapped : {r : Step} → As (take w₀ Q) D (take w₁ Q₁) (then (take w₁ Q₁) d (λ x q r. ok (make x) r)) → Agrees words d T pos₁ least₁ slack₁ at₁ w₁ S₁ Q₁ S′ Q′ r → ((x : A) → take at₁ S₁ ++ words x ≡ take at S ++ words′ (make x)) → take at S₁ ≡ take at S → Later pos least at w₀ pos₁ least₁ at₁ w₁
+  pub mapped : {r : Step} → As (waiting-errors w₀ Q) D (waiting-errors w₁ Q₁) (then (waiting-errors w₁ Q₁) d (λ x q r. ok (make x) r)) → Agrees words d T pos₁ least₁ slack₁ at₁ w₁ S₁ Q₁ S′ Q′ r → ((x : A) → take at₁ S₁ ++ words x ≡ take at S ++ words′ (make x)) → take at S₁ ≡ take at S → Later pos least at w₀ pos₁ least₁ at₁ w₁
       → at₁ + 8 * pos + slack ≤ at + 8 * pos₁ + slack₁ → Agrees words′ D T pos least slack at w₀ S Q S′ Q′ r
   mapped {r = r} a f h x l j = mapped-as a h x l j r f
 
 -- a node over the list that was written
-pub made-list : {E C : Type 0} {D : Res E} {K : Tree → List ℕ → List ℕ → Res E} {T : List ℕ} {pos least slack at w₀ : ℕ} {S Q : List ℕ} {q r w : ℕ} {S″ Q″ : List ℕ} (k : ℕ) {v word : ℕ} {d : Res C} {k′ : Forest → List ℕ → List ℕ → Res C} {pos′ least′ slack′ w₁ : ℕ} {Q₁ : List ℕ} {p a w₂ : ℕ} {S′ Q′ : List ℕ}
-    (g : Wrote list-words d k′ T pos′ least′ slack′ at w₁ S Q₁ p a w₂ S′ Q′) → Emitted a word v r S′ S″ → As (take w₀ Q) D (take w Q″) (K (node k v (one (Node.list (g .what)))) (take w Q″) (drop q T)) → Moved (length T) least w₀ q w (length Q″) → Room pos at slack q r → word ≡ k + 256
+pub made-list : {E C : Type 0} {D : Res E} {K : Tree → List Error → List ℕ → Res E} {T : List ℕ} {pos least slack at w₀ : ℕ} {S Q : List ℕ} {q r w : ℕ} {S″ Q″ : List ℕ} (k : ℕ) {v word : ℕ} {d : Res C} {k′ : Forest → List Error → List ℕ → Res C} {pos′ least′ slack′ w₁ : ℕ} {Q₁ : List ℕ} {p a w₂ : ℕ} {S′ Q′ : List ℕ}
+    (g : Wrote list-words d k′ T pos′ least′ slack′ at w₁ S Q₁ p a w₂ S′ Q′) → Emitted a word v r S′ S″ → As (waiting-errors w₀ Q) D (waiting-errors w Q″) (K (node k v (one (Node.list (g .what)))) (waiting-errors w Q″) (drop q T)) → Moved (length T) least w₀ q w (length Q″) → Room pos at slack q r → word ≡ k + 256
     → Wrote records D K T pos least slack at w₀ S Q q r w S″ Q″
 unfolding count
 made-list {at = at} {S = S} k {v = v} g e same moved room i = record { what = node k v (one (Node.list (g .what))); same = same; moved = moved; room = room; text = put k (one (Node.list (g .what))) (take at S) e (rw all-one (g .text)) i }
 
 -- PRIMARIES
-abbrev pub primary-go : Depth → Tree → List ℕ → List ℕ → Res Tree
+abbrev pub primary-go : Depth → Tree → List Error → List ℕ → Res Tree
 primary-go low a q r = then q (path low true (length r) none q r) λ f q₂ s. ok (with-path a f) s
 
-pub primary-step : (low : Depth) (q ts : List ℕ) → primary low q ts ≡ then q (atom low q ts) (primary-go low)
+pub primary-step : (low : Depth) (q : List Error) (ts : List ℕ) → primary low q ts ≡ then q (atom low q ts) (primary-go low)
 unfolding primary
 primary-step low q ts = refl
 
@@ -104,17 +104,17 @@ pub path-under : {Y : List ℕ} (Z : List ℕ) (t : Tree) (f : Forest) → Y ≡
 path-under Z t f e = rw (e, path-text t f, append-assoc)
 
 -- `...`
-pub unpack-looks : (low : Depth) (q ts : List ℕ) → Looks q ts (unpack-expr low q ts)
+pub unpack-looks : (low : Depth) (q : List Error) (ts : List ℕ) → Looks q ts (unpack-expr low q ts)
 unfolding unpack-expr
 unpack-looks low q ts = record { go = _; is = refl }
 
-abbrev pub unpack-go : Tree → List ℕ → List ℕ → Res Tree
+abbrev pub unpack-go : Tree → List Error → List ℕ → Res Tree
 unpack-go t q r = then q (look q r) λ tok q₃ rest. ifb (eqb (tok .kind) Kind.Ellipsis) (λ _. ifb (eqb (kind-of t) NodeKind.Unpack) (λ _. fail Number.nested-ellipsis q rest) (λ _. ok (Node.unpack t) rest)) (λ _. ok t r)
 
-pub dots-looks : (t : Tree) (q ts : List ℕ) → Looks q ts (unpack-go t q ts)
+pub dots-looks : (t : Tree) (q : List Error) (ts : List ℕ) → Looks q ts (unpack-go t q ts)
 dots-looks t q ts = record { go = _; is = refl }
 
-module _ (low : Depth) (q : List ℕ) {T : List ℕ} {pos k n v : ℕ} (at : Taken T pos k n v) where
+module _ (low : Depth) (q : List Error) {T : List ℕ} {pos k n v : ℕ} (at : Taken T pos k n v) where
   pub unpack-lone : k ≡ Kind.Ellipsis → unpack-expr low q (drop pos T) ≡ ok (Node.unpack Node.absent) (drop (pos + 2) T)
   unfolding unpack-expr then ifb
   unpack-lone e = rw (at .same, eq-eqb _ _ e)
@@ -123,7 +123,7 @@ module _ (low : Depth) (q : List ℕ) {T : List ℕ} {pos k n v : ℕ} (at : Tak
   unfolding unpack-expr ifb
   unpack-some e = ap (λ (d : Res Token). then q d (λ tok q₁ rest. ifb (eqb (tok .kind) Kind.Ellipsis) (λ _. ok (Node.unpack Node.absent) rest) λ _. then q (primary low q (drop pos T)) unpack-go)) (at .same q) ∙ then-ok q _ ∙ rw (ne-eqb _ _ e)
 
-module _ (t : Tree) (q : List ℕ) {T : List ℕ} {pos k n v : ℕ} (at : Taken T pos k n v) where
+module _ (t : Tree) (q : List Error) {T : List ℕ} {pos k n v : ℕ} (at : Taken T pos k n v) where
   pub dots-more : k ≡ Kind.Ellipsis → unpack-go t q (drop pos T) ≡ unpack-end t q (drop (pos + 2) T)
   unfolding unpack-end then ifb
   dots-more e = rw (at .same, eq-eqb _ _ e)
@@ -133,11 +133,11 @@ module _ (t : Tree) (q : List ℕ) {T : List ℕ} {pos k n v : ℕ} (at : Taken 
   dots-none e = rw (at .same, ne-eqb _ _ e)
 
 -- operands
-pub operand-looks : (low : Depth) (q ts : List ℕ) → Looks q ts (primary-expr low q ts)
+pub operand-looks : (low : Depth) (q : List Error) (ts : List ℕ) → Looks q ts (primary-expr low q ts)
 unfolding primary-expr
 operand-looks low q ts = record { go = _; is = refl }
 
-abbrev operand-go : Depth → Token → List ℕ → List ℕ → List ℕ → Res Tree
+abbrev operand-go : Depth → Token → List ℕ → List Error → List ℕ → Res Tree
 operand-go low tok q ts rest =
     ifb (eqb (tok .kind) Kind.Class) (λ _. fail Number.class-definition q rest) λ _.
     ifb (eqb (tok .kind) Kind.Fun) (λ _. function-decl-expr low q rest) λ _.
@@ -147,7 +147,7 @@ operand-go low tok q ts rest =
     ifb (eqb (tok .kind) Kind.Label) (λ _. expr-label low (suc (tok .value)) q rest) λ _.
     unpack-expr low q ts
 
-module _ (low : Depth) (q : List ℕ) {T : List ℕ} {pos k n v : ℕ} (at : Taken T pos k n v) where
+module _ (low : Depth) (q : List Error) {T : List ℕ} {pos k n v : ℕ} (at : Taken T pos k n v) where
   operand-seen : primary-expr low q (drop pos T) ≡ operand-go low (record { kind = k; newline = n; value = v }) q (drop pos T) (drop (pos + 2) T)
   unfolding primary-expr
   operand-seen = ap (λ (d : Res Token). then q d (λ tok q₁ rest. operand-go low tok q (drop pos T) rest)) (at .same q) ∙ then-ok q _
@@ -183,11 +183,11 @@ module _ (low : Depth) (q : List ℕ) {T : List ℕ} {pos k n v : ℕ} (at : Tak
   operand-other a b c d e f = operand-seen ∙ rw (ne-eqb _ _ a, ne-eqb _ _ b, ne-eqb _ _ c, ne-eqb _ _ d, ne-eqb _ _ e, ne-eqb _ _ f)
 
 -- TABLES
-pub field-looks : (low : Depth) (q ts : List ℕ) → Looks q ts (table-field low q ts)
+pub field-looks : (low : Depth) (q : List Error) (ts : List ℕ) → Looks q ts (table-field low q ts)
 unfolding table-field
 field-looks low q ts = record { go = _; is = refl }
 
-module _ (low : Depth) (q : List ℕ) {T : List ℕ} {pos k n v : ℕ} (at : Taken T pos k n v) where
+module _ (low : Depth) (q : List Error) {T : List ℕ} {pos k n v : ℕ} (at : Taken T pos k n v) where
   pub field-square : k ≡ Kind.OpenSquare → table-field low q (drop pos T) ≡ then q (indexing-expr low q (drop (pos + 2) T)) (λ e q₂ r. ok (Node.field-index e) r)
   unfolding table-field then ifb
   field-square e = rw (at .same, eq-eqb _ _ e)
@@ -196,13 +196,13 @@ module _ (low : Depth) (q : List ℕ) {T : List ℕ} {pos k n v : ℕ} (at : Tak
   unfolding table-field named-field then ifb
   field-named e = rw (at .same, ne-eqb _ _ e)
 
-abbrev pub item-go : Depth → Tree → List ℕ → List ℕ → Res Tree
+abbrev pub item-go : Depth → Tree → List Error → List ℕ → Res Tree
 item-go low field q r =
     then q (expect Kind.OpAssign Number.missing-assign q r) λ tok q₂ s.
     then q₂ (inner-expr low q₂ s) λ e q₃ u.
     ok (Node.table-item field e) u
 
-pub item-step : (low : Depth) (q ts : List ℕ) → table-item low q ts ≡ then q (table-field low q ts) (item-go low)
+pub item-step : (low : Depth) (q : List Error) (ts : List ℕ) → table-item low q ts ≡ then q (table-field low q ts) (item-go low)
 unfolding table-item
 item-step low q ts = refl
 
@@ -211,10 +211,10 @@ left : (T : List ℕ) (p fuel : ℕ) → length T ≤ p + fuel → length (drop 
 left T p fuel h = rw length-drop (omega arith)
 
 -- behind an item
-abbrev pub items-go : Depth → ℕ → Forest → Tree → List ℕ → List ℕ → Res Forest
+abbrev pub items-go : Depth → ℕ → Forest → Tree → List Error → List ℕ → Res Forest
 items-go low n f item q r = then q (item-end q r) λ c q₃ s. ifb (eqb c 1) (λ _. ok (snoc f item) s) (λ _. table-items low n (snoc f item) q₃ s)
 
-module _ (low : Depth) (n : ℕ) (g : Forest) (q : List ℕ) where
+module _ (low : Depth) (n : ℕ) (g : Forest) (q : List Error) where
   zero-next : (rest : List ℕ) → then q (ok 0 rest) (λ c q₃ s. ifb (eqb c 1) (λ _. ok g s) (λ _. table-items low n g q₃ s)) ≡ table-items low n g q rest
   unfolding then ifb
   zero-next rest = refl
@@ -229,7 +229,7 @@ module _ (low : Depth) (n : ℕ) (g : Forest) (q : List ℕ) where
   unfolding item-end
   items-after r = sym (look-then q r _ _ _ λ tok rest. then-if q _ _ _ _ ∙ if-same _ (λ u. zero-next rest) (λ u. then-if q _ _ _ _ ∙ if-same _ (λ u. one-next rest) (λ u. then-fail q _)))
 
-module _ (low : Depth) (f : Forest) (q : List ℕ) where
+module _ (low : Depth) (f : Forest) (q : List Error) where
   items-step : (fuel : ℕ) (ts : List ℕ) → length ts ≤ fuel → table-items low fuel f q ts ≡ then q (look q ts) (λ tok q₁ rest. ifb (eqb (tok .kind) Kind.CloseBrace) (λ _. ok f rest) λ _. then q (table-item low q ts) λ item q₂ r. then q₂ (look q₂ r) λ tok₂ q₃ rest₂.
       ifb (eqb (tok₂ .kind) Kind.Comma) (λ _. table-items low (fuel - 1) (snoc f item) q₂ rest₂) λ _. ifb (eqb (tok₂ .kind) Kind.CloseBrace) (λ _. ok (snoc f item) rest₂) (λ _. fail Number.table-closing q₂ rest₂))
   unfolding table-items look then
@@ -254,7 +254,7 @@ module _ (low : Depth) (f : Forest) (q : List ℕ) where
     items-more e = items-one e ∙ then-same q _ λ item q₂ r. items-after low (fuel - 1) (snoc f item) q₂ r
 
 -- what an item's end says
-module _ (low : Depth) (n : ℕ) (g : Forest) (q ts : List ℕ) {c : ℕ} where
+module _ (low : Depth) (n : ℕ) (g : Forest) (q : List Error) (ts : List ℕ) {c : ℕ} where
   pub items-closed : c ≡ 1 → ifb (eqb c 1) (λ _. ok g ts) (λ _. table-items low n g q ts) ≡ ok g ts
   unfolding ifb
   items-closed e = rw (eq-eqb _ _ e)
@@ -264,7 +264,7 @@ module _ (low : Depth) (n : ℕ) (g : Forest) (q ts : List ℕ) {c : ℕ} where
   items-on e = rw (ne-eqb _ _ e)
 
 -- PATHS
-module _ (low : Depth) (q ts : List ℕ) {k : ℕ} where
+module _ (low : Depth) (q : List Error) (ts : List ℕ) {k : ℕ} where
   pub access-member : k ≡ Kind.OpAccess → part low k q ts ≡ member-access q ts
   unfolding part ifb
   access-member e = rw e
@@ -282,7 +282,7 @@ module _ (low : Depth) (q ts : List ℕ) {k : ℕ} where
   access-table a b c = rw (ne-eqb _ _ a, ne-eqb _ _ b, ne-eqb _ _ c)
 
 -- behind a token with the tests' answers a to r: member, index, calls, same line, call, table
-abbrev path-choice : Depth → (Tree → List ℕ → List ℕ → Res Forest) → Res Forest → List ℕ → List ℕ → Bool → Bool → Bool → Bool → Bool → Bool → Res Forest
+abbrev path-choice : Depth → (Tree → List Error → List ℕ → Res Forest) → Res Forest → List ℕ → List ℕ → Bool → Bool → Bool → Bool → Bool → Bool → Res Forest
 path-choice low K z q rest a b c n p r =
     ifb a (λ _. then q (member-access q rest) K) λ _.
     ifb b (λ _. then q (indexing-expr low q rest) λ e q₂ s. K (Node.index e) q₂ s) λ _.
@@ -297,7 +297,7 @@ access-choice low q ts a b p =
     ifb p (λ _. invocation low q ts) λ _.
     then q (table-literal low q ts) λ items q₁ r. ok (Node.invoke-table items) r
 
-module _ (low : Depth) (K : Tree → List ℕ → List ℕ → Res Forest) (z : Res Forest) (q rest : List ℕ) where
+module _ (low : Depth) (K : Tree → List Error → List ℕ → Res Forest) (z : Res Forest) (q : List Error) (rest : List ℕ) where
   over : {A : Type 0} (d : Res A) (make : A → Tree) → then q d (λ e q₂ s. K (make e) q₂ s) ≡ then q (then q d (λ e q₁ r. ok (make e) r)) K
   over d make = sym (then-then q d _ K ∙ then-same q d λ e q₂ s. then-ok q₂ K)
 
@@ -321,8 +321,8 @@ module _ (low : Depth) (K : Tree → List ℕ → List ℕ → Res Forest) (z : 
   choice-end false false true false p r e = refl
   choice-end false false false n p r e = refl
 
-module _ (low : Depth) (calls : Bool) (f : Forest) (q : List ℕ) where
-  abbrev path-look : ℕ → List ℕ → Token → List ℕ → List ℕ → Res Forest
+module _ (low : Depth) (calls : Bool) (f : Forest) (q : List Error) where
+  abbrev path-look : ℕ → List ℕ → Token → List Error → List ℕ → Res Forest
   path-look fuel ts tok q₁ rest = path-choice low (λ i q₂ r. path low calls fuel (snoc f i) q₂ r) (ok f ts) q rest (eqb (tok .kind) Kind.OpAccess) (eqb (tok .kind) Kind.OpenSquare) calls (eqb (tok .newline) 0) (eqb (tok .kind) Kind.OpenParen) (eqb (tok .kind) Kind.OpenBrace)
 
   path-step : (fuel : ℕ) (ts : List ℕ) → length ts ≤ fuel → path low calls fuel f q ts ≡ then q (look q ts) (path-look (fuel - 1) ts)
@@ -357,7 +357,7 @@ path-far (more t f) S S′ Z a r e g h i j = omega arith
 
 -- ATOMS
 -- what looks first
-module _ (low : Depth) (q ts : List ℕ) where
+module _ (low : Depth) (q : List Error) (ts : List ℕ) where
   pub atom-looks : Looks q ts (atom low q ts)
   unfolding atom
   atom-looks = record { go = _; is = refl }
@@ -375,7 +375,7 @@ module _ (low : Depth) (q ts : List ℕ) where
   unfolding indexing-expr
   index-step = refl
 
-module _ (low : Depth) (q : List ℕ) {T : List ℕ} {pos k n v : ℕ} (at : Taken T pos k n v) where
+module _ (low : Depth) (q : List Error) {T : List ℕ} {pos k n v : ℕ} (at : Taken T pos k n v) where
   pub atom-group : k ≡ Kind.OpenParen → atom low q (drop pos T) ≡ group-expr low q (drop (pos + 2) T)
   unfolding atom then ifb
   atom-group e = rw (at .same, eq-eqb _ _ e)

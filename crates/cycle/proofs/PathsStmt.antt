@@ -15,16 +15,17 @@ use Rattle.tree.specs.Tree.{Tree, Forest, node, none, more, one, two, three, sn
 use Rattle.tree.specs.Node
 use Rattle.tree.specs.Records.{Small}
 use Rattle.tree.specs.Store.{Emitted}
+use Rattle.grammar.specs.Reading.Limit.{queue-limit}
 use Rattle.grammar.specs.Reading.Number
 use Rattle.grammar.specs.Reading.Pattern.{to-pattern, modified}
-use Rattle.grammar.specs.Reading.Result.{Res, ok, fail, then, ifb}
+use Rattle.grammar.specs.Reading.Result.{Res, ok, fail, then, ifb, Error}
 use Rattle.grammar.specs.Reading.Look.{look, expect, expect-pattern, try-assign-keyword}
 use Rattle.grammar.specs.Reading.Expr.{Depth, Stmts, tuple-expr, expr}
 use Rattle.grammar.specs.Reading.Block.{body, block-of, block-expr, expr-label, branches}
 use Rattle.grammar.specs.Reading.Stmt.{stmt-list-of, loop, while-loop, lvalue-list, for-loop, stmt-label, stmt, is-control}
 use Rattle.grammar.specs.Reading.Depth.{at-depth}
 use Rattle.pattern.specs.Contract.{Whole}
-use Rattle.scan.specs.Post.{As, clean, Moved, Wrote, Agrees, Taken, Stored, Writes}
+use Rattle.scan.specs.Post.{As, clean, Moved, Wrote, Agrees, Taken, Stored, Writes, waiting-errors}
 use Rattle.nodes.specs.Parts.{expression-end}
 use Rattle.cycle.specs.Parts.{arm, Whiles, whiles}
 use Rattle.scan.specs.Parts.{not-allowed}
@@ -45,8 +46,8 @@ pub label-below : {T : List ℕ} {pos k n v : ℕ} → Taken T pos k n v → k �
 label-below {v = v} tk e = label-small {v = v} (tk .fits) e
 
 -- AN ERROR of the function's own
-pub fails-with : {A : Type 0} {words : A → List ℕ} {D : Res A} {T : List ℕ} {pos least slack at w₀ e p : ℕ} {S Q : List ℕ} → D ≡ fail e (take w₀ Q) (drop p T) → Moved (length T) pos w₀ p w₀ (length Q) → least ≤ p + (least + 1 - length T) → Agrees words D T pos least slack at w₀ S Q S Q (Fail e p w₀)
-fails-with {w₀ = w₀} {Q = Q} e m f = record { how = record { how = record { same = way (take w₀ Q) e; moved = m; far = f; text = refl } } }
+pub fails-with : {A : Type 0} {words : A → List ℕ} {D : Res A} {T : List ℕ} {pos least slack at w₀ e p : ℕ} {S Q : List ℕ} → D ≡ fail e (waiting-errors w₀ Q) (drop p T) → Moved (length T) pos w₀ p w₀ (length Q) → least ≤ p + (least + 1 - length T) → Agrees words D T pos least slack at w₀ S Q S Q (Fail e p w₀)
+fails-with {w₀ = w₀} {Q = Q} e m f = record { how = record { how = record { same = way (waiting-errors w₀ Q) e; moved = m; far = f; text = refl } } }
 
 -- LISTS
 pub within-of : {d : Res Stmts} {T : List ℕ} {pos slack at w₀ : ℕ} {S Q S′ Q′ : List ℕ} (l : Listed) → Lists d T pos slack at w₀ S Q S′ Q′ l → Within (length T) l
@@ -55,18 +56,18 @@ within-of (Control p a w) h = record { how = h .how .run .moved .within }
 within-of (Not s) h = record { how = tt }
 
 -- the token behind a list
-body-step : (low : Depth) (q ts : List ℕ) → body low q ts ≡ then q (low .list 0 q ts) (λ s q₁ r. then q₁ (look q₁ r) λ tok q₂ rest. ok s rest)
+body-step : (low : Depth) (q : List Error) (ts : List ℕ) → body low q ts ≡ then q (low .list 0 q ts) (λ s q₁ r. then q₁ (look q₁ r) λ tok q₂ rest. ok s rest)
 unfolding body
 body-step low q ts = refl
 
-went : (low : Depth) (T : List ℕ) (pos w₀ : ℕ) (Q : List ℕ) {x : Stmts} {q r : List ℕ} → As (take w₀ Q) (low .list 0 (take w₀ Q) (drop pos T)) q (ok x r) → As (take w₀ Q) (body low (take w₀ Q) (drop pos T)) q (then q (look q r) λ tok q₂ rest. ok x rest)
-went low T pos w₀ Q s = goes _ (way _ (body-step low (take w₀ Q) (drop pos T))) s
+went : (low : Depth) (T : List ℕ) (pos w₀ : ℕ) (Q : List ℕ) {x : Stmts} {q : List Error} {r : List ℕ} → As (waiting-errors w₀ Q) (low .list 0 (waiting-errors w₀ Q) (drop pos T)) q (ok x r) → As (waiting-errors w₀ Q) (body low (waiting-errors w₀ Q) (drop pos T)) q (then q (look q r) λ tok q₂ rest. ok x rest)
+went low T pos w₀ Q s = goes _ (way _ (body-step low (waiting-errors w₀ Q) (drop pos T))) s
 
 module _ (low : Depth) {T : List ℕ} {pos at w₀ : ℕ} {S Q S′ Q′ : List ℕ} (whole : at ≤ length S) where
-  pub passes-lists : (l r : Listed) → Lists (low .list 0 (take w₀ Q) (drop pos T)) T pos 8 at w₀ S Q S′ Q′ l → Passes T l r → Lists (body low (take w₀ Q) (drop pos T)) T pos 24 at w₀ S Q S′ Q′ r
+  pub passes-lists : (l r : Listed) → Lists (low .list 0 (waiting-errors w₀ Q) (drop pos T)) T pos 8 at w₀ S Q S′ Q′ l → Passes T l r → Lists (body low (waiting-errors w₀ Q) (drop pos T)) T pos 24 at w₀ S Q S′ Q′ r
   passes-lists (Suite p a w n last) r h f = to (f .how)
     where
-      to : Passing T p w (Suite (p + 2) a w n last) r → Lists (body low (take w₀ Q) (drop pos T)) T pos 24 at w₀ S Q S′ Q′ r
+      to : Passing T p w (Suite (p + 2) a w n last) r → Lists (body low (waiting-errors w₀ Q) (drop pos T)) T pos 24 at w₀ S Q S′ Q′ r
       to (took tk e) =
           let s = h .how in
           let g = s .run in
@@ -81,7 +82,7 @@ module _ (low : Depth) {T : List ℕ} {pos at w₀ : ℕ} {S Q S′ Q′ : List 
           rw e (record { how = lacks _ u (went low T pos w₀ Q (g .same)) (prefix g whole) (omega arith) })
   passes-lists (Control p a w) r h f = to (f .how)
     where
-      to : Passing T p w (Control (p + 2) a w) r → Lists (body low (take w₀ Q) (drop pos T)) T pos 24 at w₀ S Q S′ Q′ r
+      to : Passing T p w (Control (p + 2) a w) r → Lists (body low (waiting-errors w₀ Q) (drop pos T)) T pos 24 at w₀ S Q S′ Q′ r
       to (took tk e) =
           let s = h .how in
           let g = s .run in
@@ -93,7 +94,7 @@ module _ (low : Depth) {T : List ℕ} {pos at w₀ : ℕ} {S Q S′ Q′ : List 
           let g = h .how .run in
           let m = g .moved in
           rw e (record { how = lacks _ u (went low T pos w₀ Q (g .same)) (prefix g whole) (omega arith) })
-  passes-lists (Not s) r h f = rw (f .how) (record { how = fails _ (way _ (body-step low (take w₀ Q) (drop pos T))) (h .how) refl (omega arith) })
+  passes-lists (Not s) r h f = rw (f .how) (record { how = fails _ (way _ (body-step low (waiting-errors w₀ Q) (drop pos T))) (h .how) refl (omega arith) })
 
 -- a list may be ended, where so much room is left
 pub record Closes (n m m′ pos at slack most : ℕ) : Type 0 where
@@ -146,7 +147,7 @@ pub record Under-from (m pos₀ least₀ slack₀ at₀ w₀ pos slack at w most
   pub room : at + most + 8 * pos₀ + slack₀ ≤ at₀ + 8 * pos + slack
 
 module _ {A : Type 0} {words : A → List ℕ} {D : Res A} {d : Res Stmts} {T : List ℕ} {pos₀ least₀ slack₀ at₀ w₀ : ℕ} {S₀ Q₀ : List ℕ} {pos slack at w : ℕ} {S Q S′ Q′ : List ℕ} (S″ : List ℕ) (tree : Stmts → Tree) (word value most : ℕ) (make : Stmts → A) (Y : List ℕ)
-    (a : As (take w₀ Q₀) D (take w Q) (then (take w Q) d (λ s q r. ok (make s) r))) (y : take at S ≡ take at₀ S₀ ++ Y) (is : (s : Stmts) → words (make s) ≡ Y ++ (records (tree s) ++ word ∷ value ∷ [])) (x : take at₀ S ≡ take at₀ S₀) (n : Under-from (length S) pos₀ least₀ slack₀ at₀ w₀ pos slack at w most) where
+    (a : As (waiting-errors w₀ Q₀) D (waiting-errors w Q) (then (waiting-errors w Q) d (λ s q r. ok (make s) r))) (y : take at S ≡ take at₀ S₀ ++ Y) (is : (s : Stmts) → words (make s) ≡ Y ++ (records (tree s) ++ word ∷ value ∷ [])) (x : take at₀ S ≡ take at₀ S₀) (n : Under-from (length S) pos₀ least₀ slack₀ at₀ w₀ pos slack at w most) where
   finish : {words₁ : Stmts → List ℕ} {p b w₁ p′ b′ w₁′ : ℕ} (g : Wrote words₁ d clean T pos pos slack at w S Q p b w₁ S′ Q′) → p′ ≡ p → w₁′ ≡ w₁ → b ≤ b′ → b′ ≤ b + most → take b′ S″ ≡ take at S ++ (records (tree (g .what)) ++ word ∷ value ∷ []) → Wrote words D clean T pos₀ least₀ slack₀ at₀ w₀ S₀ Q₀ p′ b′ w₁′ S″ Q′
   finish {b′ = b′} g e f up far t =
       let m = g .moved in
@@ -172,7 +173,7 @@ module _ {A : Type 0} {words : A → List ℕ} {D : Res A} {d : Res Stmts} {T : 
   under-as (Not s) r h u = rw (u .how .0, u .how .1) (did-not (fails _ a (h .how) x (omega arith)))
 
 pub under : {A : Type 0} {words : A → List ℕ} {D : Res A} {d : Res Stmts} {T : List ℕ} {pos₀ least₀ slack₀ at₀ w₀ : ℕ} {S₀ Q₀ : List ℕ} {pos slack at w : ℕ} {S Q S′ Q′ S″ : List ℕ} {tree : Stmts → Tree} {word value most : ℕ} {l : Listed} {r : Step} (make : Stmts → A) (Y : List ℕ)
-    → Lists d T pos slack at w S Q S′ Q′ l → Unders tree word value most S′ S″ l r → As (take w₀ Q₀) D (take w Q) (then (take w Q) d (λ s q r. ok (make s) r)) → take at S ≡ take at₀ S₀ ++ Y → ((s : Stmts) → words (make s) ≡ Y ++ (records (tree s) ++ word ∷ value ∷ [])) → take at₀ S ≡ take at₀ S₀
+    → Lists d T pos slack at w S Q S′ Q′ l → Unders tree word value most S′ S″ l r → As (waiting-errors w₀ Q₀) D (waiting-errors w Q) (then (waiting-errors w Q) d (λ s q r. ok (make s) r)) → take at S ≡ take at₀ S₀ ++ Y → ((s : Stmts) → words (make s) ≡ Y ++ (records (tree s) ++ word ∷ value ∷ [])) → take at₀ S ≡ take at₀ S₀
     → Under-from (length S) pos₀ least₀ slack₀ at₀ w₀ pos slack at w most → Agrees words D T pos₀ least₀ slack₀ at₀ w₀ S₀ Q₀ S″ Q′ r
 under {S″ = S″} {tree = tree} {word = word} {value = value} {most = most} {l = l} {r = r} make Y h u a y is x n = under-as S″ tree word value most make Y a y is x n l r h u
 
@@ -193,7 +194,7 @@ pub record Renamed-from (pos₀ least₀ slack₀ at₀ w₀ pos least slack at 
   pub room : at + 8 * pos₀ + slack₀ ≤ at₀ + 8 * pos + slack
 
 module _ {A B : Type 0} {words : A → List ℕ} {words₁ : B → List ℕ} {D : Res A} {d : Res B} {T : List ℕ} {pos₀ least₀ slack₀ at₀ w₀ : ℕ} {S₀ Q₀ : List ℕ} {pos least slack at w : ℕ} {S Q S′ Q′ : List ℕ} where
-  renamed-as : (make : B → A) (Y : List ℕ) (r : Step) → Agrees words₁ d T pos least slack at w S Q S′ Q′ r → As (take w₀ Q₀) D (take w Q) (then (take w Q) d (λ x q r. ok (make x) r)) → take at S ≡ take at₀ S₀ ++ Y → ((x : B) → words (make x) ≡ Y ++ words₁ x) → take at₀ S ≡ take at₀ S₀
+  renamed-as : (make : B → A) (Y : List ℕ) (r : Step) → Agrees words₁ d T pos least slack at w S Q S′ Q′ r → As (waiting-errors w₀ Q₀) D (waiting-errors w Q) (then (waiting-errors w Q) d (λ x q r. ok (make x) r)) → take at S ≡ take at₀ S₀ ++ Y → ((x : B) → words (make x) ≡ Y ++ words₁ x) → take at₀ S ≡ take at₀ S₀
       → Renamed-from pos₀ least₀ slack₀ at₀ w₀ pos least slack at w → Agrees words D T pos₀ least₀ slack₀ at₀ w₀ S₀ Q₀ S′ Q′ r
   renamed-as make Y (Done p b v) h a y is x n =
       let g = h .how in
@@ -204,7 +205,7 @@ module _ {A B : Type 0} {words : A → List ℕ} {words₁ : B → List ℕ} {D 
   renamed-as make Y (Fail e p v) h a y is x n = did-not (fails _ a (h .how) x (omega arith))
   renamed-as make Y (Stop e) h a y is x n = did-not (fails _ a (h .how) x (omega arith))
 
-  pub renamed : (make : B → A) (Y : List ℕ) {r : Step} → Agrees words₁ d T pos least slack at w S Q S′ Q′ r → As (take w₀ Q₀) D (take w Q) (then (take w Q) d (λ x q r. ok (make x) r)) → take at S ≡ take at₀ S₀ ++ Y → ((x : B) → words (make x) ≡ Y ++ words₁ x) → take at₀ S ≡ take at₀ S₀
+  pub renamed : (make : B → A) (Y : List ℕ) {r : Step} → Agrees words₁ d T pos least slack at w S Q S′ Q′ r → As (waiting-errors w₀ Q₀) D (waiting-errors w Q) (then (waiting-errors w Q) d (λ x q r. ok (make x) r)) → take at S ≡ take at₀ S₀ ++ Y → ((x : B) → words (make x) ≡ Y ++ words₁ x) → take at₀ S ≡ take at₀ S₀
       → Renamed-from pos₀ least₀ slack₀ at₀ w₀ pos least slack at w → Agrees words D T pos₀ least₀ slack₀ at₀ w₀ S₀ Q₀ S′ Q′ r
   renamed make Y {r} h a y is x n = renamed-as make Y r h a y is x n
 
@@ -215,12 +216,12 @@ pub record Written-from (m z pos least slack at w₀ p least₁ most a w : ℕ) 
   pub on : p ≤ least₁
   pub least-le : least ≤ least₁
   pub w-le : w₀ ≤ w
-  pub few : w ≤ 96
-  pub whole : z ≡ 96
+  pub few : w ≤ queue-limit
+  pub whole : z ≡ queue-limit
   pub room : a + most + 8 * pos + slack ≤ at + 8 * least₁ + 8
 
-module _ {A : Type 0} {words : A → List ℕ} {D : Res A} {d : List ℕ → Res A} {T : List ℕ} {pos least slack at w₀ : ℕ} {S Q : List ℕ} {p least₁ most a w : ℕ} {S′ S″ Q′ : List ℕ} where
-  written-as : (r : Step) → Writes words d T p least₁ most a w (take at S) S′ S″ r → As (take w₀ Q) D (take w Q′) (d (take w Q′)) → take at S′ ≡ take at S → Written-from (length S) (length Q′) pos least slack at w₀ p least₁ most a w → Agrees words D T pos least slack at w₀ S Q S″ Q′ r
+module _ {A : Type 0} {words : A → List ℕ} {D : Res A} {d : List Error → Res A} {T : List ℕ} {pos least slack at w₀ : ℕ} {S Q : List ℕ} {p least₁ most a w : ℕ} {S′ S″ Q′ : List ℕ} where
+  written-as : (r : Step) → Writes words d T p least₁ most a w (take at S) S′ S″ r → As (waiting-errors w₀ Q) D (waiting-errors w Q′) (d (waiting-errors w Q′)) → take at S′ ≡ take at S → Written-from (length S) (length Q′) pos least slack at w₀ p least₁ most a w → Agrees words D T pos least slack at w₀ S Q S″ Q′ r
   written-as (Done p′ a′ w′) h s x n =
       let g = h .how in
       let on = g .got .on in
@@ -232,18 +233,18 @@ module _ {A : Type 0} {words : A → List ℕ} {D : Res A} {d : List ℕ → Res
   written-as (Fail e p′ w′) h s x n = did-not (lacking (h .how .unread) s (ap (take at) (h .how .text) ∙ x) (omega arith))
   written-as (Stop e) h s x n = did-not (lacking (h .how .unread) s (ap (take at) (h .how .text) ∙ x) (omega arith))
 
-  pub written : {r : Step} → Writes words d T p least₁ most a w (take at S) S′ S″ r → As (take w₀ Q) D (take w Q′) (d (take w Q′)) → take at S′ ≡ take at S → Written-from (length S) (length Q′) pos least slack at w₀ p least₁ most a w → Agrees words D T pos least slack at w₀ S Q S″ Q′ r
+  pub written : {r : Step} → Writes words d T p least₁ most a w (take at S) S′ S″ r → As (waiting-errors w₀ Q) D (waiting-errors w Q′) (d (waiting-errors w Q′)) → take at S′ ≡ take at S → Written-from (length S) (length Q′) pos least slack at w₀ p least₁ most a w → Agrees words D T pos least slack at w₀ S Q S″ Q′ r
   written {r} h s x n = written-as r h s x n
 
 -- what was written as a tree, for who makes a pattern of it
-module _ {B : Type 0} {d : Res B} {k : Tree → List ℕ → List ℕ → Res B} {T : List ℕ} {pos least slack at w₀ : ℕ} {S Q : List ℕ} {p a w : ℕ} {S′ Q′ : List ℕ} (g : Wrote records d k T pos least slack at w₀ S Q p a w S′ Q′) where
+module _ {B : Type 0} {d : Res B} {k : Tree → List Error → List ℕ → Res B} {T : List ℕ} {pos least slack at w₀ : ℕ} {S Q : List ℕ} {p a w : ℕ} {S′ Q′ : List ℕ} (g : Wrote records d k T pos least slack at w₀ S Q p a w S′ Q′) where
   pub whole-of : Small (g .what) → at ≤ length S → a ≤ length S′ → Whole (g .what) S′ at a
   whole-of s h i = record { small = s; text = rebased g h; start = g .room .up; within = i }
 
-  pub up-of : {A : Type 0} {words : A → List ℕ} {d₁ : List ℕ → Res A} {least₁ most b w₁ p₁ a₁ w₂ : ℕ} {S″ : List ℕ} → Stored words d₁ T least₁ most b w₁ (take at S′) p₁ a₁ w₂ S″ → at ≤ length S′ → at ≤ a₁
+  pub up-of : {A : Type 0} {words : A → List ℕ} {d₁ : List Error → Res A} {least₁ most b w₁ p₁ a₁ w₂ : ℕ} {S″ : List ℕ} → Stored words d₁ T least₁ most b w₁ (take at S′) p₁ a₁ w₂ S″ → at ≤ length S′ → at ≤ a₁
   up-of {a₁ = a₁} {S″ = S″} st h = text-up at a₁ S′ S″ _ h (st .text)
 
-pub ended-text : {make : Tree → Tree} {a more r : ℕ} {S S′ : List ℕ} {d : List ℕ → Res Tree} {T : List ℕ} {least most at w₀ : ℕ} {X : List ℕ} {p w : ℕ} → Ended records Any records make a more r S S′ → (st : Stored records d T least most at w₀ X p a w S) → take r S′ ≡ X ++ records (make (st .got .what))
+pub ended-text : {make : Tree → Tree} {a more r : ℕ} {S S′ : List ℕ} {d : List Error → Res Tree} {T : List ℕ} {least most at w₀ : ℕ} {X : List ℕ} {p w : ℕ} → Ended records Any records make a more r S S′ → (st : Stored records d T least most at w₀ X p a w S) → take r S′ ≡ X ++ records (make (st .got .what))
 ended-text {X = X} e st = e .text X (st .got .what) tt (st .text)
 
 pub modified-text : (t : Tree) {m n : ℕ} {X Y Z : List ℕ} → Z ≡ X ++ records (modified m t) → X ≡ Y → n ≡ m → Z ≡ Y ++ records (modified n t)
@@ -263,7 +264,7 @@ unfolding records count
 three-words k v t u s = rw (append-nil, append-assoc, append-assoc)
 
 -- WAYS
-module _ (low : Depth) (l : ℕ) (q ts : List ℕ) where
+module _ (low : Depth) (l : ℕ) (q : List Error) (ts : List ℕ) where
   pub block-step : block-expr low l q ts ≡ then q (body low q ts) (λ s q₁ r. ok (Node.block l (block-of s)) r)
   unfolding block-expr
   block-step = refl
@@ -280,11 +281,11 @@ module _ (low : Depth) (l : ℕ) (q ts : List ℕ) where
   unfolding stmt-label
   stmt-label-looks = record { go = _; is = refl }
 
-pub stmt-looks : (low : Depth) (q ts : List ℕ) → Looks q ts (stmt low q ts)
+pub stmt-looks : (low : Depth) (q : List Error) (ts : List ℕ) → Looks q ts (stmt low q ts)
 unfolding stmt
 stmt-looks low q ts = record { go = _; is = refl }
 
-module _ (low : Depth) (q ts : List ℕ) where
+module _ (low : Depth) (q : List Error) (ts : List ℕ) where
   pub turning-step : whiles low q ts ≡ then q (expr low q ts) (λ e q₁ r. then q₁ (expect Kind.Do Number.missing-do q₁ r) λ tok q₂ s. then q₂ (body low q₂ s) λ b q₃ u. ok (record { over = e; run = b }) u)
   unfolding whiles
   turning-step = refl
@@ -302,17 +303,17 @@ module _ (low : Depth) (q ts : List ℕ) where
   unfolding arm
   branch-step = refl
 
-pub for-step : (low : Depth) (l : ℕ) (q ts : List ℕ) → for-loop low l q ts ≡ then q (lvalue-list low q ts) (λ pattern q₁ r. then q₁ (expect Kind.In Number.missing-do q₁ r) λ tok q₂ s.
+pub for-step : (low : Depth) (l : ℕ) (q : List Error) (ts : List ℕ) → for-loop low l q ts ≡ then q (lvalue-list low q ts) (λ pattern q₁ r. then q₁ (expect Kind.In Number.missing-do q₁ r) λ tok q₂ s.
     then q₂ (expr low q₂ s) λ iter q₃ u. then q₃ (expect Kind.Do Number.missing-do q₃ u) λ tok₂ q₄ x. then q₄ (body low q₄ x) λ b q₅ y. ok (Node.for-loop l pattern iter (stmt-list-of b)) y)
 unfolding for-loop
 for-step low l q ts = refl
 
-pub lvalue-step : (low : Depth) (q ts : List ℕ) → lvalue-list low q ts ≡ then q (try-assign-keyword q ts) (λ m q₁ r. then q₁ (tuple-expr low q₁ r) λ t q₂ s. then q₂ (expect-pattern Number.cannot-assign (to-pattern t) q₂ s) λ p q₃ u. ok (modified m p) u)
+pub lvalue-step : (low : Depth) (q : List Error) (ts : List ℕ) → lvalue-list low q ts ≡ then q (try-assign-keyword q ts) (λ m q₁ r. then q₁ (tuple-expr low q₁ r) λ t q₂ s. then q₂ (expect-pattern Number.cannot-assign (to-pattern t) q₂ s) λ p q₃ u. ok (modified m p) u)
 unfolding lvalue-list
 lvalue-step low q ts = refl
 
 -- the three controls, by what is known of them together
-module _ {A : Type 0} (q r : List ℕ) (z : Unit {0} → Res A) where
+module _ {A : Type 0} (q : List Error) (r : List ℕ) (z : Unit {0} → Res A) where
   control-one : (a b c : Bool) → (a || b || c) ≡ true → ifb a (λ _. fail Number.continue-not-allowed q r) (λ _. ifb b (λ _. fail Number.break-not-allowed q r) (λ _. ifb c (λ _. fail Number.return-not-allowed q r) z)) ≡ fail (cond a Number.continue-not-allowed (cond b Number.break-not-allowed Number.return-not-allowed)) q r
   unfolding ifb
   control-one true b c e = refl
@@ -327,7 +328,7 @@ module _ {A : Type 0} (q r : List ℕ) (z : Unit {0} → Res A) where
   control-none false false true e = absurd (let z : _≡_ {A = ℕ} 0 1 = cc in omega arith)
   control-none false false false e = refl
 
-module _ (low : Depth) (q : List ℕ) {T : List ℕ} {pos k n v : ℕ} (at : Taken T pos k n v) where
+module _ (low : Depth) (q : List Error) {T : List ℕ} {pos k n v : ℕ} (at : Taken T pos k n v) where
   module _ (l : ℕ) where
     pub begin-is : k ≡ Kind.Begin → expr-label low l q (drop pos T) ≡ block-expr low l q (drop (pos + 2) T)
     unfolding expr-label then ifb
@@ -388,7 +389,7 @@ module _ (low : Depth) (q : List ℕ) {T : List ℕ} {pos k n v : ℕ} (at : Tak
     stmt-expr i h = stmt-other ∙ control-none q (drop (pos + 2) T) _ (eqb k Kind.Continue) (eqb k Kind.Break) (eqb k Kind.Return) (sym i ∙ h)
 
 -- CONDITIONALS: behind a arm
-unfoldable pub behind : Depth → ℕ → Forest → Tree → List ℕ → List ℕ → Res Tree
+unfoldable pub behind : Depth → ℕ → Forest → Tree → List Error → List ℕ → Res Tree
 behind low n f b q u =
     then q (look q u) λ tok q₄ rest.
     ifb (eqb (tok .kind) Kind.End) (λ _. ok (Node.if-expr (snoc f b) Node.absent) rest) λ _.
@@ -396,36 +397,36 @@ behind low n f b q u =
     (λ _. then q (body low q rest) λ e q₅ x. ok (Node.if-expr (snoc f b) (block-of e)) x)
     (λ _. branches low n (snoc f b) q rest)
 
-expr-empty : (low : Depth) (q : List ℕ) → expr low q [] ≡ fail Number.end-of-tokens q []
+expr-empty : (low : Depth) (q : List Error) → expr low q [] ≡ fail Number.end-of-tokens q []
 unfolding expr try-assign-keyword look then
 expr-empty low q = refl
 
-branch-empty : (low : Depth) (f : Tree → List ℕ → List ℕ → Res Tree) (q : List ℕ) → then q (arm low q []) f ≡ fail Number.end-of-tokens q []
+branch-empty : (low : Depth) (f : Tree → List Error → List ℕ → Res Tree) (q : List Error) → then q (arm low q []) f ≡ fail Number.end-of-tokens q []
 unfolding then
 branch-empty low f q = rw (branch-step low q [], expr-empty low q)
 
-branches-suc : (low : Depth) (n : ℕ) (f : Forest) (q ts : List ℕ) → branches low (suc n) f q ts ≡ then q (arm low q ts) (λ b q₃ u. behind low n f b q₃ u)
+branches-suc : (low : Depth) (n : ℕ) (f : Forest) (q : List Error) (ts : List ℕ) → branches low (suc n) f q ts ≡ then q (arm low q ts) (λ b q₃ u. behind low n f b q₃ u)
 unfolding branches behind
 branches-suc low n f q ts = sym (ap (λ (d : Res Tree). then q d (λ b q₃ u. behind low n f b q₃ u)) (branch-step low q ts) ∙ then-then q (expr low q ts) _ _
     ∙ then-same q (expr low q ts) (λ e q₁ r. then-then q₁ (expect Kind.Then Number.missing-then q₁ r) _ _ ∙ then-same q₁ (expect Kind.Then Number.missing-then q₁ r) (λ tok q₂ s. then-then q₂ (low .list 1 q₂ s) _ _ ∙ then-same q₂ (low .list 1 q₂ s) (λ b q₃ u. then-ok q₃ _))))
 
-branches-zero : (low : Depth) (f : Forest) (q : List ℕ) → branches low 0 f q [] ≡ fail Number.end-of-tokens q []
+branches-zero : (low : Depth) (f : Forest) (q : List Error) → branches low 0 f q [] ≡ fail Number.end-of-tokens q []
 unfolding branches
 branches-zero low f q = refl
 
-branches-any : (low : Depth) (fuel : ℕ) (f : Forest) (q ts : List ℕ) → length ts ≤ fuel → branches low fuel f q ts ≡ then q (arm low q ts) (λ b q₃ u. behind low (fuel - 1) f b q₃ u)
+branches-any : (low : Depth) (fuel : ℕ) (f : Forest) (q : List Error) (ts : List ℕ) → length ts ≤ fuel → branches low fuel f q ts ≡ then q (arm low q ts) (λ b q₃ u. behind low (fuel - 1) f b q₃ u)
 branches-any low zero f q [] h = branches-zero low f q ∙ sym (branch-empty low _ q)
 branches-any low zero f q (x ∷ ts) h = absurd (omega arith)
 branches-any low (suc n) f q ts h = branches-suc low n f q ts ∙ rw (sub-one (suc n))
 
-pub branches-step : (low : Depth) (fuel : ℕ) (f : Forest) (q T : List ℕ) (p : ℕ) → length T ≤ p + fuel → branches low fuel f q (drop p T) ≡ then q (arm low q (drop p T)) (λ b q₃ u. behind low (fuel - 1) f b q₃ u)
+pub branches-step : (low : Depth) (fuel : ℕ) (f : Forest) (q : List Error) (T : List ℕ) (p : ℕ) → length T ≤ p + fuel → branches low fuel f q (drop p T) ≡ then q (arm low q (drop p T)) (λ b q₃ u. behind low (fuel - 1) f b q₃ u)
 branches-step low fuel f q T p h = branches-any low fuel f q (drop p T) (rw length-drop (omega arith))
 
-pub behind-looks : (low : Depth) (n : ℕ) (f : Forest) (b : Tree) (q ts : List ℕ) → Looks q ts (behind low n f b q ts)
+pub behind-looks : (low : Depth) (n : ℕ) (f : Forest) (b : Tree) (q : List Error) (ts : List ℕ) → Looks q ts (behind low n f b q ts)
 unfolding behind
 behind-looks low n f b q ts = record { go = _; is = refl }
 
-module _ (low : Depth) (fuel : ℕ) (f : Forest) (b : Tree) (q : List ℕ) {T : List ℕ} {pos k n v : ℕ} (at : Taken T pos k n v) where
+module _ (low : Depth) (fuel : ℕ) (f : Forest) (b : Tree) (q : List Error) {T : List ℕ} {pos k n v : ℕ} (at : Taken T pos k n v) where
   pub behind-end : k ≡ Kind.End → behind low fuel f b q (drop pos T) ≡ ok (Node.if-expr (snoc f b) Node.absent) (drop (pos + 2) T)
   unfolding behind then ifb
   behind-end e = rw (at .same, e)
@@ -446,7 +447,7 @@ if-words g n c = two-words 18 0 (Node.list g) Node.absent ∙ rw (c, append-asso
 pub record Going (T S₀ Q₀ : List ℕ) (depth pos at waiting : ℕ) (S Q : List ℕ) (p a w n : ℕ) : Type 0 where
   pub fuel : ℕ
   pub enough : length T ≤ p + fuel
-  pub run : Wrote all-records (branches (at-depth depth) (length (drop pos T)) none (take waiting Q₀) (drop pos T)) (branches (at-depth depth) fuel) T pos pos 8 at waiting S₀ Q₀ p a w S Q
+  pub run : Wrote all-records (branches (at-depth depth) (length (drop pos T)) none (waiting-errors waiting Q₀) (drop pos T)) (branches (at-depth depth) fuel) T pos pos 8 at waiting S₀ Q₀ p a w S Q
   pub many : count (run .what) ≡ n
   pub short : 2 * n ≤ p
   pub kept : length S ≡ length S₀
@@ -459,7 +460,7 @@ text-before S S′ X at a e up h =
     sym (take-take at a S′ up) ∙ ap (take at) e ∙ take-append-le at (take at S) X le′ ∙ take-take at at S (omega arith)
 
 -- one arm more
-module _ {B C : Type 0} {D : Res B} {K : Forest → List ℕ → List ℕ → Res B} {d : Res C} {K₁ : Tree → List ℕ → List ℕ → Res C} {T : List ℕ} {pos least slack at w₀ : ℕ} {S₀ Q₀ : List ℕ} {p a w : ℕ} {S Q : List ℕ} {pos₁ least₁ slack₁ p₁ a₁ w₁ : ℕ} {S₁ Q₁ : List ℕ}
+module _ {B C : Type 0} {D : Res B} {K : Forest → List Error → List ℕ → Res B} {d : Res C} {K₁ : Tree → List Error → List ℕ → Res C} {T : List ℕ} {pos least slack at w₀ : ℕ} {S₀ Q₀ : List ℕ} {p a w : ℕ} {S Q : List ℕ} {pos₁ least₁ slack₁ p₁ a₁ w₁ : ℕ} {S₁ Q₁ : List ℕ}
     (g : Wrote all-records D K T pos least slack at w₀ S₀ Q₀ p a w S Q) (h : Wrote records d K₁ T pos₁ least₁ slack₁ a w S Q p₁ a₁ w₁ S₁ Q₁) where
   pub branch-text : take a₁ S₁ ≡ take at S₀ ++ all-records (snoc (g .what) (h .what))
   branch-text = joined (g .what) (h .what) (take at S₀) (h .text) (g .text)

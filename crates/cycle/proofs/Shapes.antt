@@ -24,7 +24,7 @@ use Rattle.scan.specs.Post.{As}
 use Rattle.nodes.specs.Ends.{Shape, other, a-tuple, lone, unpacked}
 
 -- what was read, as the code saw it
-pub given : {A : Type 0} {P : A → Type 0} {q : List ℕ} {d : Res A} {q′ r : List ℕ} {x : A} → Holds P d → As q d q′ (ok x r) → P x
+pub given : {A : Type 0} {P : A → Type 0} {q : List Error} {d : Res A} {q′ : List Error} {r : List ℕ} {x : A} → Holds P d → As q d q′ (ok x r) → P x
 given {P = P} (h-ok p) a = subst P (let i = a .is in cc) p
 given {P = P} (h-bad p) a = subst P (let i = a .is in cc) p
 given h-fail a = absurd (let i = a .is in let z : _≡_ {A = ℕ} 0 1 = cc in omega arith)

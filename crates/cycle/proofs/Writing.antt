@@ -12,9 +12,10 @@ use lib.Seq.{length-take-le, take-take, take-append-le}
 use Rattle.tree.specs.Tree.{Tree, Forest, node, two, count, records, all-records}
 use Rattle.tree.specs.Store.{Emitted}
 use Rattle.tree.specs.Records.{Small}
+use Rattle.grammar.specs.Reading.Limit.{queue-limit}
 use Rattle.pattern.specs.Contract.{Whole}
-use Rattle.grammar.specs.Reading.Result.{Res, ok, then, ifb}
-use Rattle.scan.specs.Post.{As, Moved, Room, Failed, Wrote, Agrees, Stored, Unstored, Writes, Reads, Number-at, itself}
+use Rattle.grammar.specs.Reading.Result.{Res, ok, then, ifb, Error}
+use Rattle.scan.specs.Post.{As, Moved, Room, Failed, Wrote, Agrees, Stored, Unstored, Writes, Reads, Number-at, itself, waiting-errors}
 use Rattle.nodes.specs.Ends.{Added}
 use Rattle.scan.specs.declared.Step.{Step}
 use Rattle.scan.specs.declared.Step.the-variants.{Done, Fail, Stop}
@@ -22,7 +23,7 @@ use Rattle.scan.proofs.Laws.{way, link, Beyond, lacks, lacking, gets, prefix, r
 use Rattle.nodes.proofs.Made.{put, all-two}
 use Rattle.scan.proofs.Step.{the-type}
 
-module _ {A : Type 0} {words : A → List ℕ} {d : List ℕ → Res A} {T : List ℕ} {pos least most at w₀ : ℕ} {X S S′ : List ℕ} where
+module _ {A : Type 0} {words : A → List ℕ} {d : List Error → Res A} {T : List ℕ} {pos least most at w₀ : ℕ} {X S S′ : List ℕ} where
   pub stored : {p a w : ℕ} {r : Step} → r ≡ Done p a w → Writes words d T pos least most at w₀ X S S′ r → Stored words d T least most at w₀ X p a w S′
   stored e h = rw e at (h .how)
 
@@ -47,13 +48,13 @@ pub record Tail (pos least slack at w₀ p₁ least₁ most a₁ w₁ z m : ℕ)
   pub pos-le : pos ≤ p₁
   pub least-le : least ≤ least₁
   pub w-le : w₀ ≤ w₁
-  pub few : w₁ ≤ 96
-  pub whole : z ≡ 96
+  pub few : w₁ ≤ queue-limit
+  pub whole : z ≡ queue-limit
   pub at-in : at ≤ m
   pub slack-le : a₁ + most + 8 * pos + slack ≤ at + 8 * least₁ + 8
 
-module _ {A : Type 0} {words : A → List ℕ} {D : Res A} {d : List ℕ → Res A} {T : List ℕ} {pos least slack at w₀ : ℕ} {S Q : List ℕ} {p₁ least₁ most a₁ w₁ : ℕ} {X S₁ S′ Q₁ : List ℕ} where
-  settled-as : X ≡ take at S → As (take w₀ Q) D (take w₁ Q₁) (d (take w₁ Q₁)) → take at S₁ ≡ take at S → Tail pos least slack at w₀ p₁ least₁ most a₁ w₁ (length Q₁) (length S) → (r : Step) → Writes words d T p₁ least₁ most a₁ w₁ X S₁ S′ r → Agrees words D T pos least slack at w₀ S Q S′ Q₁ r
+module _ {A : Type 0} {words : A → List ℕ} {D : Res A} {d : List Error → Res A} {T : List ℕ} {pos least slack at w₀ : ℕ} {S Q : List ℕ} {p₁ least₁ most a₁ w₁ : ℕ} {X S₁ S′ Q₁ : List ℕ} where
+  settled-as : X ≡ take at S → As (waiting-errors w₀ Q) D (waiting-errors w₁ Q₁) (d (waiting-errors w₁ Q₁)) → take at S₁ ≡ take at S → Tail pos least slack at w₀ p₁ least₁ most a₁ w₁ (length Q₁) (length S) → (r : Step) → Writes words d T p₁ least₁ most a₁ w₁ X S₁ S′ r → Agrees words D T pos least slack at w₀ S Q S′ Q₁ r
   settled-as x s y t (Done p a w) h =
       let u = h .how in
       let g = u .got in
@@ -68,7 +69,7 @@ module _ {A : Type 0} {words : A → List ℕ} {D : Res A} {d : List ℕ → Res
   settled-as x s y t (Stop n) h = rw (h .how .text) (record { how = lacking (h .how .unread) s y (omega arith) })
 
   -- D is at last d, which a last call read and wrote
-  pub settled : {r : Step} → Writes words d T p₁ least₁ most a₁ w₁ X S₁ S′ r → X ≡ take at S → As (take w₀ Q) D (take w₁ Q₁) (d (take w₁ Q₁)) → take at S₁ ≡ take at S → Tail pos least slack at w₀ p₁ least₁ most a₁ w₁ (length Q₁) (length S) → Agrees words D T pos least slack at w₀ S Q S′ Q₁ r
+  pub settled : {r : Step} → Writes words d T p₁ least₁ most a₁ w₁ X S₁ S′ r → X ≡ take at S → As (waiting-errors w₀ Q) D (waiting-errors w₁ Q₁) (d (waiting-errors w₁ Q₁)) → take at S₁ ≡ take at S → Tail pos least slack at w₀ p₁ least₁ most a₁ w₁ (length Q₁) (length S) → Agrees words D T pos least slack at w₀ S Q S′ Q₁ r
   settled {r = r} h x s y t = settled-as x s y t r h
 
 -- a function that may answer either way
@@ -78,8 +79,8 @@ either-way true f g e = rw e (f refl)
 either-way false f g e = rw e (g refl)
 
 -- a last call that reads tokens only, behind what g wrote
-module _ {A B C : Type 0} {words : B → List ℕ} {d : Res C} {k : B → List ℕ → List ℕ → Res C} {D : Res B} {d₂ : List ℕ → Res A} {T : List ℕ} {pos′ least′ slack′ at w₀ : ℕ} {S Q : List ℕ} {p a w : ℕ} {S′ Q′ : List ℕ} {pos least slack least₁ : ℕ}
-    (g : Wrote words d k T pos′ least′ slack′ at w₀ S Q p a w S′ Q′) (h : at ≤ length S) (same : As (take w₀ Q) D (take w Q′) (then (take w Q′) (d₂ (take w Q′)) (λ x q r. ok (g .what) r))) where
+module _ {A B C : Type 0} {words : B → List ℕ} {d : Res C} {k : B → List Error → List ℕ → Res C} {D : Res B} {d₂ : List Error → Res A} {T : List ℕ} {pos′ least′ slack′ at w₀ : ℕ} {S Q : List ℕ} {p a w : ℕ} {S′ Q′ : List ℕ} {pos least slack least₁ : ℕ}
+    (g : Wrote words d k T pos′ least′ slack′ at w₀ S Q p a w S′ Q′) (h : at ≤ length S) (same : As (waiting-errors w₀ Q) D (waiting-errors w Q′) (then (waiting-errors w Q′) (d₂ (waiting-errors w Q′)) (λ x q r. ok (g .what) r))) where
   closed-as : Beyond pos least w₀ p least₁ w (length Q′) → a + 8 * pos + slack ≤ at + 8 * least₁ + 8 → (r : Step) → Reads d₂ T p least₁ a w r → Agrees words D T pos least slack at w₀ S Q S′ Q′ r
   closed-as b o (Done p₁ a₁ w₁) f =
       let u = f .how in
@@ -97,7 +98,7 @@ module _ {A B C : Type 0} {words : B → List ℕ} {d : Res C} {k : B → List �
   closed-by {r = r} f b o = closed-as b o r f
 
 -- a number that was read
-pub told : {B : Type 0} {D : Res B} {d : List ℕ → Res ℕ} {T : List ℕ} {least bound p v : ℕ} {q q₁ : List ℕ} (k : ℕ → List ℕ → List ℕ → Res B) (x : Number-at itself d T least bound p v) → As q D q₁ (then q₁ (d q₁) k) → As q D q₁ (k v q₁ (drop p T))
+pub told : {B : Type 0} {D : Res B} {d : List Error → Res ℕ} {T : List ℕ} {least bound p v : ℕ} {q q₁ : List Error} (k : ℕ → List Error → List ℕ → Res B) (x : Number-at itself d T least bound p v) → As q D q₁ (then q₁ (d q₁) k) → As q D q₁ (k v q₁ (drop p T))
 told {T = T} {p = p} {q₁ = q₁} k x a = link (gets k (x .got) a) (way _ (ap (λ (n : ℕ). k n q₁ (drop p T)) (x .is)))
 
 -- a tree has words
@@ -105,7 +106,7 @@ pub words-some : (t : Tree) → 2 ≤ length (records t)
 unfolding records
 words-some (node k v f) = rw length-append (omega arith)
 
-pub taller : {C : Type 0} {d : Res C} {k : Tree → List ℕ → List ℕ → Res C} {T : List ℕ} {pos least slack at w₀ : ℕ} {S Q : List ℕ} {p a w : ℕ} {S′ Q′ : List ℕ} (g : Wrote records d k T pos least slack at w₀ S Q p a w S′ Q′) → at ≤ length S → at + 2 ≤ a
+pub taller : {C : Type 0} {d : Res C} {k : Tree → List Error → List ℕ → Res C} {T : List ℕ} {pos least slack at w₀ : ℕ} {S Q : List ℕ} {p a w : ℕ} {S′ Q′ : List ℕ} (g : Wrote records d k T pos least slack at w₀ S Q p a w S′ Q′) → at ≤ length S → at + 2 ≤ a
 taller {at = at} {S = S} {a = a} {S′ = S′} g h =
     let n : length (take a S′) ≡ length (take at S) + length (records (g .what)) = ap length (g .text) ∙ length-append (take at S) (records (g .what)) in
     let m : length (take at S) ≡ at = length-take-le at S h in
@@ -119,25 +120,25 @@ kids-two Z t u e h = h ∙ rw (e, all-two, append-assoc)
 
 module _ {E : Type 0} {D : Res E} {T : List ℕ} {pos least slack at w₀ : ℕ} {S Q : List ℕ} {q r w : ℕ} {S″ Q″ : List ℕ} where
   -- a record over a forest
-  pub made-over : {K : Tree → List ℕ → List ℕ → Res E} {v word a : ℕ} {S′ : List ℕ} (k : ℕ) (f : Forest) → Emitted a word v r S′ S″ → take a S′ ≡ take at S ++ all-records f → As (take w₀ Q) D (take w Q″) (K (node k v f) (take w Q″) (drop q T)) → Moved (length T) least w₀ q w (length Q″) → Room pos at slack q r → word ≡ k + 256 * count f → Wrote records D K T pos least slack at w₀ S Q q r w S″ Q″
+  pub made-over : {K : Tree → List Error → List ℕ → Res E} {v word a : ℕ} {S′ : List ℕ} (k : ℕ) (f : Forest) → Emitted a word v r S′ S″ → take a S′ ≡ take at S ++ all-records f → As (waiting-errors w₀ Q) D (waiting-errors w Q″) (K (node k v f) (waiting-errors w Q″) (drop q T)) → Moved (length T) least w₀ q w (length Q″) → Room pos at slack q r → word ≡ k + 256 * count f → Wrote records D K T pos least slack at w₀ S Q q r w S″ Q″
   made-over {v = v} k f e x same moved room i = record { what = node k v f; same = same; moved = moved; room = room; text = put k f (take at S) e x i }
 
   -- words that are x's
-  pub made-added : {A : Type 0} {words′ : A → List ℕ} {K : A → List ℕ → List ℕ → Res E} {most : ℕ} {words : List ℕ} (x : A) → Added at most words r S S″ → words ≡ words′ x → As (take w₀ Q) D (take w Q″) (K x (take w Q″) (drop q T)) → Moved (length T) least w₀ q w (length Q″) → Room pos at slack q r → Wrote words′ D K T pos least slack at w₀ S Q q r w S″ Q″
+  pub made-added : {A : Type 0} {words′ : A → List ℕ} {K : A → List Error → List ℕ → Res E} {most : ℕ} {words : List ℕ} (x : A) → Added at most words r S S″ → words ≡ words′ x → As (waiting-errors w₀ Q) D (waiting-errors w Q″) (K x (waiting-errors w Q″) (drop q T)) → Moved (length T) least w₀ q w (length Q″) → Room pos at slack q r → Wrote words′ D K T pos least slack at w₀ S Q q r w S″ Q″
   made-added x e i same moved room = record { what = x; same = same; moved = moved; room = room; text = e .text ∙ rw i }
 
 -- what stands before «at» stays
-pub before : (at : ℕ) (S : List ℕ) {A : Type 0} {words : A → List ℕ} {d : List ℕ → Res A} {T : List ℕ} {least most a₁ w₁ p a w : ℕ} {S′ : List ℕ} → Stored words d T least most a₁ w₁ (take at S) p a w S′ → at ≤ length S → take at S′ ≡ take at S
+pub before : (at : ℕ) (S : List ℕ) {A : Type 0} {words : A → List ℕ} {d : List Error → Res A} {T : List ℕ} {least most a₁ w₁ p a w : ℕ} {S′ : List ℕ} → Stored words d T least most a₁ w₁ (take at S) p a w S′ → at ≤ length S → take at S′ ≡ take at S
 before at S {words = words} {a = a} {S′ = S′} s h =
     let n : length (take at S) ≡ at = length-take-le at S h in
     let le : at ≤ length (take at S) = omega arith in
     sym (take-take at a S′ (reaches S S′ (words (s .got .what)) at a (s .text) h)) ∙ ap (take at) (s .text) ∙ take-append-le at (take at S) (words (s .got .what)) le ∙ take-take at at S (omega arith)
 
 -- D goes on by k from d, which failed and wrote nothing
-pub unwrote : {A B : Type 0} {D : Res B} {d : List ℕ → Res A} {T : List ℕ} {pos least at w₀ : ℕ} {S Q : List ℕ} {p least₁ w : ℕ} {S₁ S′ Q′ : List ℕ} {r : Step} (k : A → List ℕ → List ℕ → Res B) → Unstored d T p least₁ w S₁ S′ r → As (take w₀ Q) D (take w Q′) (then (take w Q′) (d (take w Q′)) k) → take at S₁ ≡ take at S
+pub unwrote : {A B : Type 0} {D : Res B} {d : List Error → Res A} {T : List ℕ} {pos least at w₀ : ℕ} {S Q : List ℕ} {p least₁ w : ℕ} {S₁ S′ Q′ : List ℕ} {r : Step} (k : A → List Error → List ℕ → Res B) → Unstored d T p least₁ w S₁ S′ r → As (waiting-errors w₀ Q) D (waiting-errors w Q′) (then (waiting-errors w Q′) (d (waiting-errors w Q′)) k) → take at S₁ ≡ take at S
     → Beyond pos least w₀ p least₁ w (length Q′) → Failed D T pos least at w₀ S Q S′ Q′ r
 unwrote k u a x b = rw (u .text) (lacks k (u .unread) a x b)
 
 -- the tree that was written stands there
-pub stands : {C : Type 0} {d : Res C} {k : Tree → List ℕ → List ℕ → Res C} {T : List ℕ} {pos least slack at w₀ : ℕ} {S Q : List ℕ} {p a w : ℕ} {S′ Q′ : List ℕ} (g : Wrote records d k T pos least slack at w₀ S Q p a w S′ Q′) → Small (g .what) → at ≤ length S → a ≤ length S′ → Whole (g .what) S′ at a
+pub stands : {C : Type 0} {d : Res C} {k : Tree → List Error → List ℕ → Res C} {T : List ℕ} {pos least slack at w₀ : ℕ} {S Q : List ℕ} {p a w : ℕ} {S′ Q′ : List ℕ} (g : Wrote records d k T pos least slack at w₀ S Q p a w S′ Q′) → Small (g .what) → at ≤ length S → a ≤ length S′ → Whole (g .what) S′ at a
 stands g s h i = record { small = s; text = rebased g h; start = g .room .up; within = i }

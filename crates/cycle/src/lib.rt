@@ -2,7 +2,7 @@
 ghost use mathlib.Core.Path.{_≡_};
 ghost use mathlib.Core.Bool.{true};
 ghost use Prim.Native.Nat.{_+_, _≤_};
-ghost use lib.ListN.{length, take, drop};
+ghost use lib.ListN.{length, drop};
 ghost use Rattle.tree.specs.Tree.{none, records};
 ghost use Rattle.grammar.specs.Reading.Expr.{binop-expr, tuple-expr, expr as expr-def};
 ghost use Rattle.grammar.specs.Reading.Primary.{group-expr, atom as atom-def, indexing-expr, table-field, table-item, table-literal, invocation, path as path-def, primary as primary-def, unpack-expr};
@@ -10,7 +10,7 @@ ghost use Rattle.grammar.specs.Reading.Block.{body as body-def, block-expr, exp
 ghost use Rattle.grammar.specs.Reading.Function.{param as param-def, function-param-list, function-def, function-assignment-target, function-decl-expr};
 ghost use Rattle.grammar.specs.Reading.Stmt.{loop as loop-def, lvalue-list, for-loop, stmt-label, stmt as stmt-def, is-control as is-control-def, control-value, control-flow, synchronize, caught as caught-def};
 ghost use Rattle.grammar.specs.Reading.Depth.{primary-expr, at-depth};
-ghost use Rattle.scan.specs.Post.{no-words, Ready, Lent, Agrees};
+ghost use Rattle.scan.specs.Post.{no-words, Ready, Lent, waiting-errors, Reading};
 ghost use Rattle.cycle.specs.Parts.{tail as tail-def, part as part-def, list-words, arm as arm-def, whiles as whiles-def, whiles-words, turn as turn-def};
 ghost use Rattle.nodes.specs.Parts.{tuple-words, path-words, signature-words};
 ghost use Rattle.cycle.specs.Lists.{Lists, Enters};
@@ -96,7 +96,7 @@ fn unop(
     waiting: usize,
 ) -> Step
     requires { ⌜ Ready (length (now tokens)) (length (now store)) (length (now queue)) pos at waiting ⌝ }
-    ensures { λ r. ⌜ Agrees records ((at-depth depth) .unary (take waiting (now (queue .entry))) (drop pos (now (tokens .entry)))) (now (tokens .entry)) pos (pos + 2) 20 at waiting (now (store .entry)) (now (queue .entry)) (now (store .exit)) (now (queue .exit)) r ⌝ }
+    ensures { λ r. ⌜ Reading records ((at-depth depth) .unary) (now (tokens .entry)) pos (pos + 2) 20 at waiting (now (store .entry)) (now (queue .entry)) (now (store .exit)) (now (queue .exit)) r ⌝ }
 {
     if depth == 0 {
         return Step::Stop(limit::TOO_DEEP);
@@ -128,7 +128,7 @@ fn term(
     waiting: usize,
 ) -> Step
     requires { ⌜ Ready (length (now tokens)) (length (now store)) (length (now queue)) pos at waiting ⌝ }
-    ensures { λ r. ⌜ Agrees records (primary-expr (at-depth depth) (take waiting (now (queue .entry))) (drop pos (now (tokens .entry)))) (now (tokens .entry)) pos (pos + 2) 20 at waiting (now (store .entry)) (now (queue .entry)) (now (store .exit)) (now (queue .exit)) r ⌝ }
+    ensures { λ r. ⌜ Reading records (primary-expr (at-depth depth)) (now (tokens .entry)) pos (pos + 2) 20 at waiting (now (store .entry)) (now (queue .entry)) (now (store .exit)) (now (queue .exit)) r ⌝ }
 {
     match look(tokens, pos, waiting) {
         Seen::Token(kind, _, value) => match kind {
@@ -161,7 +161,7 @@ fn dots(
     waiting: usize,
 ) -> Step
     requires { ⌜ Ready (length (now tokens)) (length (now store)) (length (now queue)) pos at waiting ⌝ }
-    ensures { λ r. ⌜ Agrees records (unpack-expr (at-depth depth) (take waiting (now (queue .entry))) (drop pos (now (tokens .entry)))) (now (tokens .entry)) pos (pos + 2) 20 at waiting (now (store .entry)) (now (queue .entry)) (now (store .exit)) (now (queue .exit)) r ⌝ }
+    ensures { λ r. ⌜ Reading records (unpack-expr (at-depth depth)) (now (tokens .entry)) pos (pos + 2) 20 at waiting (now (store .entry)) (now (queue .entry)) (now (store .exit)) (now (queue .exit)) r ⌝ }
 {
     match look(tokens, pos, waiting) {
         Seen::Token(kind, _, _) => {
@@ -197,7 +197,7 @@ fn prim(
     waiting: usize,
 ) -> Step
     requires { ⌜ Ready (length (now tokens)) (length (now store)) (length (now queue)) pos at waiting ⌝ }
-    ensures { λ r. ⌜ Agrees records (primary-def (at-depth depth) (take waiting (now (queue .entry))) (drop pos (now (tokens .entry)))) (now (tokens .entry)) pos (pos + 2) 20 at waiting (now (store .entry)) (now (queue .entry)) (now (store .exit)) (now (queue .exit)) r ⌝ }
+    ensures { λ r. ⌜ Reading records (primary-def (at-depth depth)) (now (tokens .entry)) pos (pos + 2) 20 at waiting (now (store .entry)) (now (queue .entry)) (now (store .exit)) (now (queue .exit)) r ⌝ }
 {
     let r = atom(tokens, store, queue, depth, pos, at, waiting);
     let Step::Done(p, a, w) = r else {
@@ -218,7 +218,7 @@ fn path(
     waiting: usize,
 ) -> Step
     requires { ⌜ Ready (length (now tokens)) (length (now store)) (length (now queue)) pos at waiting ⌝ }
-    ensures { λ r. ⌜ Agrees path-words (path-def (at-depth depth) calls (length (drop pos (now (tokens .entry)))) none (take waiting (now (queue .entry))) (drop pos (now (tokens .entry)))) (now (tokens .entry)) pos pos 8 at waiting (now (store .entry)) (now (queue .entry)) (now (store .exit)) (now (queue .exit)) r ⌝ }
+    ensures { λ r. ⌜ Reading path-words (λ q ts. path-def (at-depth depth) calls (length ts) none q ts) (now (tokens .entry)) pos pos 8 at waiting (now (store .entry)) (now (queue .entry)) (now (store .exit)) (now (queue .exit)) r ⌝ }
 {
     let mut p = pos;
     let mut a = at;
@@ -258,7 +258,7 @@ fn part(
     waiting: usize,
 ) -> Step
     requires { ⌜ Ready (length (now tokens)) (length (now store)) (length (now queue)) pos at waiting × Lent (length (now tokens)) (length (now store)) pos at ⌝ }
-    ensures { λ r. ⌜ Agrees records (part-def (at-depth depth) k (take waiting (now (queue .entry))) (drop pos (now (tokens .entry)))) (now (tokens .entry)) pos pos 6 at waiting (now (store .entry)) (now (queue .entry)) (now (store .exit)) (now (queue .exit)) r ⌝ }
+    ensures { λ r. ⌜ Reading records (part-def (at-depth depth) k) (now (tokens .entry)) pos pos 6 at waiting (now (store .entry)) (now (queue .entry)) (now (store .exit)) (now (queue .exit)) r ⌝ }
 {
     match k {
         kind::OP_ACCESS => member(tokens, store, pos, at, waiting),
@@ -291,7 +291,7 @@ fn atom(
     waiting: usize,
 ) -> Step
     requires { ⌜ Ready (length (now tokens)) (length (now store)) (length (now queue)) pos at waiting ⌝ }
-    ensures { λ r. ⌜ Agrees records (atom-def (at-depth depth) (take waiting (now (queue .entry))) (drop pos (now (tokens .entry)))) (now (tokens .entry)) pos (pos + 2) 20 at waiting (now (store .entry)) (now (queue .entry)) (now (store .exit)) (now (queue .exit)) r ⌝ }
+    ensures { λ r. ⌜ Reading records (atom-def (at-depth depth)) (now (tokens .entry)) pos (pos + 2) 20 at waiting (now (store .entry)) (now (queue .entry)) (now (store .exit)) (now (queue .exit)) r ⌝ }
 {
     match look(tokens, pos, waiting) {
         Seen::Token(kind, _, value) => {
@@ -315,7 +315,7 @@ fn group(
     waiting: usize,
 ) -> Step
     requires { ⌜ Ready (length (now tokens)) (length (now store)) (length (now queue)) pos at waiting ⌝ }
-    ensures { λ r. ⌜ Agrees records (group-expr (at-depth depth) (take waiting (now (queue .entry))) (drop pos (now (tokens .entry)))) (now (tokens .entry)) pos pos 8 at waiting (now (store .entry)) (now (queue .entry)) (now (store .exit)) (now (queue .exit)) r ⌝ }
+    ensures { λ r. ⌜ Reading records (group-expr (at-depth depth)) (now (tokens .entry)) pos pos 8 at waiting (now (store .entry)) (now (queue .entry)) (now (store .exit)) (now (queue .exit)) r ⌝ }
 {
     match look(tokens, pos, waiting) {
         Seen::Token(kind, _, _) => {
@@ -352,7 +352,7 @@ fn index(
     waiting: usize,
 ) -> Step
     requires { ⌜ Ready (length (now tokens)) (length (now store)) (length (now queue)) pos at waiting ⌝ }
-    ensures { λ r. ⌜ Agrees records (indexing-expr (at-depth depth) (take waiting (now (queue .entry))) (drop pos (now (tokens .entry)))) (now (tokens .entry)) pos pos 8 at waiting (now (store .entry)) (now (queue .entry)) (now (store .exit)) (now (queue .exit)) r ⌝ }
+    ensures { λ r. ⌜ Reading records (indexing-expr (at-depth depth)) (now (tokens .entry)) pos pos 8 at waiting (now (store .entry)) (now (queue .entry)) (now (store .exit)) (now (queue .exit)) r ⌝ }
 {
     let r = expr(tokens, store, queue, depth, pos, at, waiting);
     let Step::Done(p, a, w) = r else {
@@ -372,7 +372,7 @@ fn call(
     waiting: usize,
 ) -> Step
     requires { ⌜ Ready (length (now tokens)) (length (now store)) (length (now queue)) pos at waiting ⌝ }
-    ensures { λ r. ⌜ Agrees records (invocation (at-depth depth) (take waiting (now (queue .entry))) (drop pos (now (tokens .entry)))) (now (tokens .entry)) pos pos 8 at waiting (now (store .entry)) (now (queue .entry)) (now (store .exit)) (now (queue .exit)) r ⌝ }
+    ensures { λ r. ⌜ Reading records (invocation (at-depth depth)) (now (tokens .entry)) pos pos 8 at waiting (now (store .entry)) (now (queue .entry)) (now (store .exit)) (now (queue .exit)) r ⌝ }
 {
     match look(tokens, pos, waiting) {
         Seen::Token(kind, _, _) => {
@@ -411,7 +411,7 @@ fn table(
     waiting: usize,
 ) -> Step
     requires { ⌜ Ready (length (now tokens)) (length (now store)) (length (now queue)) pos at waiting ⌝ }
-    ensures { λ r. ⌜ Agrees list-words (table-literal (at-depth depth) (take waiting (now (queue .entry))) (drop pos (now (tokens .entry)))) (now (tokens .entry)) pos pos 8 at waiting (now (store .entry)) (now (queue .entry)) (now (store .exit)) (now (queue .exit)) r ⌝ }
+    ensures { λ r. ⌜ Reading list-words (table-literal (at-depth depth)) (now (tokens .entry)) pos pos 8 at waiting (now (store .entry)) (now (queue .entry)) (now (store .exit)) (now (queue .exit)) r ⌝ }
 {
     let mut p = pos;
     let mut a = at;
@@ -456,7 +456,7 @@ fn item(
     waiting: usize,
 ) -> Step
     requires { ⌜ Ready (length (now tokens)) (length (now store)) (length (now queue)) pos at waiting ⌝ }
-    ensures { λ r. ⌜ Agrees records (table-item (at-depth depth) (take waiting (now (queue .entry))) (drop pos (now (tokens .entry)))) (now (tokens .entry)) pos pos 8 at waiting (now (store .entry)) (now (queue .entry)) (now (store .exit)) (now (queue .exit)) r ⌝ }
+    ensures { λ r. ⌜ Reading records (table-item (at-depth depth)) (now (tokens .entry)) pos pos 8 at waiting (now (store .entry)) (now (queue .entry)) (now (store .exit)) (now (queue .exit)) r ⌝ }
 {
     let f = key(tokens, store, queue, depth, pos, at, waiting);
     let Step::Done(p1, a1, w1) = f else {
@@ -484,7 +484,7 @@ fn key(
     waiting: usize,
 ) -> Step
     requires { ⌜ Ready (length (now tokens)) (length (now store)) (length (now queue)) pos at waiting ⌝ }
-    ensures { λ r. ⌜ Agrees records (table-field (at-depth depth) (take waiting (now (queue .entry))) (drop pos (now (tokens .entry)))) (now (tokens .entry)) pos pos 8 at waiting (now (store .entry)) (now (queue .entry)) (now (store .exit)) (now (queue .exit)) r ⌝ }
+    ensures { λ r. ⌜ Reading records (table-field (at-depth depth)) (now (tokens .entry)) pos pos 8 at waiting (now (store .entry)) (now (queue .entry)) (now (store .exit)) (now (queue .exit)) r ⌝ }
 {
     match look(tokens, pos, waiting) {
         Seen::Token(kind, _, value) => {
@@ -513,7 +513,7 @@ fn binop(
     waiting: usize,
 ) -> Step
     requires { ⌜ Ready (length (now tokens)) (length (now store)) (length (now queue)) pos at waiting × (level ≤ 10) ⌝ }
-    ensures { λ r. ⌜ Agrees records (binop-expr (at-depth depth) level (take waiting (now (queue .entry))) (drop pos (now (tokens .entry)))) (now (tokens .entry)) pos (pos + 2) 20 at waiting (now (store .entry)) (now (queue .entry)) (now (store .exit)) (now (queue .exit)) r ⌝ }
+    ensures { λ r. ⌜ Reading records (binop-expr (at-depth depth) level) (now (tokens .entry)) pos (pos + 2) 20 at waiting (now (store .entry)) (now (queue .entry)) (now (store .exit)) (now (queue .exit)) r ⌝ }
 {
     if level == PRECEDENCE_END {
         return unop(tokens, store, queue, depth, pos, at, waiting);
@@ -561,7 +561,7 @@ fn tuple(
     waiting: usize,
 ) -> Step
     requires { ⌜ Ready (length (now tokens)) (length (now store)) (length (now queue)) pos at waiting ⌝ }
-    ensures { λ r. ⌜ Agrees records (tuple-expr (at-depth depth) (take waiting (now (queue .entry))) (drop pos (now (tokens .entry)))) (now (tokens .entry)) pos (pos + 2) 16 at waiting (now (store .entry)) (now (queue .entry)) (now (store .exit)) (now (queue .exit)) r ⌝ }
+    ensures { λ r. ⌜ Reading records (tuple-expr (at-depth depth)) (now (tokens .entry)) pos (pos + 2) 16 at waiting (now (store .entry)) (now (queue .entry)) (now (store .exit)) (now (queue .exit)) r ⌝ }
 {
     let r = binop(
         tokens,
@@ -598,7 +598,7 @@ fn tail(
     waiting: usize,
 ) -> Step
     requires { ⌜ Ready (length (now tokens)) (length (now store)) (length (now queue)) pos at waiting × Lent (length (now tokens)) (length (now store)) pos at ⌝ }
-    ensures { λ r. ⌜ Agrees tuple-words (tail-def (at-depth depth) (length (drop pos (now (tokens .entry)))) none (take waiting (now (queue .entry))) (drop pos (now (tokens .entry)))) (now (tokens .entry)) pos pos 4 at waiting (now (store .entry)) (now (queue .entry)) (now (store .exit)) (now (queue .exit)) r ⌝ }
+    ensures { λ r. ⌜ Reading tuple-words (λ q ts. tail-def (at-depth depth) (length ts) none q ts) (now (tokens .entry)) pos pos 4 at waiting (now (store .entry)) (now (queue .entry)) (now (store .exit)) (now (queue .exit)) r ⌝ }
 {
     let mut p = pos;
     let mut a = at;
@@ -643,7 +643,7 @@ fn expr(
     waiting: usize,
 ) -> Step
     requires { ⌜ Ready (length (now tokens)) (length (now store)) (length (now queue)) pos at waiting ⌝ }
-    ensures { λ r. ⌜ Agrees records (expr-def (at-depth depth) (take waiting (now (queue .entry))) (drop pos (now (tokens .entry)))) (now (tokens .entry)) pos (pos + 2) 16 at waiting (now (store .entry)) (now (queue .entry)) (now (store .exit)) (now (queue .exit)) r ⌝ }
+    ensures { λ r. ⌜ Reading records (expr-def (at-depth depth)) (now (tokens .entry)) pos (pos + 2) 16 at waiting (now (store .entry)) (now (queue .entry)) (now (store .exit)) (now (queue .exit)) r ⌝ }
 {
     match assign_keyword(tokens, pos, waiting) {
         Found::At(p, m) => {
@@ -689,7 +689,7 @@ fn rhs(
     waiting: usize,
 ) -> Step
     requires { ⌜ Ready (length (now tokens)) (length (now store)) (length (now queue)) pos at waiting ⌝ }
-    ensures { λ r. ⌜ Agrees records ((at-depth depth) .right (take waiting (now (queue .entry))) (drop pos (now (tokens .entry)))) (now (tokens .entry)) pos (pos + 2) 16 at waiting (now (store .entry)) (now (queue .entry)) (now (store .exit)) (now (queue .exit)) r ⌝ }
+    ensures { λ r. ⌜ Reading records ((at-depth depth) .right) (now (tokens .entry)) pos (pos + 2) 16 at waiting (now (store .entry)) (now (queue .entry)) (now (store .exit)) (now (queue .exit)) r ⌝ }
 {
     if depth == 0 {
         return Step::Stop(limit::TOO_DEEP);
@@ -708,7 +708,7 @@ fn body(
     waiting: usize,
 ) -> Listed
     requires { ⌜ Ready (length (now tokens)) (length (now store)) (length (now queue)) pos at waiting ⌝ }
-    ensures { λ r. ⌜ Lists (body-def (at-depth depth) (take waiting (now (queue .entry))) (drop pos (now (tokens .entry)))) (now (tokens .entry)) pos 24 at waiting (now (store .entry)) (now (queue .entry)) (now (store .exit)) (now (queue .exit)) r ⌝ }
+    ensures { λ r. ⌜ Lists (body-def (at-depth depth) (waiting-errors waiting (now (queue .entry))) (drop pos (now (tokens .entry)))) (now (tokens .entry)) pos 24 at waiting (now (store .entry)) (now (queue .entry)) (now (store .exit)) (now (queue .exit)) r ⌝ }
 {
     let l = list(tokens, store, queue, depth, UNTIL_END, pos, at, waiting);
     past(tokens, l)
@@ -726,7 +726,7 @@ fn block(
     waiting: usize,
 ) -> Step
     requires { ⌜ Ready (length (now tokens)) (length (now store)) (length (now queue)) pos at waiting ⌝ }
-    ensures { λ r. ⌜ Agrees records (block-expr (at-depth depth) label (take waiting (now (queue .entry))) (drop pos (now (tokens .entry)))) (now (tokens .entry)) pos pos 8 at waiting (now (store .entry)) (now (queue .entry)) (now (store .exit)) (now (queue .exit)) r ⌝ }
+    ensures { λ r. ⌜ Reading records (block-expr (at-depth depth) label) (now (tokens .entry)) pos pos 8 at waiting (now (store .entry)) (now (queue .entry)) (now (store .exit)) (now (queue .exit)) r ⌝ }
 {
     let b = body(tokens, store, queue, depth, pos, at, waiting);
     block_under(store, b, word::BLOCK, label)
@@ -744,7 +744,7 @@ fn begin(
     waiting: usize,
 ) -> Step
     requires { ⌜ Ready (length (now tokens)) (length (now store)) (length (now queue)) pos at waiting ⌝ }
-    ensures { λ r. ⌜ Agrees records (expr-label (at-depth depth) label (take waiting (now (queue .entry))) (drop pos (now (tokens .entry)))) (now (tokens .entry)) pos pos 8 at waiting (now (store .entry)) (now (queue .entry)) (now (store .exit)) (now (queue .exit)) r ⌝ }
+    ensures { λ r. ⌜ Reading records (expr-label (at-depth depth) label) (now (tokens .entry)) pos pos 8 at waiting (now (store .entry)) (now (queue .entry)) (now (store .exit)) (now (queue .exit)) r ⌝ }
 {
     match look(tokens, pos, waiting) {
         Seen::Token(kind, _, _) => {
@@ -768,7 +768,7 @@ fn cond(
     waiting: usize,
 ) -> Step
     requires { ⌜ Ready (length (now tokens)) (length (now store)) (length (now queue)) pos at waiting ⌝ }
-    ensures { λ r. ⌜ Agrees records (if-expr-def (at-depth depth) (take waiting (now (queue .entry))) (drop pos (now (tokens .entry)))) (now (tokens .entry)) pos pos 8 at waiting (now (store .entry)) (now (queue .entry)) (now (store .exit)) (now (queue .exit)) r ⌝ }
+    ensures { λ r. ⌜ Reading records (if-expr-def (at-depth depth)) (now (tokens .entry)) pos pos 8 at waiting (now (store .entry)) (now (queue .entry)) (now (store .exit)) (now (queue .exit)) r ⌝ }
 {
     let mut p = pos;
     let mut a = at;
@@ -810,7 +810,7 @@ fn arm(
     waiting: usize,
 ) -> Step
     requires { ⌜ Ready (length (now tokens)) (length (now store)) (length (now queue)) pos at waiting ⌝ }
-    ensures { λ r. ⌜ Agrees records (arm-def (at-depth depth) (take waiting (now (queue .entry))) (drop pos (now (tokens .entry)))) (now (tokens .entry)) pos pos 8 at waiting (now (store .entry)) (now (queue .entry)) (now (store .exit)) (now (queue .exit)) r ⌝ }
+    ensures { λ r. ⌜ Reading records (arm-def (at-depth depth)) (now (tokens .entry)) pos pos 8 at waiting (now (store .entry)) (now (queue .entry)) (now (store .exit)) (now (queue .exit)) r ⌝ }
 {
     let r = expr(tokens, store, queue, depth, pos, at, waiting);
     let Step::Done(p1, a1, w1) = r else {
@@ -835,7 +835,7 @@ fn fun(
     waiting: usize,
 ) -> Step
     requires { ⌜ Ready (length (now tokens)) (length (now store)) (length (now queue)) pos at waiting ⌝ }
-    ensures { λ r. ⌜ Agrees records (function-decl-expr (at-depth depth) (take waiting (now (queue .entry))) (drop pos (now (tokens .entry)))) (now (tokens .entry)) pos pos 8 at waiting (now (store .entry)) (now (queue .entry)) (now (store .exit)) (now (queue .exit)) r ⌝ }
+    ensures { λ r. ⌜ Reading records (function-decl-expr (at-depth depth)) (now (tokens .entry)) pos pos 8 at waiting (now (store .entry)) (now (queue .entry)) (now (store .exit)) (now (queue .exit)) r ⌝ }
 {
     match look(tokens, pos, waiting) {
         Seen::Token(kind, _, value) => {
@@ -868,7 +868,7 @@ fn dest(
     waiting: usize,
 ) -> Step
     requires { ⌜ Ready (length (now tokens)) (length (now store)) (length (now queue)) pos at waiting ⌝ }
-    ensures { λ r. ⌜ Agrees records (function-assignment-target (at-depth depth) (take waiting (now (queue .entry))) (drop pos (now (tokens .entry)))) (now (tokens .entry)) pos pos 8 at waiting (now (store .entry)) (now (queue .entry)) (now (store .exit)) (now (queue .exit)) r ⌝ }
+    ensures { λ r. ⌜ Reading records (function-assignment-target (at-depth depth)) (now (tokens .entry)) pos pos 8 at waiting (now (store .entry)) (now (queue .entry)) (now (store .exit)) (now (queue .exit)) r ⌝ }
 {
     let r = atom(tokens, store, queue, depth, pos, at, waiting);
     let Step::Done(p1, a1, w1) = r else {
@@ -893,7 +893,7 @@ fn def(
     waiting: usize,
 ) -> Step
     requires { ⌜ Ready (length (now tokens)) (length (now store)) (length (now queue)) pos at waiting ⌝ }
-    ensures { λ r. ⌜ Agrees records (function-def (at-depth depth) name (take waiting (now (queue .entry))) (drop pos (now (tokens .entry)))) (now (tokens .entry)) pos pos 10 at waiting (now (store .entry)) (now (queue .entry)) (now (store .exit)) (now (queue .exit)) r ⌝ }
+    ensures { λ r. ⌜ Reading records (function-def (at-depth depth) name) (now (tokens .entry)) pos pos 10 at waiting (now (store .entry)) (now (queue .entry)) (now (store .exit)) (now (queue .exit)) r ⌝ }
 {
     let o = expect(
         tokens,
@@ -929,7 +929,7 @@ fn sig(
     waiting: usize,
 ) -> Step
     requires { ⌜ Ready (length (now tokens)) (length (now store)) (length (now queue)) pos at waiting × Lent (length (now tokens)) (length (now store)) pos at ⌝ }
-    ensures { λ r. ⌜ Agrees signature-words (function-param-list (at-depth depth) (take waiting (now (queue .entry))) (drop pos (now (tokens .entry)))) (now (tokens .entry)) pos pos 2 at waiting (now (store .entry)) (now (queue .entry)) (now (store .exit)) (now (queue .exit)) r ⌝ }
+    ensures { λ r. ⌜ Reading signature-words (function-param-list (at-depth depth)) (now (tokens .entry)) pos pos 2 at waiting (now (store .entry)) (now (queue .entry)) (now (store .exit)) (now (queue .exit)) r ⌝ }
 {
     let mut p = pos;
     let mut a = at;
@@ -974,7 +974,7 @@ fn param(
     waiting: usize,
 ) -> Parameter
     requires { ⌜ Ready (length (now tokens)) (length (now store)) (length (now queue)) pos at waiting × (required ≤ 65536) ⌝ }
-    ensures { λ r. ⌜ Params-read (param-def (at-depth depth) (take waiting (now (queue .entry))) (drop pos (now (tokens .entry)))) (now (tokens .entry)) pos required default at waiting (now (store .entry)) (now (queue .entry)) (now (store .exit)) (now (queue .exit)) r ⌝ }
+    ensures { λ r. ⌜ Params-read (param-def (at-depth depth) (waiting-errors waiting (now (queue .entry))) (drop pos (now (tokens .entry)))) (now (tokens .entry)) pos required default at waiting (now (store .entry)) (now (queue .entry)) (now (store .exit)) (now (queue .exit)) r ⌝ }
 {
     match param_head(tokens, pos, waiting) {
         Head::Required(p, v) => Parameter::Required(p, waiting, v),
@@ -1006,7 +1006,7 @@ pub fn stmt(
     waiting: usize,
 ) -> Step
     requires { ⌜ Ready (length (now tokens)) (length (now store)) (length (now queue)) pos at waiting ⌝ }
-    ensures { λ r. ⌜ Agrees records (stmt-def (at-depth depth) (take waiting (now (queue .entry))) (drop pos (now (tokens .entry)))) (now (tokens .entry)) pos (pos + 2) 14 at waiting (now (store .entry)) (now (queue .entry)) (now (store .exit)) (now (queue .exit)) r ⌝ }
+    ensures { λ r. ⌜ Reading records (stmt-def (at-depth depth)) (now (tokens .entry)) pos (pos + 2) 14 at waiting (now (store .entry)) (now (queue .entry)) (now (store .exit)) (now (queue .exit)) r ⌝ }
 {
     match look(tokens, pos, waiting) {
         Seen::Token(kind, _, value) => match kind {
@@ -1058,7 +1058,7 @@ fn label(
     waiting: usize,
 ) -> Step
     requires { ⌜ Ready (length (now tokens)) (length (now store)) (length (now queue)) pos at waiting ⌝ }
-    ensures { λ r. ⌜ Agrees records (stmt-label (at-depth depth) label (take waiting (now (queue .entry))) (drop pos (now (tokens .entry)))) (now (tokens .entry)) pos pos 8 at waiting (now (store .entry)) (now (queue .entry)) (now (store .exit)) (now (queue .exit)) r ⌝ }
+    ensures { λ r. ⌜ Reading records (stmt-label (at-depth depth) label) (now (tokens .entry)) pos pos 8 at waiting (now (store .entry)) (now (queue .entry)) (now (store .exit)) (now (queue .exit)) r ⌝ }
 {
     match look(tokens, pos, waiting) {
         Seen::Token(kind, _, _) => match kind {
@@ -1093,7 +1093,7 @@ fn loops(
     waiting: usize,
 ) -> Step
     requires { ⌜ Ready (length (now tokens)) (length (now store)) (length (now queue)) pos at waiting ⌝ }
-    ensures { λ r. ⌜ Agrees records (loop-def (at-depth depth) label (take waiting (now (queue .entry))) (drop pos (now (tokens .entry)))) (now (tokens .entry)) pos pos 8 at waiting (now (store .entry)) (now (queue .entry)) (now (store .exit)) (now (queue .exit)) r ⌝ }
+    ensures { λ r. ⌜ Reading records (loop-def (at-depth depth) label) (now (tokens .entry)) pos pos 8 at waiting (now (store .entry)) (now (queue .entry)) (now (store .exit)) (now (queue .exit)) r ⌝ }
 {
     let b = body(tokens, store, queue, depth, pos, at, waiting);
     list_under(store, b, word::LOOP, label)
@@ -1112,7 +1112,7 @@ fn whiles(
     waiting: usize,
 ) -> Step
     requires { ⌜ Ready (length (now tokens)) (length (now store)) (length (now queue)) pos at waiting ⌝ }
-    ensures { λ r. ⌜ Agrees (whiles-words word label) (whiles-def (at-depth depth) (take waiting (now (queue .entry))) (drop pos (now (tokens .entry)))) (now (tokens .entry)) pos pos 8 at waiting (now (store .entry)) (now (queue .entry)) (now (store .exit)) (now (queue .exit)) r ⌝ }
+    ensures { λ r. ⌜ Reading (whiles-words word label) (whiles-def (at-depth depth)) (now (tokens .entry)) pos pos 8 at waiting (now (store .entry)) (now (queue .entry)) (now (store .exit)) (now (queue .exit)) r ⌝ }
 {
     let r = expr(tokens, store, queue, depth, pos, at, waiting);
     let Step::Done(p1, a1, w1) = r else {
@@ -1138,7 +1138,7 @@ fn each(
     waiting: usize,
 ) -> Step
     requires { ⌜ Ready (length (now tokens)) (length (now store)) (length (now queue)) pos at waiting ⌝ }
-    ensures { λ r. ⌜ Agrees records (for-loop (at-depth depth) label (take waiting (now (queue .entry))) (drop pos (now (tokens .entry)))) (now (tokens .entry)) pos pos 8 at waiting (now (store .entry)) (now (queue .entry)) (now (store .exit)) (now (queue .exit)) r ⌝ }
+    ensures { λ r. ⌜ Reading records (for-loop (at-depth depth) label) (now (tokens .entry)) pos pos 8 at waiting (now (store .entry)) (now (queue .entry)) (now (store .exit)) (now (queue .exit)) r ⌝ }
 {
     let r = lhs(tokens, store, queue, depth, pos, at, waiting);
     let Step::Done(p1, a1, w1) = r else {
@@ -1172,7 +1172,7 @@ fn lhs(
     waiting: usize,
 ) -> Step
     requires { ⌜ Ready (length (now tokens)) (length (now store)) (length (now queue)) pos at waiting ⌝ }
-    ensures { λ r. ⌜ Agrees records (lvalue-list (at-depth depth) (take waiting (now (queue .entry))) (drop pos (now (tokens .entry)))) (now (tokens .entry)) pos pos 8 at waiting (now (store .entry)) (now (queue .entry)) (now (store .exit)) (now (queue .exit)) r ⌝ }
+    ensures { λ r. ⌜ Reading records (lvalue-list (at-depth depth)) (now (tokens .entry)) pos pos 8 at waiting (now (store .entry)) (now (queue .entry)) (now (store .exit)) (now (queue .exit)) r ⌝ }
 {
     match assign_keyword(tokens, pos, waiting) {
         Found::At(p, m) => {
@@ -1201,7 +1201,7 @@ fn val(
     waiting: usize,
 ) -> Step
     requires { ⌜ Ready (length (now tokens)) (length (now store)) (length (now queue)) pos at waiting × Lent (length (now tokens)) (length (now store)) pos at ⌝ }
-    ensures { λ r. ⌜ Agrees records (control-value (at-depth depth) (take waiting (now (queue .entry))) (drop pos (now (tokens .entry)))) (now (tokens .entry)) pos pos 6 at waiting (now (store .entry)) (now (queue .entry)) (now (store .exit)) (now (queue .exit)) r ⌝ }
+    ensures { λ r. ⌜ Reading records (control-value (at-depth depth)) (now (tokens .entry)) pos pos 6 at waiting (now (store .entry)) (now (queue .entry)) (now (store .exit)) (now (queue .exit)) r ⌝ }
 {
     match look(tokens, pos, waiting) {
         Seen::Token(kind, _, _) => {
@@ -1226,7 +1226,7 @@ fn jump(
     waiting: usize,
 ) -> Step
     requires { ⌜ Ready (length (now tokens)) (length (now store)) (length (now queue)) pos at waiting × Lent (length (now tokens)) (length (now store)) pos at × (is-control-def k ≡ true) ⌝ }
-    ensures { λ r. ⌜ Agrees records (control-flow (at-depth depth) k (take waiting (now (queue .entry))) (drop pos (now (tokens .entry)))) (now (tokens .entry)) pos pos 4 at waiting (now (store .entry)) (now (queue .entry)) (now (store .exit)) (now (queue .exit)) r ⌝ }
+    ensures { λ r. ⌜ Reading records (control-flow (at-depth depth) k) (now (tokens .entry)) pos pos 4 at waiting (now (store .entry)) (now (queue .entry)) (now (store .exit)) (now (queue .exit)) r ⌝ }
 {
     if k == kind::RETURN {
         let r = val(tokens, store, queue, depth, pos, at, waiting);
@@ -1262,7 +1262,7 @@ pub fn sync(
     waiting: usize,
 ) -> Step
     requires { ⌜ Ready (length (now tokens)) (length (now store)) (length (now queue)) pos at waiting ⌝ }
-    ensures { λ r. ⌜ Agrees no-words (synchronize (at-depth depth) inside (length (drop pos (now (tokens .entry)))) (take waiting (now (queue .entry))) (drop pos (now (tokens .entry)))) (now (tokens .entry)) pos pos 8 at waiting (now (store .entry)) (now (queue .entry)) (now (store .exit)) (now (queue .exit)) r ⌝ }
+    ensures { λ r. ⌜ Reading no-words (λ q ts. synchronize (at-depth depth) inside (length ts) q ts) (now (tokens .entry)) pos pos 8 at waiting (now (store .entry)) (now (queue .entry)) (now (store .exit)) (now (queue .exit)) r ⌝ }
 {
     let mut p = pos;
     let mut w = waiting;
@@ -1308,7 +1308,7 @@ fn catch(
     waiting: usize,
 ) -> Step
     requires { ⌜ Ready (length (now tokens)) (length (now store)) (length (now queue)) pos at waiting ⌝ }
-    ensures { λ r. ⌜ Agrees no-words (caught-def (at-depth depth) e (take waiting (now (queue .entry))) (drop pos (now (tokens .entry)))) (now (tokens .entry)) pos pos 8 at waiting (now (store .entry)) (now (queue .entry)) (now (store .exit)) (now (queue .exit)) r ⌝ }
+    ensures { λ r. ⌜ Reading no-words (caught-def (at-depth depth) e) (now (tokens .entry)) pos pos 8 at waiting (now (store .entry)) (now (queue .entry)) (now (store .exit)) (now (queue .exit)) r ⌝ }
 {
     if e == number::END_OF_TOKENS {
         return Step::Fail(e, pos, waiting);
@@ -1338,7 +1338,7 @@ fn turn(
     waiting: usize,
 ) -> Entry
     requires { ⌜ Ready (length (now tokens)) (length (now store)) (length (now queue)) pos at waiting × (pos + 2 ≤ length (now tokens)) × (n ≤ 65536) ⌝ }
-    ensures { λ r. ⌜ Enters (turn-def (at-depth depth) end kind (drop (pos + 2) (now (tokens .entry))) (take waiting (now (queue .entry))) (drop pos (now (tokens .entry)))) (now (tokens .entry)) pos n at waiting (now (store .entry)) (now (queue .entry)) (now (store .exit)) (now (queue .exit)) r ⌝ }
+    ensures { λ r. ⌜ Enters (turn-def (at-depth depth) end kind (drop (pos + 2) (now (tokens .entry))) (waiting-errors waiting (now (queue .entry))) (drop pos (now (tokens .entry)))) (now (tokens .entry)) pos n at waiting (now (store .entry)) (now (queue .entry)) (now (store .exit)) (now (queue .exit)) r ⌝ }
 {
     if is_control(kind) {
         let b = list_end(store, at, n);
@@ -1369,7 +1369,7 @@ fn list(
     waiting: usize,
 ) -> Listed
     requires { ⌜ Ready (length (now tokens)) (length (now store)) (length (now queue)) pos at waiting ⌝ }
-    ensures { λ r. ⌜ Lists ((at-depth depth) .list end (take waiting (now (queue .entry))) (drop pos (now (tokens .entry)))) (now (tokens .entry)) pos 8 at waiting (now (store .entry)) (now (queue .entry)) (now (store .exit)) (now (queue .exit)) r ⌝ }
+    ensures { λ r. ⌜ Lists ((at-depth depth) .list end (waiting-errors waiting (now (queue .entry))) (drop pos (now (tokens .entry)))) (now (tokens .entry)) pos 8 at waiting (now (store .entry)) (now (queue .entry)) (now (store .exit)) (now (queue .exit)) r ⌝ }
 {
     if depth == 0 {
         return Listed::Not(Step::Stop(limit::TOO_DEEP));

@@ -16,7 +16,7 @@ use Rattle.tree.specs.Tree.{Tree, Forest, node, none, more, one, snoc, count, r
 use Rattle.tree.specs.Node
 use Rattle.tree.specs.Records.{Small}
 use Rattle.tree.specs.Store.{Result, leading}
-use Rattle.grammar.specs.Reading.Result.{Res, ok, fail, ifb}
+use Rattle.grammar.specs.Reading.Result.{Res, ok, fail, ifb, Error}
 use Rattle.grammar.specs.Reading.Expr.{Stmts}
 use Rattle.grammar.specs.Reading.Pattern.{modified}
 use Rattle.grammar.specs.Reading.Primary.{with-action, atom-error, literal, arguments}
@@ -313,22 +313,22 @@ unfolding records count
 path-none none e = refl
 path-none (more t f) e = absurd (omega arith)
 
-pub path-some : (f : Forest) (n : ℕ) → count f ≡ n → (n ≡ 0 → ⊥) → path-words f ≡ all-records f ++ (1 + 256 * n) ∷ 0 ∷ 523 ∷ 0 ∷ []
+pub path-some : (f : Forest) (n : ℕ) → count f ≡ n → (n ≡ 0 → ⊥) → path-words f ≡ all-records f ++ (1 + 256 * n) ∷ 0 ∷ (NodeKind.Primary + 512) ∷ 0 ∷ []
 unfolding count
 path-some none n e h = absurd (h (sym e))
 path-some (more t f) n e h = rw (← e)
 
 -- WHAT WAS WRITTEN, and what was refused, behind the token's word at pos
-pub wrote : {d : List ℕ → Res Tree} {T : List ℕ} {pos most at w r : ℕ} {X S S′ : List ℕ} (t : Tree) → ((q : List ℕ) → d q ≡ ok t (drop pos T)) → pos ≤ length T → r ≤ at + most → take r S′ ≡ X ++ records t → Writes records d T pos pos most at w X S S′ (Done pos r w)
+pub wrote : {d : List Error → Res Tree} {T : List ℕ} {pos most at w r : ℕ} {X S S′ : List ℕ} (t : Tree) → ((q : List Error) → d q ≡ ok t (drop pos T)) → pos ≤ length T → r ≤ at + most → take r S′ ≡ X ++ records t → Writes records d T pos pos most at w X S S′ (Done pos r w)
 wrote t same within far text = record { how = record { got = record { what = t; same = same; on = le-refl _; within = within }; waits = refl; far = far; text = text } }
 
-pub refused : {d : List ℕ → Res Tree} {T : List ℕ} {pos most at w e : ℕ} {X S S′ : List ℕ} → ((q : List ℕ) → d q ≡ fail e q (drop pos T)) → pos ≤ length T → S′ ≡ S → Writes records d T pos pos most at w X S S′ (Fail e pos w)
+pub refused : {d : List Error → Res Tree} {T : List ℕ} {pos most at w e : ℕ} {X S S′ : List ℕ} → ((q : List Error) → d q ≡ fail e q (drop pos T)) → pos ≤ length T → S′ ≡ S → Writes records d T pos pos most at w X S S′ (Fail e pos w)
 refused same within text = record { how = record { unread = record { how = record { same = same; waits = refl; on = le-refl _; within = within; far = omega arith } }; text = text } }
 
 -- A LITERAL goes by its kind
-pub of-kind : (v : ℕ) {k k′ : ℕ} → k ≡ k′ → (q ts : List ℕ) → literal (record { kind = k; newline = 0; value = v }) q ts ≡ literal (record { kind = k′; newline = 0; value = v }) q ts
+pub of-kind : (v : ℕ) {k k′ : ℕ} → k ≡ k′ → (q : List Error) (ts : List ℕ) → literal (record { kind = k; newline = 0; value = v }) q ts ≡ literal (record { kind = k′; newline = 0; value = v }) q ts
 of-kind v e q ts = ap (λ (k : ℕ). literal (record { kind = k; newline = 0; value = v }) q ts) e
 
-pub no-literal : (k v : ℕ) (q ts : List ℕ) → (k ≡ Kind.Identifier → ⊥) → (k ≡ Kind.Nil → ⊥) → (k ≡ Kind.True → ⊥) → (k ≡ Kind.False → ⊥) → (k ≡ Kind.IntegerLiteral → ⊥) → (k ≡ Kind.FloatLiteral → ⊥) → (k ≡ Kind.StringLiteral → ⊥) → literal (record { kind = k; newline = 0; value = v }) q ts ≡ fail (atom-error k) q ts
+pub no-literal : (k v : ℕ) (q : List Error) (ts : List ℕ) → (k ≡ Kind.Identifier → ⊥) → (k ≡ Kind.Nil → ⊥) → (k ≡ Kind.True → ⊥) → (k ≡ Kind.False → ⊥) → (k ≡ Kind.IntegerLiteral → ⊥) → (k ≡ Kind.FloatLiteral → ⊥) → (k ≡ Kind.StringLiteral → ⊥) → literal (record { kind = k; newline = 0; value = v }) q ts ≡ fail (atom-error k) q ts
 unfolding literal ifb
 no-literal k v q ts a b c d e f g = rw (ne-eqb _ _ a, ne-eqb _ _ b, ne-eqb _ _ c, ne-eqb _ _ d, ne-eqb _ _ e, ne-eqb _ _ f, ne-eqb _ _ g)

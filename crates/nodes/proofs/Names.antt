@@ -16,7 +16,7 @@ use Rattle.tree.specs.Node
 use Rattle.tree.specs.NodeKind
 use Rattle.tree.specs.Store.{Emitted}
 use Rattle.grammar.specs.Reading.Number
-use Rattle.grammar.specs.Reading.Result.{Res, ok, bad, fail, stop, then, ifb}
+use Rattle.grammar.specs.Reading.Result.{Res, ok, bad, fail, stop, then, ifb, Error}
 use Rattle.grammar.specs.Reading.Look.{look}
 use Rattle.grammar.specs.Reading.Function.{Param, required, variadic, default, Params, joined}
 use Rattle.scan.specs.Post.{UnreadAs, Unread, Got, Finds, WritesAs, Writes}
@@ -35,7 +35,7 @@ use Rattle.scan.proofs.Looking.{through}
 use Rattle.nodes.proofs.Algebra.{look-plain, plain-not-bad}
 
 -- A READING e that is the reading d
-same-reading : {A : Type 0} {d e : List ℕ → Res A} {T : List ℕ} {pos₁ least₁ pos least w : ℕ} (r : Step) → ((q : List ℕ) → e q ≡ d q) → Unread d T pos₁ least₁ w r → pos ≤ pos₁ → least ≤ least₁ → UnreadAs e T pos least w r
+same-reading : {A : Type 0} {d e : List Error → Res A} {T : List ℕ} {pos₁ least₁ pos least w : ℕ} (r : Step) → ((q : List Error) → e q ≡ d q) → Unread d T pos₁ least₁ w r → pos ≤ pos₁ → least ≤ least₁ → UnreadAs e T pos least w r
 same-reading (Done p a v) i u h g = u .how
 same-reading (Fail x p v) i u h g =
     let l = u .how in
@@ -44,52 +44,52 @@ same-reading (Fail x p v) i u h g =
     record { same = λ q. i q ∙ l .same q; waits = l .waits; on = omega arith; within = l .within; far = omega arith }
 same-reading (Stop n) i u h g = λ q. i q ∙ u .how q
 
-same-unread : {A : Type 0} {d e : List ℕ → Res A} {T : List ℕ} {pos₁ least₁ pos least w : ℕ} {r : Step} → ((q : List ℕ) → e q ≡ d q) → Unread d T pos₁ least₁ w r → pos ≤ pos₁ → least ≤ least₁ → Unread e T pos least w r
+same-unread : {A : Type 0} {d e : List Error → Res A} {T : List ℕ} {pos₁ least₁ pos least w : ℕ} {r : Step} → ((q : List Error) → e q ≡ d q) → Unread d T pos₁ least₁ w r → pos ≤ pos₁ → least ≤ least₁ → Unread e T pos least w r
 same-unread {r = r} i u h g = record { how = same-reading r i u h g }
 
 -- A READING e that begins with the reading d, and fails as it does
-pub record Begins {A B : Type 0} (e : List ℕ → Res B) (d : List ℕ → Res A) : Type 0 where
-  pub go : List ℕ → A → List ℕ → List ℕ → Res B
-  pub is : (q : List ℕ) → e q ≡ then q (d q) (go q)
+pub record Begins {A B : Type 0} (e : List Error → Res B) (d : List Error → Res A) : Type 0 where
+  pub go : List ℕ → A → List Error → List ℕ → Res B
+  pub is : (q : List Error) → e q ≡ then q (d q) (go q)
 
-pub onward : {A B : Type 0} {d : List ℕ → Res A} {e : List ℕ → Res B} {T : List ℕ} {pos₁ least₁ pos least w : ℕ} {r : Step} → Begins e d → Unread d T pos₁ least₁ w r → pos ≤ pos₁ → least ≤ least₁ → Unread e T pos least w r
+pub onward : {A B : Type 0} {d : List Error → Res A} {e : List Error → Res B} {T : List ℕ} {pos₁ least₁ pos least w : ℕ} {r : Step} → Begins e d → Unread d T pos₁ least₁ w r → pos ≤ pos₁ → least ≤ least₁ → Unread e T pos least w r
 onward b u h g = same-unread (λ q. refl) (through (b .go) (b .is) u) h g
 
 -- the same where the answer was of a kind that holds it
-onward-found : {A B : Type 0} {number : A → ℕ} {number′ : B → ℕ} {d : List ℕ → Res A} {e : List ℕ → Res B} {T : List ℕ} {pos least far bound least′ far′ bound′ w : ℕ} (f : Found) → OneOf (1 ∷ []) (tagOf the-type f) → Begins e d → Finds number d T pos least far bound w f → far′ ≤ far → Finds number′ e T pos least′ far′ bound′ w f
+onward-found : {A B : Type 0} {number : A → ℕ} {number′ : B → ℕ} {d : List Error → Res A} {e : List Error → Res B} {T : List ℕ} {pos least far bound least′ far′ bound′ w : ℕ} (f : Found) → OneOf (1 ∷ []) (tagOf the-type f) → Begins e d → Finds number d T pos least far bound w f → far′ ≤ far → Finds number′ e T pos least′ far′ bound′ w f
 onward-found (At p v) o b h g = absurd (omega arith)
 onward-found (Nor r) o b h g = record { how = onward b (h .how) (omega arith) g }
 
-pub lacks-too : {A B : Type 0} {number : A → ℕ} {number′ : B → ℕ} {d : List ℕ → Res A} {e : List ℕ → Res B} {T : List ℕ} {pos least far bound least′ far′ bound′ w : ℕ} {f : Found} → OneOf (1 ∷ []) (tagOf the-type f) → Begins e d → Finds number d T pos least far bound w f → far′ ≤ far → Finds number′ e T pos least′ far′ bound′ w f
+pub lacks-too : {A B : Type 0} {number : A → ℕ} {number′ : B → ℕ} {d : List Error → Res A} {e : List Error → Res B} {T : List ℕ} {pos least far bound least′ far′ bound′ w : ℕ} {f : Found} → OneOf (1 ∷ []) (tagOf the-type f) → Begins e d → Finds number d T pos least far bound w f → far′ ≤ far → Finds number′ e T pos least′ far′ bound′ w f
 lacks-too {f = f} o b h g = onward-found f o b h g
 
 -- what is not read is not written
-unwrote-as : {A : Type 0} {words : A → List ℕ} {d : List ℕ → Res A} {T : List ℕ} {pos least most at w : ℕ} {X S : List ℕ} (r : Step) → Unread d T pos least w r → Writes words d T pos least most at w X S S r
+unwrote-as : {A : Type 0} {words : A → List ℕ} {d : List Error → Res A} {T : List ℕ} {pos least most at w : ℕ} {X S : List ℕ} (r : Step) → Unread d T pos least w r → Writes words d T pos least most at w X S S r
 unwrote-as (Done p a v) u = absurd (u .how)
 unwrote-as (Fail x p v) u = record { how = record { unread = u; text = refl } }
 unwrote-as (Stop n) u = record { how = record { unread = u; text = refl } }
 
-pub unwrote : {A : Type 0} {words : A → List ℕ} {d : List ℕ → Res A} {T : List ℕ} {pos least most at w : ℕ} {X S : List ℕ} {r : Step} → Unread d T pos least w r → Writes words d T pos least most at w X S S r
+pub unwrote : {A : Type 0} {words : A → List ℕ} {d : List Error → Res A} {T : List ℕ} {pos least most at w : ℕ} {X S : List ℕ} {r : Step} → Unread d T pos least w r → Writes words d T pos least most at w X S S r
 unwrote {r = r} u = unwrote-as r u
 
-abbrev same-got : {A : Type 0} {d e : List ℕ → Res A} {T : List ℕ} {least₁ least p : ℕ} → ((q : List ℕ) → e q ≡ d q) → Got d T least₁ p → least ≤ least₁ → Got e T least p
+abbrev same-got : {A : Type 0} {d e : List Error → Res A} {T : List ℕ} {least₁ least p : ℕ} → ((q : List Error) → e q ≡ d q) → Got d T least₁ p → least ≤ least₁ → Got e T least p
 same-got i g h = let on = g .on in record { what = g .what; same = λ q. i q ∙ g .same q; on = omega arith; within = g .within }
 
-writes-as : {A : Type 0} {words : A → List ℕ} {d e : List ℕ → Res A} {T : List ℕ} {pos least₁ least most at w : ℕ} {X S S′ : List ℕ} (r : Step) → ((q : List ℕ) → e q ≡ d q) → Writes words d T pos least₁ most at w X S S′ r → least ≤ least₁ → WritesAs words e T pos least most at w X S S′ r
+writes-as : {A : Type 0} {words : A → List ℕ} {d e : List Error → Res A} {T : List ℕ} {pos least₁ least most at w : ℕ} {X S S′ : List ℕ} (r : Step) → ((q : List Error) → e q ≡ d q) → Writes words d T pos least₁ most at w X S S′ r → least ≤ least₁ → WritesAs words e T pos least most at w X S S′ r
 writes-as (Done p a v) i u h = let s = u .how in record { got = same-got i (s .got) h; waits = s .waits; far = s .far; text = s .text }
 writes-as (Fail x p v) i u h = let s = u .how in record { unread = same-unread i (s .unread) (omega arith) h; text = s .text }
 writes-as (Stop n) i u h = let s = u .how in record { unread = same-unread i (s .unread) (omega arith) h; text = s .text }
 
-pub same-writes : {A : Type 0} {words : A → List ℕ} {d e : List ℕ → Res A} {T : List ℕ} {pos least₁ least most at w : ℕ} {X S S′ : List ℕ} {r : Step} → ((q : List ℕ) → e q ≡ d q) → Writes words d T pos least₁ most at w X S S′ r → least ≤ least₁ → Writes words e T pos least most at w X S S′ r
+pub same-writes : {A : Type 0} {words : A → List ℕ} {d e : List Error → Res A} {T : List ℕ} {pos least₁ least most at w : ℕ} {X S S′ : List ℕ} {r : Step} → ((q : List Error) → e q ≡ d q) → Writes words d T pos least₁ most at w X S S′ r → least ≤ least₁ → Writes words e T pos least most at w X S S′ r
 same-writes {r = r} i u h = record { how = writes-as r i u h }
 
-heads-as : {T : List ℕ} {pos₁ least₁ pos least w : ℕ} {d e : List ℕ → Res Header} (r : Head) → ((q : List ℕ) → e q ≡ d q) → Heads d T pos₁ least₁ w r → pos ≤ pos₁ → least ≤ least₁ → HeadsAs e T pos least w r
+heads-as : {T : List ℕ} {pos₁ least₁ pos least w : ℕ} {d e : List Error → Res Header} (r : Head) → ((q : List Error) → e q ≡ d q) → Heads d T pos₁ least₁ w r → pos ≤ pos₁ → least ≤ least₁ → HeadsAs e T pos least w r
 heads-as (HRequired p v) i u h g = let s = u .how in record { got = same-got i (s .got) g; is = s .is; below = s .below }
 heads-as (HVariadic p v) i u h g = let s = u .how in record { got = same-got i (s .got) g; is = s .is; below = s .below }
 heads-as (HDefault p v) i u h g = let s = u .how in record { got = same-got i (s .got) g; is = s .is; below = s .below }
 heads-as (HNot r) i u h g = same-unread i (u .how) h h
 
-pub same-heads : {T : List ℕ} {pos₁ least₁ pos least w : ℕ} {d e : List ℕ → Res Header} {r : Head} → ((q : List ℕ) → e q ≡ d q) → Heads d T pos₁ least₁ w r → pos ≤ pos₁ → least ≤ least₁ → Heads e T pos least w r
+pub same-heads : {T : List ℕ} {pos₁ least₁ pos least w : ℕ} {d e : List Error → Res Header} {r : Head} → ((q : List Error) → e q ≡ d q) → Heads d T pos₁ least₁ w r → pos ≤ pos₁ → least ≤ least₁ → Heads e T pos least w r
 same-heads {r = r} i u h g = record { how = heads-as r i u h g }
 
 -- THE RECORD of a node without children
@@ -147,51 +147,51 @@ not-empty none h = absurd (omega arith)
 not-empty (more t f) h = refl
 
 -- WHAT STANDS BEHIND A PARAMETER, from what was answered of it
-pub data Between (q ts : List ℕ) (v : ℕ) (r : List ℕ) : Type 0 where
+pub data Between (q : List Error) (ts : List ℕ) (v : ℕ) (r : List ℕ) : Type 0 where
   a-comma : {tok : Token} → look q ts ≡ ok tok r → eqb (tok .kind) Kind.Comma ≡ true → v ≡ 1 → Between q ts v r
   an-end : {tok : Token} {rest : List ℕ} → look q ts ≡ ok tok rest → eqb (tok .kind) Kind.Comma ≡ false → eqb (tok .kind) Kind.CloseParen ≡ true → v ≡ 0 → r ≡ ts → Between q ts v r
 
-data Neither (q ts : List ℕ) (e : ℕ) (r : List ℕ) : Type 0 where
+data Neither (q : List Error) (ts : List ℕ) (e : ℕ) (r : List ℕ) : Type 0 where
   no-token : look q ts ≡ fail e q r → Neither q ts e r
   another : {tok : Token} {rest : List ℕ} → look q ts ≡ ok tok rest → eqb (tok .kind) Kind.Comma ≡ false → eqb (tok .kind) Kind.CloseParen ≡ false → e ≡ Number.invalid-param → r ≡ ts → Neither q ts e r
 
 abbrev sep-of : List ℕ → List ℕ → List ℕ → Bool → Bool → Res ℕ
 sep-of q ts rest b c = ifb b (λ _. ok 1 rest) (λ _. ifb c (λ _. ok 0 ts) (λ _. fail Number.invalid-param q ts))
 
-sep-ok : (q ts : List ℕ) {r rest : List ℕ} {v : ℕ} {tok : Token} (b c : Bool) → look q ts ≡ ok tok rest → eqb (tok .kind) Kind.Comma ≡ b → eqb (tok .kind) Kind.CloseParen ≡ c → sep-of q ts rest b c ≡ ok v r → Between q ts v r
+sep-ok : (q : List Error) (ts : List ℕ) {r rest : List ℕ} {v : ℕ} {tok : Token} (b c : Bool) → look q ts ≡ ok tok rest → eqb (tok .kind) Kind.Comma ≡ b → eqb (tok .kind) Kind.CloseParen ≡ c → sep-of q ts rest b c ≡ ok v r → Between q ts v r
 unfolding ifb
 sep-ok q ts {r} {rest} {tok = tok} true c l x y e = let z : rest ≡ r = cc in a-comma {tok = tok} (l ∙ ap (ok tok) z) x (cc)
 sep-ok q ts false true l x y e = an-end l x y (cc) (cc)
 sep-ok q ts false false l x y e = absurd (let z : _≡_ {A = ℕ} 0 1 = cc in omega arith)
 
-sep-fail : (q ts : List ℕ) {r rest : List ℕ} {n : ℕ} {tok : Token} (b c : Bool) → look q ts ≡ ok tok rest → eqb (tok .kind) Kind.Comma ≡ b → eqb (tok .kind) Kind.CloseParen ≡ c → sep-of q ts rest b c ≡ fail n q r → Neither q ts n r
+sep-fail : (q : List Error) (ts : List ℕ) {r rest : List ℕ} {n : ℕ} {tok : Token} (b c : Bool) → look q ts ≡ ok tok rest → eqb (tok .kind) Kind.Comma ≡ b → eqb (tok .kind) Kind.CloseParen ≡ c → sep-of q ts rest b c ≡ fail n q r → Neither q ts n r
 unfolding ifb
 sep-fail q ts true c l x y e = absurd (let z : _≡_ {A = ℕ} 0 1 = cc in omega arith)
 sep-fail q ts false true l x y e = absurd (let z : _≡_ {A = ℕ} 0 1 = cc in omega arith)
 sep-fail q ts false false l x y e = another l x y (cc) (cc)
 
-sep-stop : (q ts rest : List ℕ) {n : ℕ} (b c : Bool) → sep-of q ts rest b c ≡ stop n → ⊥
+sep-stop : (q : List Error) (ts rest : List ℕ) {n : ℕ} (b c : Bool) → sep-of q ts rest b c ≡ stop n → ⊥
 unfolding ifb
 sep-stop q ts rest true c e = let z : _≡_ {A = ℕ} 0 1 = cc in omega arith
 sep-stop q ts rest false true e = let z : _≡_ {A = ℕ} 0 1 = cc in omega arith
 sep-stop q ts rest false false e = let z : _≡_ {A = ℕ} 0 1 = cc in omega arith
 
-abbrev sep-go : List ℕ → List ℕ → Token → List ℕ → List ℕ → Res ℕ
+abbrev sep-go : List ℕ → List ℕ → Token → List Error → List ℕ → Res ℕ
 sep-go q ts tok q₁ rest = sep-of q ts rest (eqb (tok .kind) Kind.Comma) (eqb (tok .kind) Kind.CloseParen)
 
-between-as : (q ts : List ℕ) {v : ℕ} {r : List ℕ} (d : Res Token) → look q ts ≡ d → then q d (sep-go q ts) ≡ ok v r → Between q ts v r
+between-as : (q : List Error) (ts : List ℕ) {v : ℕ} {r : List ℕ} (d : Res Token) → look q ts ≡ d → then q d (sep-go q ts) ≡ ok v r → Between q ts v r
 unfolding then
 between-as q ts (ok tok rest) l e = sep-ok q ts _ _ l refl refl e
 between-as q ts (bad tok q′ rest) l e = absurd (plain-not-bad (look-plain q ts) l)
 between-as q ts (fail n q′ rest) l e = absurd (let z : _≡_ {A = ℕ} 0 1 = cc in omega arith)
 between-as q ts (stop n) l e = absurd (let z : _≡_ {A = ℕ} 0 1 = cc in omega arith)
 
-pub between : (q ts : List ℕ) {v : ℕ} {r : List ℕ} → separator q ts ≡ ok v r → Between q ts v r
+pub between : (q : List Error) (ts : List ℕ) {v : ℕ} {r : List ℕ} → separator q ts ≡ ok v r → Between q ts v r
 unfolding separator
 between q ts e = between-as q ts (look q ts) refl e
 
 -- an end of one reading as that of another
-refailed : {A B : Type 0} {n m : ℕ} {q p r s : List ℕ} → _≡_ {A = Res A} (fail n q r) (fail m p s) → _≡_ {A = Res B} (fail n q r) (fail m p s)
+refailed : {A B : Type 0} {n m : ℕ} {q : List Error} {p r s : List ℕ} → _≡_ {A = Res A} (fail n q r) (fail m p s) → _≡_ {A = Res B} (fail n q r) (fail m p s)
 refailed {n = n} {m} {q} {p} {r} {s} e =
     let a : n ≡ m = cc in
     let b : q ≡ p = cc in
@@ -201,41 +201,41 @@ refailed {n = n} {m} {q} {p} {r} {s} e =
 restopped : {A B : Type 0} {n m : ℕ} → _≡_ {A = Res A} (stop n) (stop m) → _≡_ {A = Res B} (stop n) (stop m)
 restopped {n = n} {m} e = let a : n ≡ m = cc in rw a
 
-neither-as : (q ts : List ℕ) {n : ℕ} {r : List ℕ} (d : Res Token) → look q ts ≡ d → then q d (sep-go q ts) ≡ fail n q r → Neither q ts n r
+neither-as : (q : List Error) (ts : List ℕ) {n : ℕ} {r : List ℕ} (d : Res Token) → look q ts ≡ d → then q d (sep-go q ts) ≡ fail n q r → Neither q ts n r
 unfolding then
 neither-as q ts (ok tok rest) l e = sep-fail q ts _ _ l refl refl e
 neither-as q ts (bad tok q′ rest) l e = absurd (plain-not-bad (look-plain q ts) l)
 neither-as q ts (fail n q′ rest) l e = no-token (l ∙ refailed e)
 neither-as q ts (stop n) l e = absurd (let z : _≡_ {A = ℕ} 0 1 = cc in omega arith)
 
-neither : (q ts : List ℕ) {n : ℕ} {r : List ℕ} → separator q ts ≡ fail n q r → Neither q ts n r
+neither : (q : List Error) (ts : List ℕ) {n : ℕ} {r : List ℕ} → separator q ts ≡ fail n q r → Neither q ts n r
 unfolding separator
 neither q ts e = neither-as q ts (look q ts) refl e
 
-stopped-as : (q ts : List ℕ) {n : ℕ} (d : Res Token) → look q ts ≡ d → then q d (sep-go q ts) ≡ stop n → look q ts ≡ stop n
+stopped-as : (q : List Error) (ts : List ℕ) {n : ℕ} (d : Res Token) → look q ts ≡ d → then q d (sep-go q ts) ≡ stop n → look q ts ≡ stop n
 unfolding then
 stopped-as q ts (ok tok rest) l e = absurd (sep-stop q ts rest _ _ e)
 stopped-as q ts (bad tok q′ rest) l e = absurd (plain-not-bad (look-plain q ts) l)
 stopped-as q ts (fail n q′ rest) l e = absurd (let z : _≡_ {A = ℕ} 0 1 = cc in omega arith)
 stopped-as q ts (stop n) l e = l ∙ restopped e
 
-look-stopped : (q ts : List ℕ) {n : ℕ} → separator q ts ≡ stop n → look q ts ≡ stop n
+look-stopped : (q : List Error) (ts : List ℕ) {n : ℕ} → separator q ts ≡ stop n → look q ts ≡ stop n
 unfolding separator
 look-stopped q ts e = stopped-as q ts (look q ts) refl e
 
 -- a parameter that is not joined
-joined-not : (ps : Params) (p : Param) (k : ℕ) (q ts : List ℕ) → eqb k Kind.Comma ≡ false → eqb k Kind.CloseParen ≡ false → joined ps p k q ts ≡ fail Number.invalid-param q ts
+joined-not : (ps : Params) (p : Param) (k : ℕ) (q : List Error) (ts : List ℕ) → eqb k Kind.Comma ≡ false → eqb k Kind.CloseParen ≡ false → joined ps p k q ts ≡ fail Number.invalid-param q ts
 unfolding joined ifb
 joined-not ps (required v) k q ts x y = rw (x, y)
 joined-not ps (variadic v) k q ts x y = rw (x, y)
 joined-not ps (default v e) k q ts x y = rw (x, y)
 
-join-lacks : (ps : Params) (p : Param) (q ts : List ℕ) {n : ℕ} {r : List ℕ} → Neither q ts n r → join ps p q ts ≡ fail n q r
+join-lacks : (ps : Params) (p : Param) (q : List Error) (ts : List ℕ) {n : ℕ} {r : List ℕ} → Neither q ts n r → join ps p q ts ≡ fail n q r
 unfolding join then
 join-lacks ps p q ts (no-token l) = rw l
 join-lacks ps p q ts (another {tok = tok} l x y e z) = rw (l, joined-not ps p (tok .kind) q ts x y, e, z)
 
-join-stops : (ps : Params) (p : Param) (q ts : List ℕ) {n : ℕ} → look q ts ≡ stop n → join ps p q ts ≡ stop n
+join-stops : (ps : Params) (p : Param) (q : List Error) (ts : List ℕ) {n : ℕ} → look q ts ≡ stop n → join ps p q ts ≡ stop n
 unfolding join then
 join-stops ps p q ts l = rw l
 
@@ -256,27 +256,27 @@ with-required ps v = record { required-list = snoc (ps .required-list) (Node.par
 abbrev pub with-variadic : Params → ℕ → Params
 with-variadic ps v = record { required-list = ps .required-list; default-list = ps .default-list; variadic-one = Node.param-def v }
 
-pub join-required : (ps : Params) (x : ℕ) (q ts : List ℕ) {v : ℕ} {r : List ℕ} → empty (ps .default-list) ≡ true → Between q ts v r → join ps (required x) q ts ≡ ok (with-required ps x) r
+pub join-required : (ps : Params) (x : ℕ) (q : List Error) (ts : List ℕ) {v : ℕ} {r : List ℕ} → empty (ps .default-list) ≡ true → Between q ts v r → join ps (required x) q ts ≡ ok (with-required ps x) r
 unfolding join joined then ifb
 join-required ps x q ts e (a-comma l b h) = rw (l, b, e)
 join-required ps x q ts e (an-end l b c h z) = rw (l, b, c, e, z)
 
-join-order : (ps : Params) (x : ℕ) (q ts : List ℕ) {v : ℕ} {r : List ℕ} → empty (ps .default-list) ≡ false → Between q ts v r → join ps (required x) q ts ≡ fail Number.param-order q ts
+join-order : (ps : Params) (x : ℕ) (q : List Error) (ts : List ℕ) {v : ℕ} {r : List ℕ} → empty (ps .default-list) ≡ false → Between q ts v r → join ps (required x) q ts ≡ fail Number.param-order q ts
 unfolding join joined then ifb
 join-order ps x q ts e (a-comma l b h) = rw (l, b, e)
 join-order ps x q ts e (an-end l b c h z) = rw (l, b, c, e)
 
-pub join-variadic : (ps : Params) (x : ℕ) (q ts : List ℕ) {v : ℕ} {r : List ℕ} → (v ≡ 1 → ⊥) → Between q ts v r → join ps (variadic x) q ts ≡ ok (with-variadic ps x) r
+pub join-variadic : (ps : Params) (x : ℕ) (q : List Error) (ts : List ℕ) {v : ℕ} {r : List ℕ} → (v ≡ 1 → ⊥) → Between q ts v r → join ps (variadic x) q ts ≡ ok (with-variadic ps x) r
 unfolding join joined then ifb
 join-variadic ps x q ts n (a-comma l b h) = absurd (n h)
 join-variadic ps x q ts n (an-end l b c h z) = rw (l, b, c, z)
 
-join-not-last : (ps : Params) (x : ℕ) (q ts : List ℕ) {v : ℕ} {r : List ℕ} → v ≡ 1 → Between q ts v r → join ps (variadic x) q ts ≡ fail Number.variadic-not-last q ts
+join-not-last : (ps : Params) (x : ℕ) (q : List Error) (ts : List ℕ) {v : ℕ} {r : List ℕ} → v ≡ 1 → Between q ts v r → join ps (variadic x) q ts ≡ fail Number.variadic-not-last q ts
 unfolding join joined then ifb
 join-not-last ps x q ts n (a-comma l b h) = rw (l, b)
 join-not-last ps x q ts n (an-end l b c h z) = absurd (omega arith)
 
-pub join-default : (ps : Params) (x : ℕ) (t : Tree) (q ts : List ℕ) {v : ℕ} {r : List ℕ} → Between q ts v r → join ps (default x t) q ts ≡ ok (with-default ps x t) r
+pub join-default : (ps : Params) (x : ℕ) (t : Tree) (q : List Error) (ts : List ℕ) {v : ℕ} {r : List ℕ} → Between q ts v r → join ps (default x t) q ts ≡ ok (with-default ps x t) r
 unfolding join joined then ifb
 join-default ps x t q ts (a-comma l b h) = rw (l, b)
 join-default ps x t q ts (an-end l b c h z) = rw (l, b, c, z)

@@ -6,7 +6,7 @@ use lib.Dec.{eqb}
 use lib.ListN.{take, drop}
 use Rattle.tree.specs.Tree.{Tree, Forest, none, more, snoc, count, records, all-records}
 use Rattle.tree.specs.Node
-use Rattle.grammar.specs.Reading.Result.{Res, ok, ifb}
+use Rattle.grammar.specs.Reading.Result.{Res, ok, ifb, Error}
 use Rattle.grammar.specs.Reading.Function.{Param, required, variadic, default, Params}
 use Rattle.scan.specs.Post.{no-words, Wrote, Failed, Got, Unread}
 use Rattle.nodes.specs.Parts.{Header, h-required, h-variadic, h-default, join}
@@ -23,18 +23,18 @@ abbrev pub name-bound : ℕ
 name-bound = 8589934592
 
 -- THE HEAD of a parameter
-pub record Header-at (make : ℕ → Header) (d : List ℕ → Res Header) (T : List ℕ) (least p v : ℕ) : Type 0 where
+pub record Header-at (make : ℕ → Header) (d : List Error → Res Header) (T : List ℕ) (least p v : ℕ) : Type 0 where
   pub got : Got d T least p
   pub is : got .what ≡ make v
   pub below : v < name-bound
 
-abbrev pub HeadsAs : (List ℕ → Res Header) → List ℕ → ℕ → ℕ → ℕ → Head → Type 0
+abbrev pub HeadsAs : (List Error → Res Header) → List ℕ → ℕ → ℕ → ℕ → Head → Type 0
 HeadsAs d T pos least w₀ (HRequired p v) = Header-at h-required d T least p v
 HeadsAs d T pos least w₀ (HVariadic p v) = Header-at h-variadic d T least p v
 HeadsAs d T pos least w₀ (HDefault p v) = Header-at h-default d T least p v
 HeadsAs d T pos least w₀ (HNot r) = Unread d T pos pos w₀ r
 
-pub record Heads (d : List ℕ → Res Header) (T : List ℕ) (pos least w₀ : ℕ) (h : Head) : Type 0 where
+pub record Heads (d : List Error → Res Header) (T : List ℕ) (pos least w₀ : ℕ) (h : Head) : Type 0 where
   pub how : HeadsAs d T pos least w₀ h
 
 -- A PARAMETER, after so many required ones and so many with a default. Before the first default stands the list of the required ones
@@ -83,7 +83,7 @@ pub record Fitting (ps : Params) (m n v : ℕ) : Type 0 where
   pub is-variadic : ps .variadic-one ≡ variadic-of v
 
 -- d joins one to at most so many
-pub record Joins-to (d : List ℕ → Res Params) (X T : List ℕ) (pos most at w₀ : ℕ) (S′ : List ℕ) (p a w m n v : ℕ) : Type 0 where
+pub record Joins-to (d : List Error → Res Params) (X T : List ℕ) (pos most at w₀ : ℕ) (S′ : List ℕ) (p a w m n v : ℕ) : Type 0 where
   pub got : Got d T pos p
   pub waits : w ≡ w₀
   pub fits : Fitting (got .what) m n v
@@ -93,15 +93,15 @@ pub record Joins-to (d : List ℕ → Res Params) (X T : List ℕ) (pos most at 
   pub far : a ≤ at + 2
   pub text : take a S′ ≡ X ++ params-words (got .what)
 
-pub record Unjoined (d : List ℕ → Res Params) (T : List ℕ) (pos w₀ : ℕ) (S S′ : List ℕ) (r : Step) : Type 0 where
+pub record Unjoined (d : List Error → Res Params) (T : List ℕ) (pos w₀ : ℕ) (S S′ : List ℕ) (r : Step) : Type 0 where
   pub unread : Unread d T pos pos w₀ r
   pub text : S′ ≡ S
 
-abbrev pub JoinsAs : (List ℕ → Res Params) → List ℕ → List ℕ → ℕ → ℕ → ℕ → ℕ → List ℕ → List ℕ → Joined → Type 0
+abbrev pub JoinsAs : (List Error → Res Params) → List ℕ → List ℕ → ℕ → ℕ → ℕ → ℕ → List ℕ → List ℕ → Joined → Type 0
 JoinsAs d X T pos most at w₀ S S′ (To p a w m n v) = Joins-to d X T pos most at w₀ S′ p a w m n v
 JoinsAs d X T pos most at w₀ S S′ (JNot r) = Unjoined d T pos w₀ S S′ r
 
-pub record Joins (d : List ℕ → Res Params) (X T : List ℕ) (pos most at w₀ : ℕ) (S S′ : List ℕ) (r : Joined) : Type 0 where
+pub record Joins (d : List Error → Res Params) (X T : List ℕ) (pos most at w₀ : ℕ) (S S′ : List ℕ) (r : Joined) : Type 0 where
   pub how : JoinsAs d X T pos most at w₀ S S′ r
 
 -- a parameter that was read joins those before it, which end at «at» behind X

@@ -16,12 +16,12 @@ use Rattle.grammar.specs.Reading.Stmt.{lone-ellipsis}
 
 -- the words of a tuple behind those of its first member
 abbrev pub tuple-words : Forest → List ℕ
-tuple-words f = all-records f ++ (1 + 256 * suc (count f)) ∷ 0 ∷ 272 ∷ 0 ∷ []
+tuple-words f = all-records f ++ (NodeKind.List + 256 * suc (count f)) ∷ 0 ∷ (NodeKind.Tuple + 256) ∷ 0 ∷ []
 
 -- the words of a path behind those of its atom
 abbrev pub path-words : Forest → List ℕ
 path-words none = []
-path-words (more i f) = all-records (more i f) ++ (1 + 256 * count (more i f)) ∷ 0 ∷ 523 ∷ 0 ∷ []
+path-words (more i f) = all-records (more i f) ++ (NodeKind.List + 256 * count (more i f)) ∷ 0 ∷ (NodeKind.Primary + 512) ∷ 0 ∷ []
 
 -- `...` behind what was read as t; an expression as a statement
 unfoldable pub unpack-end : Tree → List Error → List ℕ → Res Tree

@@ -11,7 +11,7 @@ use lib.ListN.{length, take, drop, replicate, length-drop}
 use lib.Seq.{length-take-le, take-all}
 use Rattle.tree.specs.Tree.{Tree, records}
 use Rattle.grammar.specs.Reading.Limit.{depth-limit, length-limit, queue-limit, store-share, malformed, bad-reader, short-store}
-use Rattle.grammar.specs.Reading.Result.{Res, ok, bad, fail, stop, ifb}
+use Rattle.grammar.specs.Reading.Result.{Res, ok, bad, fail, stop, ifb, Error}
 use Rattle.grammar.specs.Reading.Next.{is-stop, queue-fits, pad, reader-at, Called, bare, halted, error-kind, error-answer, tree-called, called, answered, next-stmt, next}
 use Rattle.grammar.specs.Laws.Progress.{Keep, k-ok, k-bad, k-fail, k-stop, next-keeps}
 use Rattle.grammar.specs.declared.ErrorKind.{ErrorKind}
@@ -19,14 +19,14 @@ use Rattle.grammar.specs.declared.Answer.{Answer}
 use Rattle.grammar.specs.declared.Answer.the-variants.{Tree as ATree, Error as AError, Refused, Stopped}
 use Rattle.grammar.specs.declared.Reader.{Reader}
 use Rattle.grammar.specs.declared.Stepped.{Stepped}
-use Rattle.scan.specs.Post.{won, lost, halt, out, As, clean, Lost, Wrote}
+use Rattle.scan.specs.Post.{won, lost, halt, out, As, clean, Lost, Wrote, waiting-errors}
 use Rattle.scan.proofs.Waiting.{chosen, other}
 
 -- AN ANSWER and a reader that goes on
 abbrev mk : Answer → ℕ → ℕ → List ℕ → Stepped
 mk a p w e = record { answer = a; reader = record { position = p; waiting = w; errors = e; stopped = 0 } }
 
-pub went-on : (a : Answer) (p w : ℕ) (q e : List ℕ) → length q ≡ 96 → w ≤ 96 → e ≡ pad (take w q) → mk a p w e ≡ record { answer = a; reader = reader-at p (take w q) }
+pub went-on : (a : Answer) (p w : ℕ) (q e : List ℕ) → length q ≡ queue-limit → w ≤ queue-limit → e ≡ pad (take w q) → mk a p w e ≡ record { answer = a; reader = reader-at p (take w q) }
 went-on a p w q e h g x =
     let l : length (take w q) ≡ w = length-take-le w q (omega arith) in
     ap (mk a p w) x ∙ ap (λ (n : ℕ). mk a p n (pad (take w q))) (sym l)
@@ -63,7 +63,7 @@ pub record Sheet (T : List ℕ) : Type 0 where
 
 pub record Fit (R : Reader) (n : ℕ) : Type 0 where
   pub within : R .position ≤ n
-  pub few : R .waiting ≤ 96
+  pub few : R .waiting ≤ queue-limit
 
 refused : (a b : Bool) (x : Called) (y : Unit {0} → Called) → (not a && b) ≡ false → ifb a (λ _. x) (λ _. ifb b y (λ _. x)) ≡ x
 unfolding ifb
@@ -148,7 +148,7 @@ stands a p q = record { answer = a; reader = reader-at p q }
 pub bare-out : {s s′ : Stepped} {X : Called} (S S′ : List ℕ) (m : ℕ) → S′ ≡ take 0 S ++ replicate (length S - 0) 0 → length S ≡ m → s ≡ s′ → X ≡ left s′ (replicate m 0) → left s S′ ≡ X
 bare-out {s} {s′} S S′ m e k i x = ap (left s) (e ∙ rw (sub-zero, k)) ∙ ap (λ (t : Stepped). left t (replicate m 0)) i ∙ sym x
 
-called-won : (n m p : ℕ) (d : Res Tree) {t : Tree} {q r : List ℕ} → out [] d ≡ won t q r → called n m p d ≡ tree-called m (n - length r / 2) (records t) q
+called-won : (n m p : ℕ) (d : Res Tree) {t : Tree} {q : List Error} {r : List ℕ} → out [] d ≡ won t q r → called n m p d ≡ tree-called m (n - length r / 2) (records t) q
 called-won n m p (ok u s) {t} {q} {r} e =
     let a : u ≡ t = cc in
     let b : [] ≡ q = cc in
@@ -162,7 +162,7 @@ called-won n m p (bad u v s) {t} {q} {r} e =
 called-won n m p (fail x v s) e = absurd (let z : _≡_ {A = ℕ} 0 1 = cc in omega arith)
 called-won n m p (stop k) e = absurd (let z : _≡_ {A = ℕ} 0 1 = cc in omega arith)
 
-called-lost : (n m p : ℕ) (d : Res Tree) {x : ℕ} {q r : List ℕ} → out [] d ≡ lost x q r → called n m p d ≡ bare m (error-answer x) (reader-at (n - length r / 2) q)
+called-lost : (n m p : ℕ) (d : Res Tree) {x : ℕ} {q : List Error} {r : List ℕ} → out [] d ≡ lost x q r → called n m p d ≡ bare m (error-answer x) (reader-at (n - length r / 2) q)
 called-lost n m p (ok u s) e = absurd (let z : _≡_ {A = ℕ} 0 1 = cc in omega arith)
 called-lost n m p (bad u v s) e = absurd (let z : _≡_ {A = ℕ} 0 1 = cc in omega arith)
 called-lost n m p (fail y v s) {x} {q} {r} e =
@@ -182,13 +182,13 @@ called-halt n m p (stop j) {k} e = let a : j ≡ k = cc in rw a
 abbrev Even : List ℕ → Type 0
 Even r = length r % 2 ≡ 0
 
-even-won : {d : Res Tree} {t : Tree} {q r : List ℕ} → Keep Even (λ e. Even) d → out [] d ≡ won t q r → Even r
+even-won : {d : Res Tree} {t : Tree} {q : List Error} {r : List ℕ} → Keep Even (λ e. Even) d → out [] d ≡ won t q r → Even r
 even-won {r = r} (k-ok {r = s} i) e = let c : s ≡ r = cc in rw c at i
 even-won {r = r} (k-bad {r = s} i) e = let c : s ≡ r = cc in rw c at i
 even-won (k-fail i) e = absurd (let z : _≡_ {A = ℕ} 0 1 = cc in omega arith)
 even-won k-stop e = absurd (let z : _≡_ {A = ℕ} 0 1 = cc in omega arith)
 
-even-lost : {d : Res Tree} {x : ℕ} {q r : List ℕ} → Keep Even (λ e. Even) d → out [] d ≡ lost x q r → Even r
+even-lost : {d : Res Tree} {x : ℕ} {q : List Error} {r : List ℕ} → Keep Even (λ e. Even) d → out [] d ≡ lost x q r → Even r
 even-lost (k-ok i) e = absurd (let z : _≡_ {A = ℕ} 0 1 = cc in omega arith)
 even-lost (k-bad i) e = absurd (let z : _≡_ {A = ℕ} 0 1 = cc in omega arith)
 even-lost {r = r} (k-fail {r = s} i) e = let c : s ≡ r = cc in rw c at i
@@ -207,28 +207,28 @@ module _ (T : List ℕ) (x m : ℕ) (even : Even T) where
   pub halt-out : {k : ℕ} {s : Stepped} (S S′ : List ℕ) → As [] (next depth-limit [] T) [] (stop k) → S′ ≡ take 0 S ++ replicate (length S - 0) 0 → length S ≡ m → s ≡ halted 0 x k .step → left s S′ ≡ comes
   halt-out S S′ a e l i = bare-out S S′ m e l i (called-halt (x + length T / 2) m x (next depth-limit [] T) (a .is))
 
-  pub lost-out : {e p w : ℕ} {S Q S₁ Q₁ : List ℕ} {a : Answer} {s : Stepped} (S′ : List ℕ) → Lost (next depth-limit [] T) T 0 0 0 0 S Q e p w S₁ Q₁ → S′ ≡ take 0 S₁ ++ replicate (length S₁ - 0) 0 → length S₁ ≡ m → a ≡ error-answer e → s ≡ stands a (x + p / 2) (take w Q₁) → left s S′ ≡ comes
+  pub lost-out : {e p w : ℕ} {S Q S₁ Q₁ : List ℕ} {a : Answer} {s : Stepped} (S′ : List ℕ) → Lost (next depth-limit [] T) T 0 0 0 0 S Q e p w S₁ Q₁ → S′ ≡ take 0 S₁ ++ replicate (length S₁ - 0) 0 → length S₁ ≡ m → a ≡ error-answer e → s ≡ stands a (x + p / 2) (waiting-errors w Q₁) → left s S′ ≡ comes
   lost-out {e} {p} {w} {S₁ = S₁} {Q₁ = Q₁} {a = a} S′ l c k n i =
       let d = next depth-limit [] T in
-      let y : comes ≡ bare m (error-answer e) (reader-at (x + p / 2) (take w Q₁)) =
-      called-lost (x + length T / 2) m x d (l .same .is) ∙ ap (λ (j : ℕ). bare m (error-answer e) (reader-at j (take w Q₁))) (place T x p even (even-lost (even-next T even) (l .same .is)) (l .moved .within)) in
-      bare-out S₁ S′ m c k (i ∙ ap (λ (b : Answer). stands b (x + p / 2) (take w Q₁)) n) y
+      let y : comes ≡ bare m (error-answer e) (reader-at (x + p / 2) (waiting-errors w Q₁)) =
+      called-lost (x + length T / 2) m x d (l .same .is) ∙ ap (λ (j : ℕ). bare m (error-answer e) (reader-at j (waiting-errors w Q₁))) (place T x p even (even-lost (even-next T even) (l .same .is)) (l .moved .within)) in
+      bare-out S₁ S′ m c k (i ∙ ap (λ (b : Answer). stands b (x + p / 2) (waiting-errors w Q₁)) n) y
 
-  pub tree-out : {p a w : ℕ} {S Q S₁ Q₁ : List ℕ} {s : Stepped} (S′ : List ℕ) → (g : Wrote records (next depth-limit [] T) clean T 0 0 8 0 0 S Q p a w S₁ Q₁) → S′ ≡ take a S₁ ++ replicate (length S₁ - a) 0 → length S₁ ≡ m → a ≤ m → s ≡ stands (ATree (a / 2)) (x + p / 2) (take w Q₁) → left s S′ ≡ comes
+  pub tree-out : {p a w : ℕ} {S Q S₁ Q₁ : List ℕ} {s : Stepped} (S′ : List ℕ) → (g : Wrote records (next depth-limit [] T) clean T 0 0 8 0 0 S Q p a w S₁ Q₁) → S′ ≡ take a S₁ ++ replicate (length S₁ - a) 0 → length S₁ ≡ m → a ≤ m → s ≡ stands (ATree (a / 2)) (x + p / 2) (waiting-errors w Q₁) → left s S′ ≡ comes
   tree-out {p} {a} {w} {S₁ = S₁} {Q₁ = Q₁} {s = s} S′ g c k h i =
       let d = next depth-limit [] T in
       let t : List ℕ = records (g .what) in
       let b : take a S₁ ≡ t = g .text in
       let long : a ≡ length t = sym (length-take-le a S₁ (omega arith)) ∙ ap length b in
-      let y : comes ≡ left (stands (ATree (length t / 2)) (x + p / 2) (take w Q₁)) (t ++ replicate (m - length t) 0) =
-      called-won (x + length T / 2) m x d (g .same .is) ∙ ap (λ (j : ℕ). tree-called m j t (take w Q₁)) (place T x p even (even-won (even-next T even) (g .same .is)) (g .moved .within)) in
+      let y : comes ≡ left (stands (ATree (length t / 2)) (x + p / 2) (waiting-errors w Q₁)) (t ++ replicate (m - length t) 0) =
+      called-won (x + length T / 2) m x d (g .same .is) ∙ ap (λ (j : ℕ). tree-called m j t (waiting-errors w Q₁)) (place T x p even (even-won (even-next T even) (g .same .is)) (g .moved .within)) in
       ap (λ (l : List ℕ). left s l) (c ∙ ap (λ (l : List ℕ). l ++ replicate (length S₁ - a) 0) b ∙ ap (λ (j : ℕ). t ++ replicate (j - a) 0) k)
       ∙ ap (λ (r : Stepped). left r (t ++ replicate (m - a) 0)) i
-      ∙ ap (λ (j : ℕ). left (stands (ATree (j / 2)) (x + p / 2) (take w Q₁)) (t ++ replicate (m - j) 0)) long
+      ∙ ap (λ (j : ℕ). left (stands (ATree (j / 2)) (x + p / 2) (waiting-errors w Q₁)) (t ++ replicate (m - j) 0)) long
       ∙ sym y
 
 -- the error that waited longest
-pub front-out : {e : ℕ} {k : ErrorKind} {Q q : List ℕ} {s : Stepped} {X : Called} (R : Reader) (S S′ : List ℕ) (m : ℕ) → S′ ≡ take 0 S ++ replicate (length S - 0) 0 → length S ≡ m → X ≡ answered m R Q → Q ≡ e ∷ q → k ≡ error-kind e → s ≡ stands (AError k) (R .position) q → left s S′ ≡ X
+pub front-out : {e : ℕ} {k : ErrorKind} {Q : List ℕ} {q : List Error} {s : Stepped} {X : Called} (R : Reader) (S S′ : List ℕ) (m : ℕ) → S′ ≡ take 0 S ++ replicate (length S - 0) 0 → length S ≡ m → X ≡ answered m R Q → Q ≡ e ∷ q → k ≡ error-kind e → s ≡ stands (AError k) (R .position) q → left s S′ ≡ X
 front-out {q = q} R S S′ m c l x t n i = bare-out S S′ m c l (i ∙ ap (λ (k : ErrorKind). stands (AError k) (R .position) q) n) (x ∙ ap (answered m R) t)
 
 -- THE UNREAD TOKENS, from a position on

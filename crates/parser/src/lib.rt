@@ -9,7 +9,7 @@ ghost use Rattle.tree.specs.Tree.{records};
 ghost use Rattle.grammar.specs.Reading.Limit.{depth-limit, length-limit, queue-limit};
 ghost use Rattle.grammar.specs.Reading.Next.{error-kind as error-kind-def, is-stop as is-stop-def, queue-fits as queue-fits-def, reader-at, halted, error-answer as error-answer-def, called, failed as failed-def, next};
 ghost use Rattle.grammar.specs.Contract.{Returns};
-ghost use Rattle.scan.specs.Post.{Ready, Failed, Agrees};
+ghost use Rattle.scan.specs.Post.{Ready, Failed, Agrees, waiting-errors};
 
 pub mod host;
 pub mod kept;
@@ -42,7 +42,7 @@ fn failed(
     waiting: usize,
 ) -> Step
     requires { ⌜ Ready (length (now tokens)) (length (now store)) (length (now queue)) pos 0 waiting ⌝ }
-    ensures { λ r. ⌜ Failed (failed-def depth-limit e (take waiting (now (queue .entry))) (drop pos (now (tokens .entry)))) (now (tokens .entry)) pos pos 0 waiting (now (store .entry)) (now (queue .entry)) (now (store .exit)) (now (queue .exit)) r ⌝ }
+    ensures { λ r. ⌜ Failed (failed-def depth-limit e (waiting-errors waiting (now (queue .entry))) (drop pos (now (tokens .entry)))) (now (tokens .entry)) pos pos 0 waiting (now (store .entry)) (now (queue .entry)) (now (store .exit)) (now (queue .exit)) r ⌝ }
 {
     if waiting == limit::QUEUE {
         return Step::Stop(limit::QUEUE_FULL);
@@ -110,7 +110,7 @@ fn stop_at(position: usize, n: u64) -> Stepped
 
 // An answer, and a reader that goes on.
 fn go_on(answer: Answer, position: usize, waiting: usize, queue: Queue) -> Stepped
-    requires { ⌜ waiting ≤ 96 ⌝ }
+    requires { ⌜ waiting ≤ queue-limit ⌝ }
     ensures { λ r. ⌜ r ≡ record { answer = answer; reader = reader-at position (take waiting queue) } ⌝ }
 {
     let errors = wipe(queue, waiting);

@@ -9,9 +9,10 @@ use denote.Enum.Declared.{tagOf}
 use lib.ListN.{length, take, drop}
 use lib.Seq.{length-take-le, take-take, take-append-le}
 use Rattle.token.specs.declared.Token.{Token}
-use Rattle.grammar.specs.Reading.Result.{Res, ok, bad, fail, stop, spoil, either, then}
+use Rattle.grammar.specs.Reading.Limit.{queue-limit}
+use Rattle.grammar.specs.Reading.Result.{Res, ok, bad, fail, stop, spoil, either, then, Error}
 use Rattle.grammar.specs.Reading.Look.{look}
-use Rattle.scan.specs.Post.{Out, won, lost, halt, out, As, clean, Moved, Room, Lost, FailedAs, Failed, Wrote, AgreesAs, Agrees, Unread, Taken, Missed, Saw, Got, Passed, Reads, Number-at, Finds}
+use Rattle.scan.specs.Post.{Out, won, lost, halt, out, As, clean, Moved, Room, Lost, FailedAs, Failed, Wrote, AgreesAs, Agrees, Unread, Taken, Missed, Saw, Got, Passed, Reads, Number-at, Finds, waiting-errors}
 use Rattle.scan.specs.declared.Step.{Step}
 use Rattle.scan.specs.declared.Step.the-variants.{Done, Fail, Stop}
 use Rattle.scan.specs.declared.Seen.{Seen}
@@ -21,22 +22,22 @@ use Rattle.scan.specs.declared.Found.the-variants.{At, Not as Nor}
 use Rattle.scan.proofs.Step.{the-type}
 
 -- seen as
-pub way : {A : Type 0} {d d′ : Res A} (q : List ℕ) → d ≡ d′ → As q d q d′
+pub way : {A : Type 0} {d d′ : Res A} (q : List Error) → d ≡ d′ → As q d q d′
 way q e = record { is = rw e }
 
-pub here : {A : Type 0} {d : Res A} {q : List ℕ} → As q d q d
+pub here : {A : Type 0} {d : Res A} {q : List Error} → As q d q d
 here = record { is = refl }
 
-pub link : {A : Type 0} {d d₁ d₂ : Res A} {q q₁ q₂ : List ℕ} → As q d q₁ d₁ → As q₁ d₁ q₂ d₂ → As q d q₂ d₂
+pub link : {A : Type 0} {d d₁ d₂ : Res A} {q q₁ q₂ : List Error} → As q d q₁ d₁ → As q₁ d₁ q₂ d₂ → As q d q₂ d₂
 link a b = record { is = a .is ∙ b .is }
 
-pub ends : {A : Type 0} {d : Res A} {q : List ℕ} {n : ℕ} → d ≡ stop n → As q d [] (stop n)
+pub ends : {A : Type 0} {d : Res A} {q : List Error} {n : ℕ} → d ≡ stop n → As q d [] (stop n)
 ends e = record { is = rw e }
 
-pub refail : {A : Type 0} {d : Res A} {q q₁ q₂ r : List ℕ} {e : ℕ} → As q d q₁ (fail e q₂ r) → As q d q₂ (fail e q₂ r)
+pub refail : {A : Type 0} {d : Res A} {q q₁ q₂ : List Error} {r : List ℕ} {e : ℕ} → As q d q₁ (fail e q₂ r) → As q d q₂ (fail e q₂ r)
 refail a = record { is = a .is }
 
-out-spoil : {A : Type 0} (q p : List ℕ) (d : Res A) → out p (spoil q d) ≡ out q d
+out-spoil : {A : Type 0} (q : List Error) (p : List ℕ) (d : Res A) → out p (spoil q d) ≡ out q d
 unfolding spoil
 out-spoil q p (ok a r) = refl
 out-spoil q p (bad a q′ r) = refl
@@ -44,61 +45,61 @@ out-spoil q p (fail e q′ r) = refl
 out-spoil q p (stop n) = refl
 
 -- what a push makes of what goes on
-pub spoiled : {A : Type 0} {d : Res A} (q p : List ℕ) → As p (spoil q d) q d
+pub spoiled : {A : Type 0} {d : Res A} (q : List Error) (p : List ℕ) → As p (spoil q d) q d
 spoiled {d = d} q p = record { is = out-spoil q p d }
 
-module _ {A B : Type 0} (go : A → List ℕ → List ℕ → Res B) where
-  carry : {x y : A} {q q′ r r′ : List ℕ} → won x q r ≡ won y q′ r′ → out q (go x q r) ≡ out q′ (go y q′ r′)
+module _ {A B : Type 0} (go : A → List Error → List ℕ → Res B) where
+  carry : {x y : A} {q q′ : List Error} {r r′ : List ℕ} → won x q r ≡ won y q′ r′ → out q (go x q r) ≡ out q′ (go y q′ r′)
   carry {x} {y} {q} {q′} {r} {r′} e =
       let a : x ≡ y = cc in
       let b : q ≡ q′ = cc in
       let c : r ≡ r′ = cc in
       ap (λ (z : A). out q (go z q r)) a ∙ ap (λ (z : List ℕ). out z (go y z r)) b ∙ ap (λ (z : List ℕ). out q′ (go y q′ z)) c
 
-  then-won : (q : List ℕ) (d : Res A) {x : A} {q′ r : List ℕ} → out q d ≡ won x q′ r → out q (then q d go) ≡ out q′ (go x q′ r)
+  then-won : (q : List Error) (d : Res A) {x : A} {q′ : List Error} {r : List ℕ} → out q d ≡ won x q′ r → out q (then q d go) ≡ out q′ (go x q′ r)
   unfolding then
   then-won q (ok a r) e = carry e
   then-won q (bad a q₁ r) e = out-spoil q₁ q (go a q₁ r) ∙ carry e
   then-won q (fail n q₁ r) e = absurd (let z : _≡_ {A = ℕ} 0 1 = cc in omega arith)
   then-won q (stop n) e = absurd (let z : _≡_ {A = ℕ} 0 1 = cc in omega arith)
 
-  then-lost : (q : List ℕ) (d : Res A) {e : ℕ} {q′ r : List ℕ} → out q d ≡ lost e q′ r → out q (then q d go) ≡ lost e q′ r
+  then-lost : (q : List Error) (d : Res A) {e : ℕ} {q′ : List Error} {r : List ℕ} → out q d ≡ lost e q′ r → out q (then q d go) ≡ lost e q′ r
   unfolding then
   then-lost q (ok a r) e = absurd (let z : _≡_ {A = ℕ} 0 1 = cc in omega arith)
   then-lost q (bad a q₁ r) e = absurd (let z : _≡_ {A = ℕ} 0 1 = cc in omega arith)
   then-lost q (fail n q₁ r) e = cc
   then-lost q (stop n) e = absurd (let z : _≡_ {A = ℕ} 0 1 = cc in omega arith)
 
-  then-halt : (q : List ℕ) (d : Res A) {n : ℕ} → out q d ≡ halt n → out q (then q d go) ≡ halt n
+  then-halt : (q : List Error) (d : Res A) {n : ℕ} → out q d ≡ halt n → out q (then q d go) ≡ halt n
   unfolding then
   then-halt q (ok a r) e = absurd (let z : _≡_ {A = ℕ} 0 1 = cc in omega arith)
   then-halt q (bad a q₁ r) e = absurd (let z : _≡_ {A = ℕ} 0 1 = cc in omega arith)
   then-halt q (fail n q₁ r) e = absurd (let z : _≡_ {A = ℕ} 0 1 = cc in omega arith)
   then-halt q (stop n) e = cc
 
-  module _ (or : ℕ → List ℕ → List ℕ → Res B) where
-    carry-or : {x y : ℕ} {q q′ r r′ : List ℕ} → _≡_ {A = Out A} (lost x q r) (lost y q′ r′) → out q (or x q r) ≡ out q′ (or y q′ r′)
+  module _ (or : ℕ → List Error → List ℕ → Res B) where
+    carry-or : {x y : ℕ} {q q′ : List Error} {r r′ : List ℕ} → _≡_ {A = Out A} (lost x q r) (lost y q′ r′) → out q (or x q r) ≡ out q′ (or y q′ r′)
     carry-or {x} {y} {q} {q′} {r} {r′} e =
         let a : x ≡ y = cc in
         let b : q ≡ q′ = cc in
         let c : r ≡ r′ = cc in
         ap (λ (z : ℕ). out q (or z q r)) a ∙ ap (λ (z : List ℕ). out z (or y z r)) b ∙ ap (λ (z : List ℕ). out q′ (or y q′ z)) c
 
-    either-won : (q : List ℕ) (d : Res A) {x : A} {q′ r : List ℕ} → out q d ≡ won x q′ r → out q (either q d go or) ≡ out q′ (go x q′ r)
+    either-won : (q : List Error) (d : Res A) {x : A} {q′ : List Error} {r : List ℕ} → out q d ≡ won x q′ r → out q (either q d go or) ≡ out q′ (go x q′ r)
     unfolding either
     either-won q (ok a r) e = carry e
     either-won q (bad a q₁ r) e = out-spoil q₁ q (go a q₁ r) ∙ carry e
     either-won q (fail n q₁ r) e = absurd (let z : _≡_ {A = ℕ} 0 1 = cc in omega arith)
     either-won q (stop n) e = absurd (let z : _≡_ {A = ℕ} 0 1 = cc in omega arith)
 
-    either-lost : (q : List ℕ) (d : Res A) {e : ℕ} {q′ r : List ℕ} → out q d ≡ lost e q′ r → out q (either q d go or) ≡ out q′ (or e q′ r)
+    either-lost : (q : List Error) (d : Res A) {e : ℕ} {q′ : List Error} {r : List ℕ} → out q d ≡ lost e q′ r → out q (either q d go or) ≡ out q′ (or e q′ r)
     unfolding either
     either-lost q (ok a r) e = absurd (let z : _≡_ {A = ℕ} 0 1 = cc in omega arith)
     either-lost q (bad a q₁ r) e = absurd (let z : _≡_ {A = ℕ} 0 1 = cc in omega arith)
     either-lost q (fail n q₁ r) e = out-spoil q₁ q (or n q₁ r) ∙ carry-or e
     either-lost q (stop n) e = absurd (let z : _≡_ {A = ℕ} 0 1 = cc in omega arith)
 
-    either-halt : (q : List ℕ) (d : Res A) {n : ℕ} → out q d ≡ halt n → out q (either q d go or) ≡ halt n
+    either-halt : (q : List Error) (d : Res A) {n : ℕ} → out q d ≡ halt n → out q (either q d go or) ≡ halt n
     unfolding either
     either-halt q (ok a r) e = absurd (let z : _≡_ {A = ℕ} 0 1 = cc in omega arith)
     either-halt q (bad a q₁ r) e = absurd (let z : _≡_ {A = ℕ} 0 1 = cc in omega arith)
@@ -106,18 +107,18 @@ module _ {A B : Type 0} (go : A → List ℕ → List ℕ → Res B) where
     either-halt q (stop n) e = cc
 
 -- D goes on from d by `go`, and d read x
-module _ {A B : Type 0} {D : Res B} {d : Res A} {q q₁ : List ℕ} (go : A → List ℕ → List ℕ → Res B) where
-  pub goes : {x : A} {q₂ r : List ℕ} → As q D q₁ (then q₁ d go) → As q₁ d q₂ (ok x r) → As q D q₂ (go x q₂ r)
+module _ {A B : Type 0} {D : Res B} {d : Res A} {q q₁ : List Error} (go : A → List Error → List ℕ → Res B) where
+  pub goes : {x : A} {q₂ : List Error} {r : List ℕ} → As q D q₁ (then q₁ d go) → As q₁ d q₂ (ok x r) → As q D q₂ (go x q₂ r)
   goes a b = record { is = a .is ∙ then-won go q₁ d (b .is) }
 
   -- by `go`, or where d failed by `or`
-  pub wins : (or : ℕ → List ℕ → List ℕ → Res B) {x : A} {q₂ r : List ℕ} → As q D q₁ (either q₁ d go or) → As q₁ d q₂ (ok x r) → As q D q₂ (go x q₂ r)
+  pub wins : (or : ℕ → List Error → List ℕ → Res B) {x : A} {q₂ : List Error} {r : List ℕ} → As q D q₁ (either q₁ d go or) → As q₁ d q₂ (ok x r) → As q D q₂ (go x q₂ r)
   wins or a b = record { is = a .is ∙ either-won go or q₁ d (b .is) }
 
-  pub loses : (or : ℕ → List ℕ → List ℕ → Res B) {e : ℕ} {q₂ r : List ℕ} → As q D q₁ (either q₁ d go or) → As q₁ d q₂ (fail e q₂ r) → As q D q₂ (or e q₂ r)
+  pub loses : (or : ℕ → List Error → List ℕ → Res B) {e : ℕ} {q₂ : List Error} {r : List ℕ} → As q D q₁ (either q₁ d go or) → As q₁ d q₂ (fail e q₂ r) → As q D q₂ (or e q₂ r)
   loses or a b = record { is = a .is ∙ either-lost go or q₁ d (b .is) }
 
-  pub halts : (or : ℕ → List ℕ → List ℕ → Res B) {n : ℕ} → As q D q₁ (either q₁ d go or) → As q₁ d [] (stop n) → As q D [] (stop n)
+  pub halts : (or : ℕ → List Error → List ℕ → Res B) {n : ℕ} → As q D q₁ (either q₁ d go or) → As q₁ d [] (stop n) → As q D [] (stop n)
   halts or a b = record { is = a .is ∙ either-halt go or q₁ d (b .is) }
 
 -- from what a call answered
@@ -153,14 +154,14 @@ module _ {A : Type 0} {words : A → List ℕ} {d : Res A} {T : List ℕ} {pos l
       to (Fail e p w) f = f
       to (Stop n) f = f
 
-module _ {A B : Type 0} {words : A → List ℕ} {D : Res B} {d : Res A} {T : List ℕ} {pos least at w₀ : ℕ} {S Q : List ℕ} {pos₁ least₁ slack₁ at₁ w₁ : ℕ} {S₁ Q₁ S′ Q′ : List ℕ} (go : A → List ℕ → List ℕ → Res B) (or : ℕ → List ℕ → List ℕ → Res B) where
-  stops-as : As (take w₀ Q) D (take w₁ Q₁) (either (take w₁ Q₁) d go or) → (r : Step) → OneOf (2 ∷ []) (tagOf the-type r) → Agrees words d T pos₁ least₁ slack₁ at₁ w₁ S₁ Q₁ S′ Q′ r → Failed D T pos least at w₀ S Q S′ Q′ r
+module _ {A B : Type 0} {words : A → List ℕ} {D : Res B} {d : Res A} {T : List ℕ} {pos least at w₀ : ℕ} {S Q : List ℕ} {pos₁ least₁ slack₁ at₁ w₁ : ℕ} {S₁ Q₁ S′ Q′ : List ℕ} (go : A → List Error → List ℕ → Res B) (or : ℕ → List Error → List ℕ → Res B) where
+  stops-as : As (waiting-errors w₀ Q) D (waiting-errors w₁ Q₁) (either (waiting-errors w₁ Q₁) d go or) → (r : Step) → OneOf (2 ∷ []) (tagOf the-type r) → Agrees words d T pos₁ least₁ slack₁ at₁ w₁ S₁ Q₁ S′ Q′ r → Failed D T pos least at w₀ S Q S′ Q′ r
   stops-as a (Done p b w) o h = absurd (omega arith)
   stops-as a (Fail e p w) o h = absurd (omega arith)
   stops-as a (Stop n) o h = record { how = halts go or a (h .how .how) }
 
   -- D goes on from d, by `go` or `or`, and d stopped
-  pub stops : {r : Step} → As (take w₀ Q) D (take w₁ Q₁) (either (take w₁ Q₁) d go or) → OneOf (2 ∷ []) (tagOf the-type r) → Agrees words d T pos₁ least₁ slack₁ at₁ w₁ S₁ Q₁ S′ Q′ r → Failed D T pos least at w₀ S Q S′ Q′ r
+  pub stops : {r : Step} → As (waiting-errors w₀ Q) D (waiting-errors w₁ Q₁) (either (waiting-errors w₁ Q₁) d go or) → OneOf (2 ∷ []) (tagOf the-type r) → Agrees words d T pos₁ least₁ slack₁ at₁ w₁ S₁ Q₁ S′ Q′ r → Failed D T pos least at w₀ S Q S′ Q′ r
   stops {r = r} a o h = stops-as a r o h
 
 -- what has no store fails with any
@@ -190,7 +191,7 @@ pub shorter : (S S₁ : List ℕ) (at at₁ : ℕ) → at ≤ at₁ → take at�
 shorter S S₁ at at₁ h e = sym (take-take at at₁ S h) ∙ ap (take at) e ∙ take-take at at₁ S₁ h
 
 module _ {B : Type 0} {D : Res B} {T : List ℕ} {pos least at w₀ : ℕ} {S Q : List ℕ} {pos₁ least₁ at₁ w₁ : ℕ} {S₁ Q₁ S′ Q′ : List ℕ} where
-  onto-as : {d : Res B} → As (take w₀ Q) D (take w₁ Q₁) d → take at S₁ ≡ take at S → Later pos least at w₀ pos₁ least₁ at₁ w₁ → (r : Step) → Failed d T pos₁ least₁ at₁ w₁ S₁ Q₁ S′ Q′ r → Failed D T pos least at w₀ S Q S′ Q′ r
+  onto-as : {d : Res B} → As (waiting-errors w₀ Q) D (waiting-errors w₁ Q₁) d → take at S₁ ≡ take at S → Later pos least at w₀ pos₁ least₁ at₁ w₁ → (r : Step) → Failed d T pos₁ least₁ at₁ w₁ S₁ Q₁ S′ Q′ r → Failed D T pos least at w₀ S Q S′ Q′ r
   onto-as a x l (Done p b w) f = record { how = f .how }
   onto-as a x l (Fail e p w) f =
       let g = f .how in
@@ -199,24 +200,24 @@ module _ {B : Type 0} {D : Res B} {T : List ℕ} {pos least at w₀ : ℕ} {S Q 
       record { how = record { same = link a (g .same); moved = omega arith; far = omega arith; text = shorter S′ S₁ at at₁ (l .at-le) (g .text) ∙ x } }
   onto-as a x l (Stop n) f = record { how = link a (f .how) }
 
-  pub onto : {d : Res B} {r : Step} → As (take w₀ Q) D (take w₁ Q₁) d → Failed d T pos₁ least₁ at₁ w₁ S₁ Q₁ S′ Q′ r → take at S₁ ≡ take at S → Later pos least at w₀ pos₁ least₁ at₁ w₁ → Failed D T pos least at w₀ S Q S′ Q′ r
+  pub onto : {d : Res B} {r : Step} → As (waiting-errors w₀ Q) D (waiting-errors w₁ Q₁) d → Failed d T pos₁ least₁ at₁ w₁ S₁ Q₁ S′ Q′ r → take at S₁ ≡ take at S → Later pos least at w₀ pos₁ least₁ at₁ w₁ → Failed D T pos least at w₀ S Q S′ Q′ r
   onto {r = r} a f x l = onto-as a x l r f
 
-then-failed : {A B : Type 0} {d : Res A} (k : A → List ℕ → List ℕ → Res B) {T : List ℕ} {pos least at w₀ : ℕ} {S Q S′ Q′ : List ℕ} (r : Step) → Failed d T pos least at w₀ S Q S′ Q′ r → FailedAs (then (take w₀ Q) d k) T pos least at w₀ S Q S′ Q′ r
+then-failed : {A B : Type 0} {d : Res A} (k : A → List Error → List ℕ → Res B) {T : List ℕ} {pos least at w₀ : ℕ} {S Q S′ Q′ : List ℕ} (r : Step) → Failed d T pos least at w₀ S Q S′ Q′ r → FailedAs (then (waiting-errors w₀ Q) d k) T pos least at w₀ S Q S′ Q′ r
 then-failed k (Done p a w) h = h .how
 then-failed {d = d} k {w₀ = w₀} {Q = Q} (Fail e p w) h =
     let g = h .how in
-    record { same = record { is = then-lost k (take w₀ Q) d (g .same .is) }; moved = g .moved; far = g .far; text = g .text }
-then-failed {d = d} k {w₀ = w₀} {Q = Q} (Stop n) h = record { is = then-halt k (take w₀ Q) d (h .how .is) }
+    record { same = record { is = then-lost k (waiting-errors w₀ Q) d (g .same .is) }; moved = g .moved; far = g .far; text = g .text }
+then-failed {d = d} k {w₀ = w₀} {Q = Q} (Stop n) h = record { is = then-halt k (waiting-errors w₀ Q) d (h .how .is) }
 
 module _ {A B : Type 0} {D : Res B} {d : Res A} {T : List ℕ} {pos least at w₀ : ℕ} {S Q : List ℕ} {pos₁ least₁ at₁ w₁ : ℕ} {S₁ Q₁ S′ Q′ : List ℕ} {r : Step} where
   -- D goes on from d, which failed
-  pub fails : (k : A → List ℕ → List ℕ → Res B) → As (take w₀ Q) D (take w₁ Q₁) (then (take w₁ Q₁) d k) → Failed d T pos₁ least₁ at₁ w₁ S₁ Q₁ S′ Q′ r → take at S₁ ≡ take at S → Later pos least at w₀ pos₁ least₁ at₁ w₁ → Failed D T pos least at w₀ S Q S′ Q′ r
+  pub fails : (k : A → List Error → List ℕ → Res B) → As (waiting-errors w₀ Q) D (waiting-errors w₁ Q₁) (then (waiting-errors w₁ Q₁) d k) → Failed d T pos₁ least₁ at₁ w₁ S₁ Q₁ S′ Q′ r → take at S₁ ≡ take at S → Later pos least at w₀ pos₁ least₁ at₁ w₁ → Failed D T pos least at w₀ S Q S′ Q′ r
   fails k a f x l = onto a (record { how = then-failed k r f }) x l
 
 -- a reader that looks first
-pub record Looks {B : Type 0} (q ts : List ℕ) (d : Res B) : Type 0 where
-  pub go : Token → List ℕ → List ℕ → Res B
+pub record Looks {B : Type 0} (q : List Error) (ts : List ℕ) (d : Res B) : Type 0 where
+  pub go : Token → List Error → List ℕ → Res B
   pub is : d ≡ then q (look q ts) go
 
 -- WITHOUT QUEUE
@@ -225,10 +226,10 @@ pub record Beyond (pos least w₀ p least₁ w z : ℕ) : Type 0 where
   pub pos-le : pos ≤ p
   pub least-le : least ≤ least₁
   pub w-le : w₀ ≤ w
-  pub few : w ≤ 96
-  pub whole : z ≡ 96
+  pub few : w ≤ queue-limit
+  pub whole : z ≡ queue-limit
 
-unread-failed : {A : Type 0} {d : List ℕ → Res A} {T : List ℕ} {p least at w : ℕ} {S′ Q′ : List ℕ} → w ≤ 96 → length Q′ ≡ 96 → (r : Step) → Unread d T p least w r → Failed (d (take w Q′)) T p least at w S′ Q′ S′ Q′ r
+unread-failed : {A : Type 0} {d : List Error → Res A} {T : List ℕ} {p least at w : ℕ} {S′ Q′ : List ℕ} → w ≤ queue-limit → length Q′ ≡ queue-limit → (r : Step) → Unread d T p least w r → Failed (d (waiting-errors w Q′)) T p least at w S′ Q′ S′ Q′ r
 unread-failed few whole (Done p′ a w′) s = record { how = s .how }
 unread-failed {w = w} {Q′ = Q′} few whole (Fail e p′ w′) s =
     let m = s .how in
@@ -236,17 +237,17 @@ unread-failed {w = w} {Q′ = Q′} few whole (Fail e p′ w′) s =
     let on = m .on in
     let within = m .within in
     let far = m .far in
-    record { how = record { same = record { is = ap (out (take w Q′)) (m .same (take w Q′)) ∙ rw (m .waits) }; moved = omega arith; far = omega arith; text = refl } }
-unread-failed {w = w} {Q′ = Q′} few whole (Stop n) s = record { how = record { is = ap (out (take w Q′)) (s .how (take w Q′)) } }
+    record { how = record { same = record { is = ap (out (waiting-errors w Q′)) (m .same (waiting-errors w Q′)) ∙ rw (m .waits) }; moved = omega arith; far = omega arith; text = refl } }
+unread-failed {w = w} {Q′ = Q′} few whole (Stop n) s = record { how = record { is = ap (out (waiting-errors w Q′)) (s .how (waiting-errors w Q′)) } }
 
-module _ {A B : Type 0} {D : Res B} {d : List ℕ → Res A} {T : List ℕ} {pos least at w₀ : ℕ} {S Q : List ℕ} {p least₁ w : ℕ} {S′ Q′ : List ℕ} {r : Step} where
+module _ {A B : Type 0} {D : Res B} {d : List Error → Res A} {T : List ℕ} {pos least at w₀ : ℕ} {S Q : List ℕ} {p least₁ w : ℕ} {S′ Q′ : List ℕ} {r : Step} where
   -- D goes on from d by k, and d failed
-  pub lacks : (k : A → List ℕ → List ℕ → Res B) → Unread d T p least₁ w r → As (take w₀ Q) D (take w Q′) (then (take w Q′) (d (take w Q′)) k) → take at S′ ≡ take at S
+  pub lacks : (k : A → List Error → List ℕ → Res B) → Unread d T p least₁ w r → As (waiting-errors w₀ Q) D (waiting-errors w Q′) (then (waiting-errors w Q′) (d (waiting-errors w Q′)) k) → take at S′ ≡ take at S
       → Beyond pos least w₀ p least₁ w (length Q′) → Failed D T pos least at w₀ S Q S′ Q′ r
   lacks k u a x b = fails k a (unread-failed {at = at} (b .few) (b .whole) r u) x (omega arith)
 
 -- D is at last d, and d failed
-pub lacking : {B : Type 0} {D : Res B} {d : List ℕ → Res B} {T : List ℕ} {pos least at w₀ : ℕ} {S Q : List ℕ} {p least₁ w : ℕ} {S′ Q′ : List ℕ} {r : Step} → Unread d T p least₁ w r → As (take w₀ Q) D (take w Q′) (d (take w Q′)) → take at S′ ≡ take at S
+pub lacking : {B : Type 0} {D : Res B} {d : List Error → Res B} {T : List ℕ} {pos least at w₀ : ℕ} {S Q : List ℕ} {p least₁ w : ℕ} {S′ Q′ : List ℕ} {r : Step} → Unread d T p least₁ w r → As (waiting-errors w₀ Q) D (waiting-errors w Q′) (d (waiting-errors w Q′)) → take at S′ ≡ take at S
     → Beyond pos least w₀ p least₁ w (length Q′) → Failed D T pos least at w₀ S Q S′ Q′ r
 lacking {at = at} {r = r} u a x b = onto a (unread-failed {at = at} (b .few) (b .whole) r u) x (omega arith)
 
@@ -259,12 +260,12 @@ unseen-as (Stop n) s = record { how = s .how }
 pub not-seen : {T : List ℕ} {p w : ℕ} {r : Step} → Saw T p w (Not r) → Unread (λ q. look q (drop p T)) T p (p + 2) w r
 not-seen {r = r} s = unseen-as r s
 
-pub blind : {B : Type 0} {D d : Res B} {T : List ℕ} {pos least at w₀ : ℕ} {S Q : List ℕ} {p w : ℕ} {S′ Q′ : List ℕ} {r : Step} → As (take w₀ Q) D (take w Q′) d → Looks (take w Q′) (drop p T) d → Saw T p w (Not r) → take at S′ ≡ take at S
+pub blind : {B : Type 0} {D d : Res B} {T : List ℕ} {pos least at w₀ : ℕ} {S Q : List ℕ} {p w : ℕ} {S′ Q′ : List ℕ} {r : Step} → As (waiting-errors w₀ Q) D (waiting-errors w Q′) d → Looks (waiting-errors w Q′) (drop p T) d → Saw T p w (Not r) → take at S′ ≡ take at S
     → Beyond pos least w₀ p (p + 2) w (length Q′) → Failed D T pos least at w₀ S Q S′ Q′ r
 blind {at = at} {r = r} a l f x b = lacks (l .go) (not-seen f) (link a (way _ (l .is))) x b
 
 -- what a function that reads tokens only answers
-module _ {A : Type 0} {d : List ℕ → Res A} {T : List ℕ} {pos least at w₀ : ℕ} where
+module _ {A : Type 0} {d : List Error → Res A} {T : List ℕ} {pos least at w₀ : ℕ} where
   pub passed : {p a w : ℕ} {r : Step} → r ≡ Done p a w → Reads d T pos least at w₀ r → Passed d T least at w₀ p a w
   passed e h = rw e at (h .how)
 
@@ -276,7 +277,7 @@ module _ {A : Type 0} {d : List ℕ → Res A} {T : List ℕ} {pos least at w₀
   pub unpassed : {r : Step} → OneOf (1 ∷ 2 ∷ []) (tagOf the-type r) → Reads d T pos least at w₀ r → Unread d T pos least w₀ r
   unpassed {r = r} o h = not-passed r o h
 
-module _ {A : Type 0} {number : A → ℕ} {d : List ℕ → Res A} {T : List ℕ} {pos least far bound w₀ : ℕ} {s : Found} where
+module _ {A : Type 0} {number : A → ℕ} {d : List Error → Res A} {T : List ℕ} {pos least far bound w₀ : ℕ} {s : Found} where
   pub found : {p v : ℕ} → s ≡ At p v → Finds number d T pos least far bound w₀ s → Number-at number d T least bound p v
   found e h = rw e at (h .how)
 
@@ -284,17 +285,17 @@ module _ {A : Type 0} {number : A → ℕ} {d : List ℕ → Res A} {T : List �
   unfound e h = rw e at (h .how)
 
 -- what was got, as D goes on from it by k
-pub gets : {A B : Type 0} {D : Res B} {d : List ℕ → Res A} {T : List ℕ} {least p : ℕ} {q q₁ : List ℕ} (k : A → List ℕ → List ℕ → Res B) (g : Got d T least p) → As q D q₁ (then q₁ (d q₁) k) → As q D q₁ (k (g .what) q₁ (drop p T))
+pub gets : {A B : Type 0} {D : Res B} {d : List Error → Res A} {T : List ℕ} {least p : ℕ} {q q₁ : List Error} (k : A → List Error → List ℕ → Res B) (g : Got d T least p) → As q D q₁ (then q₁ (d q₁) k) → As q D q₁ (k (g .what) q₁ (drop p T))
 gets k g a = goes k a (way _ (g .same _))
 
 -- a look that stopped, where an error is no end
-stop-only : {B : Type 0} {D d : Res B} {T : List ℕ} {pos least at w₀ : ℕ} {S Q : List ℕ} {p w : ℕ} {S′ Q′ : List ℕ} → As (take w₀ Q) D (take w Q′) d → ((n : ℕ) → ((q : List ℕ) → look q (drop p T) ≡ stop n) → d ≡ stop n)
+stop-only : {B : Type 0} {D d : Res B} {T : List ℕ} {pos least at w₀ : ℕ} {S Q : List ℕ} {p w : ℕ} {S′ Q′ : List ℕ} → As (waiting-errors w₀ Q) D (waiting-errors w Q′) d → ((n : ℕ) → ((q : List Error) → look q (drop p T) ≡ stop n) → d ≡ stop n)
     → (r : Step) → OneOf (0 ∷ 2 ∷ []) (tagOf the-type r) → Saw T p w (Not r) → Failed D T pos least at w₀ S Q S′ Q′ r
 stop-only a h (Done p′ b w′) o s = record { how = s .how }
 stop-only a h (Fail e p′ w′) o s = absurd (⊎-elim (λ e. omega arith) (λ e. omega arith) o)
 stop-only a h (Stop n) o s = record { how = link a (record { is = ap (out _) (h n (s .how)) }) }
 
-pub blinded : {B : Type 0} {D d : Res B} {T : List ℕ} {pos least at w₀ : ℕ} {S Q : List ℕ} {p w : ℕ} {S′ Q′ : List ℕ} {r : Step} → OneOf (0 ∷ 2 ∷ []) (tagOf the-type r) → Saw T p w (Not r) → As (take w₀ Q) D (take w Q′) d → ((n : ℕ) → ((q : List ℕ) → look q (drop p T) ≡ stop n) → d ≡ stop n)
+pub blinded : {B : Type 0} {D d : Res B} {T : List ℕ} {pos least at w₀ : ℕ} {S Q : List ℕ} {p w : ℕ} {S′ Q′ : List ℕ} {r : Step} → OneOf (0 ∷ 2 ∷ []) (tagOf the-type r) → Saw T p w (Not r) → As (waiting-errors w₀ Q) D (waiting-errors w Q′) d → ((n : ℕ) → ((q : List Error) → look q (drop p T) ≡ stop n) → d ≡ stop n)
     → Failed D T pos least at w₀ S Q S′ Q′ r
 blinded {r = r} o s a h = stop-only a h r o s
 
@@ -316,7 +317,7 @@ prefix-of S S′ X at a e up h =
     let le′ : at ≤ length (take at S) = omega arith in
     sym (take-take at a S′ up) ∙ ap (take at) e ∙ take-append-le at (take at S) X le′ ∙ take-take at at S (omega arith)
 
-module _ {A C : Type 0} {words : A → List ℕ} {d : Res C} {k : A → List ℕ → List ℕ → Res C} {T : List ℕ} {pos least slack at w₀ : ℕ} {S Q : List ℕ} {p a w : ℕ} {S′ Q′ : List ℕ} (g : Wrote words d k T pos least slack at w₀ S Q p a w S′ Q′) where
+module _ {A C : Type 0} {words : A → List ℕ} {d : Res C} {k : A → List Error → List ℕ → Res C} {T : List ℕ} {pos least slack at w₀ : ℕ} {S Q : List ℕ} {p a w : ℕ} {S′ Q′ : List ℕ} (g : Wrote words d k T pos least slack at w₀ S Q p a w S′ Q′) where
   pub prefix : at ≤ length S → take at S′ ≡ take at S
   prefix h = prefix-of S S′ (words (g .what)) at a (g .text) (g .room .up) h
 
@@ -324,13 +325,13 @@ module _ {A C : Type 0} {words : A → List ℕ} {d : Res C} {k : A → List ℕ
   rebased h = rw (prefix h) (g .text)
 
   -- the same text under another name
-  abbrev pub relabel : {B E : Type 0} {words′ : B → List ℕ} {D : Res E} {K : B → List ℕ → List ℕ → Res E} {pos′ least′ slack′ w₁ : ℕ} {Q₁ : List ℕ} {p′ w′ : ℕ} {Q″ : List ℕ} → (x : B) → words′ x ≡ words (g .what) → As (take w₁ Q₁) D (take w′ Q″) (K x (take w′ Q″) (drop p′ T))
+  abbrev pub relabel : {B E : Type 0} {words′ : B → List ℕ} {D : Res E} {K : B → List Error → List ℕ → Res E} {pos′ least′ slack′ w₁ : ℕ} {Q₁ : List ℕ} {p′ w′ : ℕ} {Q″ : List ℕ} → (x : B) → words′ x ≡ words (g .what) → As (waiting-errors w₁ Q₁) D (waiting-errors w′ Q″) (K x (waiting-errors w′ Q″) (drop p′ T))
       → Moved (length T) least′ w₁ p′ w′ (length Q″) → Room pos′ at slack′ p′ a → Wrote words′ D K T pos′ least′ slack′ at w₁ S Q₁ p′ a w′ S′ Q″
   relabel x e same moved room = record { what = x; same = same; moved = moved; room = room; text = g .text ∙ rw e }
 
 -- what a loop did, told from where the function began: D is, where the loop began, D₁
-module _ {B : Type 0} {D D₁ : Res B} {T : List ℕ} {pos at w₀ : ℕ} {S Q : List ℕ} {w₁ : ℕ} {S₁ Q₁ : List ℕ} (l : As (take w₀ Q) D (take w₁ Q₁) D₁) (x : take at S₁ ≡ take at S) (more : w₀ ≤ w₁) where
-  abbrev pub home : {A : Type 0} {words : A → List ℕ} {K : A → List ℕ → List ℕ → Res B} {least slack p a w : ℕ} {S′ Q′ : List ℕ} → Wrote words D₁ K T pos least slack at w₁ S₁ Q₁ p a w S′ Q′ → Wrote words D K T pos least slack at w₀ S Q p a w S′ Q′
+module _ {B : Type 0} {D D₁ : Res B} {T : List ℕ} {pos at w₀ : ℕ} {S Q : List ℕ} {w₁ : ℕ} {S₁ Q₁ : List ℕ} (l : As (waiting-errors w₀ Q) D (waiting-errors w₁ Q₁) D₁) (x : take at S₁ ≡ take at S) (more : w₀ ≤ w₁) where
+  abbrev pub home : {A : Type 0} {words : A → List ℕ} {K : A → List Error → List ℕ → Res B} {least slack p a w : ℕ} {S′ Q′ : List ℕ} → Wrote words D₁ K T pos least slack at w₁ S₁ Q₁ p a w S′ Q′ → Wrote words D K T pos least slack at w₀ S Q p a w S′ Q′
   home g =
       let m = g .moved in
       record { what = g .what; same = link l (g .same); moved = omega arith; room = g .room; text = rw (← x) (g .text) }
@@ -348,18 +349,18 @@ later {words = words} {D = D} {d = d} {T = T} {pos = pos} {least = least} {slack
     to (Fail x p w) f = onto (way _ e) (f .how) refl (omega arith)
     to (Stop n) f = record { how = link (way _ e) (f .how .how) }
 
-pub halted-as : {A : Type 0} {words : A → List ℕ} {d : Res A} {T : List ℕ} {pos least slack at w₀ n : ℕ} {S Q S′ Q′ : List ℕ} {r : Step} → r ≡ Stop n → Agrees words d T pos least slack at w₀ S Q S′ Q′ r → As (take w₀ Q) d [] (stop n)
+pub halted-as : {A : Type 0} {words : A → List ℕ} {d : Res A} {T : List ℕ} {pos least slack at w₀ n : ℕ} {S Q S′ Q′ : List ℕ} {r : Step} → r ≡ Stop n → Agrees words d T pos least slack at w₀ S Q S′ Q′ r → As (waiting-errors w₀ Q) d [] (stop n)
 halted-as e h = (rw e at (h .how)) .how
 
 -- where every success becomes the error f, the base does not matter
-lose-out : {A B : Type 0} (q q′ q₂ : List ℕ) (f : ℕ) (d : Res A) → out {A = B} q (then q₂ d (λ u q₃ r. fail f q₃ r)) ≡ out q′ (then q₂ d (λ u q₃ r. fail f q₃ r))
+lose-out : {A B : Type 0} (q q′ q₂ : List Error) (f : ℕ) (d : Res A) → out {A = B} q (then q₂ d (λ u q₃ r. fail f q₃ r)) ≡ out q′ (then q₂ d (λ u q₃ r. fail f q₃ r))
 unfolding then spoil
 lose-out q q′ q₂ f (ok a r) = refl
 lose-out q q′ q₂ f (bad a q₁ r) = refl
 lose-out q q′ q₂ f (fail e q₁ r) = refl
 lose-out q q′ q₂ f (stop n) = refl
 
-pub lose-as : {A B : Type 0} (q q′ q₂ : List ℕ) (f : ℕ) (d : Res A) → As {A = B} q (then q₂ d (λ u q₃ r. fail f q₃ r)) q′ (then q₂ d (λ u q₃ r. fail f q₃ r))
+pub lose-as : {A B : Type 0} (q q′ q₂ : List Error) (f : ℕ) (d : Res A) → As {A = B} q (then q₂ d (λ u q₃ r. fail f q₃ r)) q′ (then q₂ d (λ u q₃ r. fail f q₃ r))
 lose-as q q′ q₂ f d = record { is = lose-out q q′ q₂ f d }
 
 -- where a last call starts that goes on with what was written
@@ -371,9 +372,9 @@ pub record Onward (pos least slack at w₀ pos₁ least₁ slack₁ at₁ w₁ :
   pub slack-le : at₁ + 8 * pos + slack ≤ at + 8 * pos₁ + slack₁
 
 -- a last call whose words stand behind those that g wrote: together they are those of mk x
-module _ {A B C E : Type 0} {words₁ : C → List ℕ} {words₂ : A → List ℕ} {words : B → List ℕ} {d : Res E} {k : C → List ℕ → List ℕ → Res E} {D : Res B} {d₂ : Res A} {T : List ℕ} {pos′ least′ slack′ at w₀ : ℕ} {S Q : List ℕ} {p a w : ℕ} {S′ Q′ : List ℕ}
+module _ {A B C E : Type 0} {words₁ : C → List ℕ} {words₂ : A → List ℕ} {words : B → List ℕ} {d : Res E} {k : C → List Error → List ℕ → Res E} {D : Res B} {d₂ : Res A} {T : List ℕ} {pos′ least′ slack′ at w₀ : ℕ} {S Q : List ℕ} {p a w : ℕ} {S′ Q′ : List ℕ}
     {pos least slack pos₁ least₁ slack₁ : ℕ} {S₂ Q₂ : List ℕ} (g : Wrote words₁ d k T pos′ least′ slack′ at w₀ S Q p a w S′ Q′) (h : at ≤ length S) (mk : A → B) (text : (x : A) → words (mk x) ≡ words₁ (g .what) ++ words₂ x) where
-  continued-as : As (take w₀ Q) D (take w Q′) (then (take w Q′) d₂ (λ x q r. ok (mk x) r)) → Onward pos least slack at w₀ pos₁ least₁ slack₁ a w → (r : Step) → Agrees words₂ d₂ T pos₁ least₁ slack₁ a w S′ Q′ S₂ Q₂ r → Agrees words D T pos least slack at w₀ S Q S₂ Q₂ r
+  continued-as : As (waiting-errors w₀ Q) D (waiting-errors w Q′) (then (waiting-errors w Q′) d₂ (λ x q r. ok (mk x) r)) → Onward pos least slack at w₀ pos₁ least₁ slack₁ a w → (r : Step) → Agrees words₂ d₂ T pos₁ least₁ slack₁ a w S′ Q′ S₂ Q₂ r → Agrees words D T pos least slack at w₀ S Q S₂ Q₂ r
   continued-as s o (Done p₁ a₁ w₁) f =
       let u = f .how in
       let m = u .moved in
@@ -382,5 +383,5 @@ module _ {A B C E : Type 0} {words₁ : C → List ℕ} {words₂ : A → List �
   continued-as s o (Fail e p₁ w₁) f = record { how = fails _ s (f .how) (prefix g h) (omega arith) }
   continued-as s o (Stop n) f = record { how = fails _ s (f .how) (prefix g h) (omega arith) }
 
-  pub continued : {r : Step} → As (take w₀ Q) D (take w Q′) (then (take w Q′) d₂ (λ x q r. ok (mk x) r)) → Agrees words₂ d₂ T pos₁ least₁ slack₁ a w S′ Q′ S₂ Q₂ r → Onward pos least slack at w₀ pos₁ least₁ slack₁ a w → Agrees words D T pos least slack at w₀ S Q S₂ Q₂ r
+  pub continued : {r : Step} → As (waiting-errors w₀ Q) D (waiting-errors w Q′) (then (waiting-errors w Q′) d₂ (λ x q r. ok (mk x) r)) → Agrees words₂ d₂ T pos₁ least₁ slack₁ a w S′ Q′ S₂ Q₂ r → Onward pos least slack at w₀ pos₁ least₁ slack₁ a w → Agrees words D T pos least slack at w₀ S Q S₂ Q₂ r
   continued {r = r} s f o = continued-as s o r f

@@ -9,14 +9,14 @@ use lib.Dec.{eqb}
 use lib.ListN.{drop}
 use Rattle.token.specs.Kind
 use Rattle.token.specs.Look.{value-fits}
-use Rattle.grammar.specs.Reading.Result.{Res, ok, fail, then, ifb}
+use Rattle.grammar.specs.Reading.Result.{Res, ok, fail, then, ifb, Error}
 use Rattle.grammar.specs.Reading.Look.{look, expect, try-label, keyword, try-assign-keyword}
 use Rattle.scan.specs.Post.{Unread, Taken, Reads}
 use Rattle.scan.specs.declared.Step.{Step}
 use Rattle.scan.specs.declared.Step.the-variants.{Done, Fail, Stop}
 
 -- a reading that goes on from one that failed
-through-as : {A B : Type 0} {d : List ℕ → Res A} {D : List ℕ → Res B} (k : List ℕ → A → List ℕ → List ℕ → Res B) {T : List ℕ} {pos least w : ℕ} → ((q : List ℕ) → D q ≡ then q (d q) (k q)) → (r : Step) → Unread d T pos least w r → Unread D T pos least w r
+through-as : {A B : Type 0} {d : List Error → Res A} {D : List Error → Res B} (k : List ℕ → A → List Error → List ℕ → Res B) {T : List ℕ} {pos least w : ℕ} → ((q : List Error) → D q ≡ then q (d q) (k q)) → (r : Step) → Unread d T pos least w r → Unread D T pos least w r
 unfolding then
 through-as k e (Done p a w′) u = record { how = u .how }
 through-as k e (Fail n p w′) u =
@@ -24,11 +24,11 @@ through-as k e (Fail n p w′) u =
     record { how = record { same = λ q. e q ∙ rw (l .same q); waits = l .waits; on = l .on; within = l .within; far = l .far } }
 through-as k e (Stop n) u = record { how = λ q. e q ∙ rw (u .how q) }
 
-pub through : {A B : Type 0} {d : List ℕ → Res A} {D : List ℕ → Res B} (k : List ℕ → A → List ℕ → List ℕ → Res B) {T : List ℕ} {pos least w : ℕ} {r : Step} → ((q : List ℕ) → D q ≡ then q (d q) (k q)) → Unread d T pos least w r → Unread D T pos least w r
+pub through : {A B : Type 0} {d : List Error → Res A} {D : List Error → Res B} (k : List ℕ → A → List Error → List ℕ → Res B) {T : List ℕ} {pos least w : ℕ} {r : Step} → ((q : List Error) → D q ≡ then q (d q) (k q)) → Unread d T pos least w r → Unread D T pos least w r
 through k {r = r} e u = through-as k e r u
 
 -- what a function that reads tokens only answers
-pub unread : {A : Type 0} {d : List ℕ → Res A} {T : List ℕ} {pos least at w : ℕ} {r : Step} → Unread d T pos least w r → Reads d T pos least at w r
+pub unread : {A : Type 0} {d : List Error → Res A} {T : List ℕ} {pos least at w : ℕ} {r : Step} → Unread d T pos least w r → Reads d T pos least at w r
 unread {d = d} {T = T} {pos = pos} {least = least} {at = at} {w = w} {r = r} u = to r u
   where
     to : (r : Step) → Unread d T pos least w r → Reads d T pos least at w r
@@ -43,7 +43,7 @@ name-small {k} {v} f e = ltb-true v 4294967296 (sym (ap (λ (i : ℕ). value-fit
 pub label-small : {k v : ℕ} → value-fits k v ≡ true → k ≡ Kind.Label → v < 4294967296
 label-small {k} {v} f e = ltb-true v 4294967296 (sym (ap (λ (i : ℕ). value-fits i v) e) ∙ f)
 
-module _ {T : List ℕ} {pos k n v : ℕ} (at : Taken T pos k n v) (q : List ℕ) where
+module _ {T : List ℕ} {pos k n v : ℕ} (at : Taken T pos k n v) (q : List Error) where
   pub expect-is : (j e : ℕ) → k ≡ j → expect j e q (drop pos T) ≡ ok (record { kind = k; newline = n; value = v }) (drop (pos + 2) T)
   unfolding expect then ifb
   expect-is j e h = rw (at .same, eq-eqb _ _ h)
@@ -68,7 +68,7 @@ module _ {T : List ℕ} {pos k n v : ℕ} (at : Taken T pos k n v) (q : List ℕ
   unfolding try-assign-keyword then ifb
   keyword-not h = rw (at .same, eq-eqb _ _ h)
 
-module _ (q ts : List ℕ) where
+module _ (q : List Error) (ts : List ℕ) where
   pub expect-looks : (j e : ℕ) → expect j e q ts ≡ then q (look q ts) (λ tok q₁ rest. ifb (eqb (tok .kind) j) (λ _. ok tok rest) (λ _. fail e q rest))
   unfolding expect
   expect-looks j e = refl

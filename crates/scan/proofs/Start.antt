@@ -12,7 +12,7 @@ use lib.ListN.{length, drop, length-drop}
 use Rattle.token.specs.Kind
 use Rattle.token.specs.declared.Token.{Token}
 use Rattle.grammar.specs.Reading.Number
-use Rattle.grammar.specs.Reading.Result.{Res, ok, fail, stop, spoil, either, ifb}
+use Rattle.grammar.specs.Reading.Result.{Res, ok, fail, stop, spoil, either, ifb, Error}
 use Rattle.grammar.specs.Reading.Look.{look}
 use Rattle.grammar.specs.Reading.Next.{start}
 use Rattle.scan.specs.Post.{Taken, Missed, Saw, Reads}
@@ -27,13 +27,13 @@ left T p fuel h = rw length-drop (omega arith)
 fuel-some : (T : List ℕ) (fuel p : ℕ) → length T ≤ p + fuel → p + 2 ≤ length T → suc (fuel - 1) ≡ fuel
 fuel-some T fuel p enough h = omega arith
 
-abbrev start-go : ℕ → List ℕ → List ℕ → Token → List ℕ → List ℕ → Res (Unit {0})
+abbrev start-go : ℕ → List ℕ → List ℕ → Token → List Error → List ℕ → Res (Unit {0})
 start-go n q ts tok q₁ rest = ifb (eqb (tok .kind) Kind.EOF) (λ _. fail 0 q ts) λ _. ifb (eqb (tok .kind) Kind.Semicolon) (λ _. start n q rest) λ _. ok tt ts
 
-abbrev start-or : List ℕ → List ℕ → ℕ → List ℕ → List ℕ → Res (Unit {0})
+abbrev start-or : List ℕ → List ℕ → ℕ → List Error → List ℕ → Res (Unit {0})
 start-or q ts e q₁ r = ifb (eqb e Number.end-of-tokens) (λ _. fail 0 q ts) (λ _. fail e q r)
 
-module _ (q : List ℕ) where
+module _ (q : List Error) where
   start-suc : (n : ℕ) (ts : List ℕ) → start (suc n) q ts ≡ either q (look q ts) (start-go n q ts) (start-or q ts)
   unfolding start
   start-suc n ts = refl
@@ -57,7 +57,7 @@ module _ (q : List ℕ) where
   start-halts zero (x ∷ ts) h l = absurd (omega arith)
   start-halts (suc n) ts h l = start-suc n ts ∙ rw l
 
-  pub start-stop : (T : List ℕ) (fuel p : ℕ) → length T ≤ p + fuel → (k : ℕ) → ((q : List ℕ) → look q (drop p T) ≡ stop k) → start fuel q (drop p T) ≡ stop k
+  pub start-stop : (T : List ℕ) (fuel p : ℕ) → length T ≤ p + fuel → (k : ℕ) → ((q : List Error) → look q (drop p T) ≡ stop k) → start fuel q (drop p T) ≡ stop k
   start-stop T fuel p enough k l = start-halts fuel (drop p T) (left T p fuel enough) (l q)
 
   module _ {T : List ℕ} (fuel p : ℕ) (enough : length T ≤ p + fuel) where
@@ -89,10 +89,10 @@ module _ (q : List ℕ) where
       start-here e f = start-look ∙ rw (ne-eqb _ _ e, ne-eqb _ _ f)
 
 -- a look that neither took a token nor failed: the reading stops as it does
-stop-reads : {A : Type 0} {d : List ℕ → Res A} {T : List ℕ} {pos least at w₀ p w : ℕ} → ((n : ℕ) → ((q : List ℕ) → look q (drop p T) ≡ stop n) → (q : List ℕ) → d q ≡ stop n) → (r : Step) → OneOf (0 ∷ 2 ∷ []) (tagOf the-type r) → Saw T p w (Not r) → Reads d T pos least at w₀ r
+stop-reads : {A : Type 0} {d : List Error → Res A} {T : List ℕ} {pos least at w₀ p w : ℕ} → ((n : ℕ) → ((q : List Error) → look q (drop p T) ≡ stop n) → (q : List Error) → d q ≡ stop n) → (r : Step) → OneOf (0 ∷ 2 ∷ []) (tagOf the-type r) → Saw T p w (Not r) → Reads d T pos least at w₀ r
 stop-reads h (Done p′ a w′) o s = absurd (s .how)
 stop-reads h (Fail e p′ w′) o s = absurd (⊎-elim (λ e. omega arith) (λ e. omega arith) o)
 stop-reads h (Stop n) o s = record { how = record { how = h n (s .how) } }
 
-pub halted : {A : Type 0} {d : List ℕ → Res A} {T : List ℕ} {pos least at w₀ p w : ℕ} {r : Step} → OneOf (0 ∷ 2 ∷ []) (tagOf the-type r) → Saw T p w (Not r) → ((n : ℕ) → ((q : List ℕ) → look q (drop p T) ≡ stop n) → (q : List ℕ) → d q ≡ stop n) → Reads d T pos least at w₀ r
+pub halted : {A : Type 0} {d : List Error → Res A} {T : List ℕ} {pos least at w₀ p w : ℕ} {r : Step} → OneOf (0 ∷ 2 ∷ []) (tagOf the-type r) → Saw T p w (Not r) → ((n : ℕ) → ((q : List Error) → look q (drop p T) ≡ stop n) → (q : List Error) → d q ≡ stop n) → Reads d T pos least at w₀ r
 halted {r = r} o s h = stop-reads h r o s

@@ -13,15 +13,15 @@ use Rattle.token.specs.Look.{value-fits, token-fits, seen}
 use Rattle.token.specs.declared.Token.{Token}
 use Rattle.token.specs.declared.Seen.the-variants.{Good, LexerError, Nothing, Bad}
 use Rattle.tree.specs.Store.{Emitted}
-use Rattle.grammar.specs.Reading.Limit.{malformed}
+use Rattle.grammar.specs.Reading.Limit.{malformed, queue-limit}
 use Rattle.grammar.specs.Reading.Number
 use Rattle.grammar.specs.Reading.Result.{ok, fail, stop}
 use Rattle.grammar.specs.Reading.Look.{looked, look}
-use Rattle.scan.specs.Post.{Taken, Missed, Popped}
+use Rattle.scan.specs.Post.{Taken, Missed, Popped, waiting-errors}
 
 -- THE QUEUE
 -- one word more at the end of what is taken
-pub pushed : (Q : List ℕ) (w e : ℕ) → w < length Q → take (w + 1) (set Q w e) ≡ take w Q ++ e ∷ []
+pub pushed : (Q : List ℕ) (w e : ℕ) → w < length Q → take (w + 1) (set Q w e) ≡ waiting-errors w Q ++ e ∷ []
 pushed Q w e h = rw add-one (take-suc-set Q w e h)
 
 -- the queue's others move up by one
@@ -42,12 +42,12 @@ pop-next Q Q₀ i h g e =
     let l : suc (i - 1) < length Q₀ = omega arith in
     ap (λ (k : ℕ). set Q (i - 1) (getD Q k 0)) (sym a) ∙ ap (λ (q : List ℕ). set q (i - 1) (getD q (suc (i - 1)) 0)) e ∙ pop-at Q₀ (i - 1) l ∙ ap (λ (k : ℕ). take k (drop 1 Q₀) ++ drop k Q₀) (sym b)
 
-first : (Q : List ℕ) (w : ℕ) → 1 ≤ w → 1 ≤ length Q → take w Q ≡ getD Q 0 0 ∷ take (w - 1) (drop 1 Q)
+first : (Q : List ℕ) (w : ℕ) → 1 ≤ w → 1 ≤ length Q → waiting-errors w Q ≡ getD Q 0 0 ∷ take (w - 1) (drop 1 Q)
 first [] w h g = absurd (omega arith)
 first (x ∷ Q) zero h g = absurd (omega arith)
 first (x ∷ Q) (suc w) h g = rw (sub-one (suc w))
 
-pub popped : (Q Q₀ : List ℕ) (w : ℕ) → 1 ≤ w → w ≤ length Q₀ → Q ≡ take (w - 1) (drop 1 Q₀) ++ drop (w - 1) Q₀ → take w Q₀ ≡ getD Q₀ 0 0 ∷ take (w - 1) Q
+pub popped : (Q Q₀ : List ℕ) (w : ℕ) → 1 ≤ w → w ≤ length Q₀ → Q ≡ take (w - 1) (drop 1 Q₀) ++ drop (w - 1) Q₀ → waiting-errors w Q₀ ≡ getD Q₀ 0 0 ∷ take (w - 1) Q
 popped Q Q₀ w h g e =
     let n : length (take (w - 1) (drop 1 Q₀)) ≡ w - 1 = length-take-le (w - 1) (drop 1 Q₀) (rw length-drop (omega arith)) in
     first Q₀ w h (omega arith) ∙ ap (λ (l : List ℕ). getD Q₀ 0 0 ∷ l) (sym (ap (take (w - 1)) e ∙ take-at (take (w - 1) (drop 1 Q₀)) (drop (w - 1) Q₀) (w - 1) n))
@@ -58,7 +58,7 @@ pop-start Q = refl
 pub popped-length : (Q₀ : List ℕ) (j : ℕ) → suc j ≤ length Q₀ → length (take j (drop 1 Q₀) ++ drop j Q₀) ≡ length Q₀
 popped-length Q₀ j h = rw (length-append, length-take-le j (drop 1 Q₀) (rw length-drop (omega arith)), length-drop) (omega arith)
 
-pub pop-all : (Q Q₀ : List ℕ) (w i : ℕ) → i ≤ w → w ≤ i → 1 ≤ w → w ≤ 96 → length Q₀ ≡ 96 → Q ≡ take (i - 1) (drop 1 Q₀) ++ drop (i - 1) Q₀ → Popped w (getD Q₀ 0 0) Q₀ Q
+pub pop-all : (Q Q₀ : List ℕ) (w i : ℕ) → i ≤ w → w ≤ i → 1 ≤ w → w ≤ queue-limit → length Q₀ ≡ queue-limit → Q ≡ take (i - 1) (drop 1 Q₀) ++ drop (i - 1) Q₀ → Popped w (getD Q₀ 0 0) Q₀ Q
 pop-all Q Q₀ w i h g o f n e =
     let s : i ≡ w = omega arith in
     let x : Q ≡ take (w - 1) (drop 1 Q₀) ++ drop (w - 1) Q₀ = rw s at e in

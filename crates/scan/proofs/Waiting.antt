@@ -6,12 +6,12 @@ use Prim.Native.Nat.{ℕ, _≤_}
 use borrow.Author.Tests.{eq-eqb, ne-eqb}
 use lib.ListN.{length, take}
 use lib.Seq.{length-take-le}
-use Rattle.grammar.specs.Reading.Result.{Res, fail, stop, spoil, ifb, push, pop}
-use Rattle.scan.specs.Post.{As, Failed, Queues}
+use Rattle.grammar.specs.Reading.Result.{Res, fail, stop, spoil, ifb, push, pop, Error}
+use Rattle.scan.specs.Post.{As, Failed, Queues, waiting-errors}
 use Rattle.scan.specs.declared.Step.{Step}
 use Rattle.scan.specs.declared.Step.the-variants.{Done, Fail, Stop}
 use Rattle.scan.proofs.Laws.{way, link, spoiled}
-use Rattle.grammar.specs.Reading.Limit.{queue-full}
+use Rattle.grammar.specs.Reading.Limit.{queue-full, queue-limit}
 
 -- a choice
 pub chosen : {A : Type 0} {b : Bool} (f g : Unit {0} → A) → b ≡ true → ifb b f g ≡ f tt
@@ -23,18 +23,18 @@ unfolding ifb
 other f g e = rw e
 
 -- the queue
-pub push-full : {A : Type 0} (e w : ℕ) (Q : List ℕ) (k : List ℕ → Res A) → w ≡ 96 → w ≤ length Q → push e (take w Q) k ≡ stop queue-full
+pub push-full : {A : Type 0} (e w : ℕ) (Q : List ℕ) (k : List Error → Res A) → w ≡ queue-limit → w ≤ length Q → push e (waiting-errors w Q) k ≡ stop queue-full
 unfolding push ifb
 push-full e w Q k h g = rw (eq-eqb _ _ (length-take-le w Q g ∙ h))
 
-push-room : {A : Type 0} (e w : ℕ) (Q : List ℕ) (k : List ℕ → Res A) → (w ≡ 96 → ⊥) → w ≤ length Q → push e (take w Q) k ≡ spoil (take w Q ++ e ∷ []) (k (take w Q ++ e ∷ []))
+push-room : {A : Type 0} (e w : ℕ) (Q : List ℕ) (k : List Error → Res A) → (w ≡ queue-limit → ⊥) → w ≤ length Q → push e (waiting-errors w Q) k ≡ spoil (take w Q ++ e ∷ []) (k (take w Q ++ e ∷ []))
 unfolding push ifb
 push-room e w Q k h g = rw (ne-eqb _ _ (λ i. h (sym (length-take-le w Q g) ∙ i)))
 
-pub pushes : {A : Type 0} (e w : ℕ) (Q : List ℕ) (k : List ℕ → Res A) {q : List ℕ} → (w ≡ 96 → ⊥) → w ≤ length Q → q ≡ take w Q ++ e ∷ [] → As (take w Q) (push e (take w Q) k) q (k q)
+pub pushes : {A : Type 0} (e w : ℕ) (Q : List ℕ) (k : List Error → Res A) {q : List Error} → (w ≡ queue-limit → ⊥) → w ≤ length Q → q ≡ waiting-errors w Q ++ e ∷ [] → As (waiting-errors w Q) (push e (waiting-errors w Q) k) q (k q)
 pushes e w Q k {q} h g x = rw x (link (way _ (push-room e w Q k h g)) (spoiled _ _))
 
-pub pops : {A : Type 0} (q r : List ℕ) {e : ℕ} {q′ : List ℕ} → q ≡ e ∷ q′ → pop {A = A} q r ≡ fail e q′ r
+pub pops : {A : Type 0} (q : List Error) (r : List ℕ) {e : ℕ} {q′ : List Error} → q ≡ e ∷ q′ → pop {A = A} q r ≡ fail e q′ r
 unfolding pop
 pops q r x = rw x
 

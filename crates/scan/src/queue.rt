@@ -2,9 +2,10 @@
 ghost use mathlib.Core.Path.{_≡_};
 ghost use Prim.Native.Nat.{_≤_, _<_};
 ghost use lib.ListN.{length, take, drop};
+ghost use Rattle.grammar.specs.Reading.Limit.{queue-limit};
 ghost use Rattle.grammar.specs.Reading.Stmt.{control-last as control-last-def, synchronized as synchronized-def};
 ghost use Rattle.grammar.specs.Reading.Next.{is-error as is-error-def, is-stop as is-stop-def, queue-fits as queue-fits-def, pad};
-ghost use Rattle.scan.specs.Post.{Pushed, Popped, Queues, Resumes};
+ghost use Rattle.scan.specs.Post.{Pushed, Popped, Queues, Resumes, waiting-errors};
 ghost use Rattle.scan.specs.Parts.{holds-errors as holds-errors-def};
 use crate::Seen;
 use crate::Step;
@@ -18,7 +19,7 @@ use token::kind;
 
 // An error joins the queue's back, where there is a place.
 pub fn push(queue: &mut Queue, waiting: usize, e: u64) -> usize
-    requires { ⌜ (waiting < 96) × (length (now queue) ≡ 96) ⌝ }
+    requires { ⌜ (waiting < queue-limit) × (length (now queue) ≡ queue-limit) ⌝ }
     ensures { λ r. ⌜ Pushed waiting e r (now (queue .entry)) (now (queue .exit)) ⌝ }
 {
     queue[waiting] = e;
@@ -27,7 +28,7 @@ pub fn push(queue: &mut Queue, waiting: usize, e: u64) -> usize
 
 // The front of the queue; the others move up.
 pub fn pop(queue: &mut Queue, waiting: usize) -> u64
-    requires { ⌜ (1 ≤ waiting) × (waiting ≤ 96) × (length (now queue) ≡ 96) ⌝ }
+    requires { ⌜ (1 ≤ waiting) × (waiting ≤ queue-limit) × (length (now queue) ≡ queue-limit) ⌝ }
     ensures { λ r. ⌜ Popped waiting r (now (queue .entry)) (now (queue .exit)) ⌝ }
 {
     let front = queue[0];
@@ -49,8 +50,8 @@ pub fn control_last(
     at: usize,
     waiting: usize,
 ) -> Step
-    requires { ⌜ (pos ≤ length (now tokens)) × (waiting ≤ 96) × (length (now queue) ≡ 96) ⌝ }
-    ensures { λ r. ⌜ Queues (control-last-def end k (take waiting (now (queue .entry))) (drop pos (now (tokens .entry)))) (now (tokens .entry)) pos at waiting (now (queue .entry)) (now (queue .exit)) r ⌝ }
+    requires { ⌜ (pos ≤ length (now tokens)) × (waiting ≤ queue-limit) × (length (now queue) ≡ queue-limit) ⌝ }
+    ensures { λ r. ⌜ Queues (control-last-def end k (waiting-errors waiting (now (queue .entry))) (drop pos (now (tokens .entry)))) (now (tokens .entry)) pos at waiting (now (queue .entry)) (now (queue .exit)) r ⌝ }
 {
     match look(tokens, pos, waiting) {
         Seen::Token(kind, _, _) => {
@@ -75,8 +76,8 @@ pub fn synchronized(
     at: usize,
     waiting: usize,
 ) -> Step
-    requires { ⌜ (pos ≤ length (now tokens)) × (1 ≤ waiting) × (waiting ≤ 96) × (length (now queue) ≡ 96) ⌝ }
-    ensures { λ r. ⌜ Resumes (synchronized-def (take waiting (now (queue .entry))) (drop pos (now (tokens .entry)))) (now (tokens .entry)) pos at waiting (now (queue .entry)) (now (queue .exit)) r ⌝ }
+    requires { ⌜ (pos ≤ length (now tokens)) × (1 ≤ waiting) × (waiting ≤ queue-limit) × (length (now queue) ≡ queue-limit) ⌝ }
+    ensures { λ r. ⌜ Resumes (synchronized-def (waiting-errors waiting (now (queue .entry))) (drop pos (now (tokens .entry)))) (now (tokens .entry)) pos at waiting (now (queue .entry)) (now (queue .exit)) r ⌝ }
 {
     match look(tokens, pos, waiting) {
         Seen::Token(kind, _, _) => {
@@ -123,7 +124,7 @@ pub fn is_stop(n: u64) -> bool
 
 // Whether the first places hold errors.
 fn holds_errors(queue: Queue, waiting: usize) -> bool
-    requires { ⌜ waiting ≤ 96 ⌝ }
+    requires { ⌜ waiting ≤ queue-limit ⌝ }
     ensures { λ r. ⌜ r ≡ holds-errors-def waiting queue ⌝ }
 {
     let mut i = 0;
@@ -138,11 +139,11 @@ fn holds_errors(queue: Queue, waiting: usize) -> bool
 
 // Whether the places from `from` on hold 0.
 fn holds_zeros(queue: Queue, from: usize) -> bool
-    requires { ⌜ from ≤ 96 ⌝ }
+    requires { ⌜ from ≤ queue-limit ⌝ }
     ensures { λ r. ⌜ r ≡ queue-fits-def 0 (drop from queue) ⌝ }
 {
     let mut i = from;
-    while i < 96 {
+    while i < limit::QUEUE {
         if queue[i] != 0 {
             return false;
         }
@@ -153,7 +154,7 @@ fn holds_zeros(queue: Queue, from: usize) -> bool
 
 // The first places hold errors, the others 0.
 pub fn queue_fits(queue: Queue, waiting: usize) -> bool
-    requires { ⌜ waiting ≤ 96 ⌝ }
+    requires { ⌜ waiting ≤ queue-limit ⌝ }
     ensures { λ r. ⌜ r ≡ queue-fits-def waiting queue ⌝ }
 {
     if !holds_errors(queue, waiting) {
@@ -164,12 +165,12 @@ pub fn queue_fits(queue: Queue, waiting: usize) -> bool
 
 // The queue with 0 behind the errors that wait.
 pub fn wipe(queue: Queue, waiting: usize) -> Queue
-    requires { ⌜ waiting ≤ 96 ⌝ }
+    requires { ⌜ waiting ≤ queue-limit ⌝ }
     ensures { λ r. ⌜ r ≡ pad (take waiting queue) ⌝ }
 {
     let mut q = queue;
     let mut i = waiting;
-    while i < 96 {
+    while i < limit::QUEUE {
         q[i] = 0;
         i += 1;
     }

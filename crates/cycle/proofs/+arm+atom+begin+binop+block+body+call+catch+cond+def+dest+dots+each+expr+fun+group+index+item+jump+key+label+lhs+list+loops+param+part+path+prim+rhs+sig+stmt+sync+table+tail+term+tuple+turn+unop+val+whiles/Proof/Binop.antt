@@ -7,7 +7,7 @@ use native.Mathlib.Omega.{arith}
 use lib.ListN.{length, take, drop, length-drop}
 use Rattle.tree.specs.Tree.{Tree, more, records}
 use Rattle.grammar.specs.Reading.Depth.{at-depth}
-use Rattle.scan.specs.Post.{Wrote}
+use Rattle.scan.specs.Post.{Wrote, waiting-errors}
 use Rattle.scan.proofs.Laws.{way, here, link, goes, done, undone, did-not, taken, not-taken, fails, blind, prefix, rebased, relabel, home, as-agrees, anew}
 use Rattle.nodes.proofs.Made.{made-two}
 use Rattle.cycle.proofs.PathsExpr.{binop-unary, left}
@@ -20,7 +20,7 @@ use Rattle.cycle.proofs.+arm+atom+begin+binop+block+body+call+catch+con
 pub record Going (T S₀ Q₀ : List ℕ) (depth l pos at p₀ a₀ w₀ : ℕ) (S Q : List ℕ) (p a w : ℕ) : Type 0 where
   pub fuel : ℕ
   pub enough : length T ≤ p + fuel
-  pub run : (t₀ : Tree) → take a₀ S₀ ≡ take at S₀ ++ records t₀ → Wrote records (climb (at-depth depth) l (length (drop p₀ T)) t₀ (take w₀ Q₀) (drop p₀ T)) (climb (at-depth depth) l fuel) T pos (pos + 2) 20 at w₀ S₀ Q₀ p a w S Q
+  pub run : (t₀ : Tree) → take a₀ S₀ ≡ take at S₀ ++ records t₀ → Wrote records (climb (at-depth depth) l (length (drop p₀ T)) t₀ (waiting-errors w₀ Q₀) (drop p₀ T)) (climb (at-depth depth) l fuel) T pos (pos + 2) 20 at w₀ S₀ Q₀ p a w S Q
   pub kept : length S ≡ length S₀
 
 abbrev pub Inv-loop : lts.InvT-loop

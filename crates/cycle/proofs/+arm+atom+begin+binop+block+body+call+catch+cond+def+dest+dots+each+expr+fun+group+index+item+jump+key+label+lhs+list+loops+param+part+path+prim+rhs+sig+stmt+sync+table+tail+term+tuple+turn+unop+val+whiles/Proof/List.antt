@@ -8,7 +8,7 @@ use lib.ListN.{length, take, drop, length-drop}
 use Rattle.tree.specs.Tree.{none, snoc, count, records, all-records}
 use Rattle.tree.specs.Node
 use Rattle.grammar.specs.Reading.Depth.{at-depth}
-use Rattle.scan.specs.Post.{Wrote}
+use Rattle.scan.specs.Post.{Wrote, waiting-errors}
 use Rattle.scan.proofs.Laws.{way, link, ends, goes, taken, not-taken, fails, blind, prefix, relabel}
 use Rattle.nodes.proofs.Made.{joined, count-snoc}
 use Rattle.grammar.specs.Reading.Stmt.{stmts}
@@ -22,7 +22,7 @@ use Rattle.cycle.proofs.+arm+atom+begin+binop+block+body+call+catch+con
 pub record Going (T S₀ Q₀ : List ℕ) (depth end pos at waiting : ℕ) (S Q : List ℕ) (p a w n last : ℕ) : Type 0 where
   pub fuel : ℕ
   pub enough : length T ≤ p + fuel
-  pub run : Wrote all-records (at-depth depth .list end (take waiting Q₀) (drop pos T)) (stmts (at-depth (depth - 1)) end fuel) T pos pos 8 at waiting S₀ Q₀ p a w S Q
+  pub run : Wrote all-records (at-depth depth .list end (waiting-errors waiting Q₀) (drop pos T)) (stmts (at-depth (depth - 1)) end fuel) T pos pos 8 at waiting S₀ Q₀ p a w S Q
   pub many : count (run .what) ≡ n
   pub short : 2 * n ≤ p
   pub back : last ≤ a

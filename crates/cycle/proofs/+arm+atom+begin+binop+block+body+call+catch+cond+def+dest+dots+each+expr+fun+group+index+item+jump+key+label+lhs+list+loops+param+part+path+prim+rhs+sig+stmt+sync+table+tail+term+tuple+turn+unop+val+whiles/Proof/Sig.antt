@@ -6,7 +6,7 @@ use borrow.Author.Needs.{needs}
 use native.Mathlib.Omega.{arith}
 use lib.ListN.{length, take, drop, length-drop}
 use Rattle.grammar.specs.Reading.Depth.{at-depth}
-use Rattle.scan.specs.Post.{Wrote}
+use Rattle.scan.specs.Post.{Wrote, waiting-errors}
 use Rattle.scan.proofs.Laws.{way, here, link, did-not, taken, not-taken, blind, prefix}
 use Rattle.nodes.proofs.Made.{joined}
 use Rattle.grammar.specs.Reading.Function.{params, function-param-list}
@@ -20,7 +20,7 @@ use Rattle.cycle.proofs.+arm+atom+begin+binop+block+body+call+catch+con
 pub record Going (T S₀ Q₀ : List ℕ) (depth pos at waiting : ℕ) (S Q : List ℕ) (p a w m n v : ℕ) : Type 0 where
   pub fuel : ℕ
   pub enough : length T ≤ p + fuel
-  pub run : Wrote params-words (function-param-list (at-depth depth) (take waiting Q₀) (drop pos T)) (params (at-depth depth) fuel) T pos pos 8 at waiting S₀ Q₀ p a w S Q
+  pub run : Wrote params-words (function-param-list (at-depth depth) (waiting-errors waiting Q₀) (drop pos T)) (params (at-depth depth) fuel) T pos pos 8 at waiting S₀ Q₀ p a w S Q
   pub fits : Fitting (run .what) m n v
   pub few : 2 * (m + n) ≤ p
   pub below : v ≤ name-bound

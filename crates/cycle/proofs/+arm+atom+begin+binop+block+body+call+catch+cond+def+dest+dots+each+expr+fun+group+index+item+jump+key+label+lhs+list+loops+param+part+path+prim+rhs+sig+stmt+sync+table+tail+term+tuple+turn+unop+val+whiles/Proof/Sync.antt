@@ -8,7 +8,7 @@ use native.Mathlib.Omega.{arith}
 use lib.ListN.{length, take, drop, length-drop}
 use Rattle.grammar.specs.Reading.Expr.{expr}
 use Rattle.grammar.specs.Reading.Depth.{at-depth}
-use Rattle.scan.specs.Post.{As, Moved}
+use Rattle.scan.specs.Post.{As, Moved, waiting-errors}
 use Rattle.scan.proofs.Laws.{way, here, link, wins, loses, halts, done, missed, stops, did-not, taken, not-taken, lacks, blinded, unseen, prefix}
 use Rattle.grammar.specs.Reading.Stmt.{synchronize}
 use Rattle.cycle.proofs.PathsList.{sync-none, sync-skip, sync-halt, sync-try, sync-stop}
@@ -20,7 +20,7 @@ use Rattle.cycle.proofs.+arm+atom+begin+binop+block+body+call+catch+con
 pub record Going (T S₀ Q₀ : List ℕ) (depth pos at waiting : ℕ) (inside : Bool) (S Q : List ℕ) (p w : ℕ) : Type 0 where
   pub fuel : ℕ
   pub enough : length T ≤ p + fuel
-  pub same : As (take waiting Q₀) (synchronize (at-depth depth) inside (length (drop pos T)) (take waiting Q₀) (drop pos T)) (take w Q) (synchronize (at-depth depth) inside fuel (take w Q) (drop p T))
+  pub same : As (waiting-errors waiting Q₀) (synchronize (at-depth depth) inside (length (drop pos T)) (waiting-errors waiting Q₀) (drop pos T)) (waiting-errors w Q) (synchronize (at-depth depth) inside fuel (waiting-errors w Q) (drop p T))
   pub moved : Moved (length T) pos waiting p w (length Q)
   pub text : take at S ≡ take at S₀
   pub kept : length S ≡ length S₀

@@ -4,6 +4,7 @@ use mathlib.Core.List.{[], _∷_}
 use Prim.Native.Nat.{_+_, _*_}
 use borrow.Author.Needs.{needs}
 use native.Mathlib.Omega.{arith}
+use Rattle.tree.specs.NodeKind
 use Rattle.tree.specs.Tree.{all-records}
 use Rattle.scan.proofs.Text.{two-words}
 use Rattle.nodes.proofs.Ends.{joins, path-none, path-some}
@@ -26,7 +27,7 @@ returns-2 : tie.Need-returns-2
 returns-2 c = let a = c .before .before .before .before .before .before .list-end .ensures in
     let b = c .before .before .emit .ensures in
     let n = c .before .before .before .before .before .before .before .before .before .before .args .n in
-    record { up = omega arith; far = omega arith; text = λ X f s text. rw (path-some f n s (c .before .before .before .before .before .before .before .before .if1 .left)) (joins X (all-records f) ((1 + 256 * n) ∷ 0 ∷ 523 ∷ 0 ∷ []) (two-words a b) text) }
+    record { up = omega arith; far = omega arith; text = λ X f s text. rw (path-some f n s (c .before .before .before .before .before .before .before .before .if1 .left)) (joins X (all-records f) ((1 + 256 * n) ∷ 0 ∷ (NodeKind.Primary + 512) ∷ 0 ∷ []) (two-words a b) text) }
 
 pub path-end-spec : {M : Type 1} → statement M
 path-end-spec = tie.close (tie.spec returns list-end-requires emit-requires same-length returns-2)

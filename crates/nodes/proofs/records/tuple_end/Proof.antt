@@ -3,6 +3,7 @@ use mathlib.Core.List.{[], _∷_}
 use Prim.Native.Nat.{_+_, _*_}
 use borrow.Author.Needs.{needs}
 use native.Mathlib.Omega.{arith}
+use Rattle.tree.specs.NodeKind
 use Rattle.tree.specs.Tree.{all-records}
 use Rattle.scan.proofs.Text.{two-words}
 use Rattle.nodes.proofs.Ends.{joins}
@@ -22,7 +23,7 @@ returns : tie.Need-returns
 returns c = let a = c .before .before .before .before .before .before .list-end .ensures in
     let b = c .before .before .emit .ensures in
     let n = c .before .before .before .before .before .before .before .before .before .args .n in
-    record { up = omega arith; far = omega arith; text = λ X f s text. rw s (joins X (all-records f) ((1 + 256 * n) ∷ 0 ∷ 272 ∷ 0 ∷ []) (two-words a b) text) }
+    record { up = omega arith; far = omega arith; text = λ X f s text. rw s (joins X (all-records f) ((1 + 256 * n) ∷ 0 ∷ (NodeKind.Tuple + 256) ∷ 0 ∷ []) (two-words a b) text) }
 
 pub tuple-end-spec : {M : Type 1} → statement M
 tuple-end-spec = tie.close (tie.spec list-end-requires emit-requires same-length returns)

@@ -6,13 +6,14 @@ use native.Mathlib.Omega.{arith}
 use borrow.Author.Needs.{needs}
 use borrow.Author.Tests.{not-true, not-false}
 use lib.ListN.{length, drop}
+use Rattle.grammar.specs.Reading.Limit.{queue-limit}
 use Rattle.scan.specs.Parts.{holds-errors}
 use Rattle.scan.proofs.Fits.{error-on, error-no, errors-all}
 use Rattle.scan.proofs.queue.holds_errors.Statement.{statement}
 use Rattle.scan.proofs.queue.holds_errors.Tie as tie
 
 abbrev Inv-loop : tie.InvT-loop
-Inv-loop waiting queue i₀ i = (i ≤ waiting) × (length queue ≡ 96) × (holds-errors waiting queue ≡ holds-errors (waiting - i) (drop i queue))
+Inv-loop waiting queue i₀ i = (i ≤ waiting) × (length queue ≡ queue-limit) × (holds-errors waiting queue ≡ holds-errors (waiting - i) (drop i queue))
 
 abbrev μ-loop : tie.MeasureT-loop
 μ-loop waiting queue i₀ i = waiting - i

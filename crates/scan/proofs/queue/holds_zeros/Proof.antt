@@ -4,16 +4,17 @@ use Prim.Native.Nat.{_-_, _≤_}
 use native.Mathlib.Omega.{arith}
 use borrow.Author.Needs.{needs}
 use lib.ListN.{length, drop}
+use Rattle.grammar.specs.Reading.Limit.{queue-limit}
 use Rattle.grammar.specs.Reading.Next.{queue-fits}
 use Rattle.scan.proofs.Fits.{zero-on, zero-no, zeros-all}
 use Rattle.scan.proofs.queue.holds_zeros.Statement.{statement}
 use Rattle.scan.proofs.queue.holds_zeros.Tie as tie
 
 abbrev Inv-loop : tie.InvT-loop
-Inv-loop from queue i₀ i = (from ≤ i) × (i ≤ 96) × (length queue ≡ 96) × (queue-fits 0 (drop from queue) ≡ queue-fits 0 (drop i queue))
+Inv-loop from queue i₀ i = (from ≤ i) × (i ≤ queue-limit) × (length queue ≡ queue-limit) × (queue-fits 0 (drop from queue) ≡ queue-fits 0 (drop i queue))
 
 abbrev μ-loop : tie.MeasureT-loop
-μ-loop from queue i₀ i = 96 - i
+μ-loop from queue i₀ i = queue-limit - i
 
 loop-holds : tie.Need-loop-holds Inv-loop μ-loop
 loop-holds c = (omega arith, omega arith, search needs, refl)

@@ -10,10 +10,10 @@ use types.Run.{OneOf}
 use denote.Enum.Declared.{tagOf}
 use lib.ListN.{take, drop}
 use Rattle.token.specs.Kind
-use Rattle.grammar.specs.Reading.Result.{Res, ok, fail, spoil, either, ifb, pop}
+use Rattle.grammar.specs.Reading.Result.{Res, ok, fail, spoil, either, ifb, pop, Error}
 use Rattle.grammar.specs.Reading.Look.{look}
 use Rattle.grammar.specs.Reading.Stmt.{synchronized}
-use Rattle.scan.specs.Post.{Lacked, Unread, Taken, Resumes}
+use Rattle.scan.specs.Post.{Lacked, Unread, Taken, Resumes, waiting-errors}
 use Rattle.scan.specs.declared.Step.{Step}
 use Rattle.scan.specs.declared.Step.the-variants.{Done, Fail, Stop}
 use Rattle.scan.proofs.Step as step-type
@@ -22,7 +22,7 @@ use Rattle.scan.proofs.Waiting.{pops}
 use Rattle.scan.proofs.queue.synchronized.Statement.{statement}
 use Rattle.scan.proofs.queue.synchronized.Tie as tie
 
-module _ {T : List ℕ} {pos k n v : ℕ} (q : List ℕ) (tk : Taken T pos k n v) where
+module _ {T : List ℕ} {pos k n v : ℕ} (q : List Error) (tk : Taken T pos k n v) where
   at-eof : k ≡ Kind.EOF → synchronized q (drop pos T) ≡ pop q (drop pos T)
   unfolding synchronized either ifb
   at-eof e = rw (tk .same q, eq-eqb _ _ e)
@@ -31,17 +31,17 @@ module _ {T : List ℕ} {pos k n v : ℕ} (q : List ℕ) (tk : Taken T pos k n v
   unfolding synchronized either ifb
   at-another e = rw (tk .same q, ne-eqb _ _ e)
 
-at-error : {e f : ℕ} {q′ r : List ℕ} (q ts : List ℕ) → look q ts ≡ fail e q r → q ≡ f ∷ q′ → synchronized q ts ≡ fail f q′ r
+at-error : {e f : ℕ} {q′ : List Error} {r : List ℕ} (q : List Error) (ts : List ℕ) → look q ts ≡ fail e q r → q ≡ f ∷ q′ → synchronized q ts ≡ fail f q′ r
 unfolding synchronized either spoil pop
 at-error q ts l x = rw (l, x)
 
-at-stop : {T : List ℕ} {pos at w : ℕ} {Q : List ℕ} (s : Step) → OneOf (0 ∷ 2 ∷ []) (tagOf step-type.the-type s) → Unread (λ q. look q (drop pos T)) T pos (pos + 2) w s → Resumes (synchronized (take w Q) (drop pos T)) T pos at w Q Q s
+at-stop : {T : List ℕ} {pos at w : ℕ} {Q : List ℕ} (s : Step) → OneOf (0 ∷ 2 ∷ []) (tagOf step-type.the-type s) → Unread (λ q. look q (drop pos T)) T pos (pos + 2) w s → Resumes (synchronized (waiting-errors w Q) (drop pos T)) T pos at w Q Q s
 unfolding synchronized either
 at-stop (Done p a v) o u = absurd (u .how)
 at-stop (Fail e p v) o u = absurd (⊎-elim (λ e. omega arith) (λ e. omega arith) o)
-at-stop {w = w} {Q = Q} (Stop n) o u = record { how = ends (rw (u .how (take w Q))) }
+at-stop {w = w} {Q = Q} (Stop n) o u = record { how = ends (rw (u .how (waiting-errors w Q))) }
 
-missed-token : {A : Type 0} {d : List ℕ → Res A} {T : List ℕ} {pos least w e p v : ℕ} {r : Step} → r ≡ Fail e p v → Unread d T pos least w r → Lacked d T pos least w e p v
+missed-token : {A : Type 0} {d : List Error → Res A} {T : List ℕ} {pos least w e p v : ℕ} {r : Step} → r ≡ Fail e p v → Unread d T pos least w r → Lacked d T pos least w e p v
 missed-token e u = rw e at (u .how)
 
 look-requires : tie.Need-look-requires

@@ -8,15 +8,16 @@ use native.Mathlib.Omega.{arith}
 use borrow.Author.Needs.{needs}
 use lib.ListN.{length, take, set, replicate, length-set, replicate-append-replicate}
 use lib.Seq.{take-suc-set, take-all, length-take-le}
+use Rattle.grammar.specs.Reading.Limit.{queue-limit}
 use Rattle.grammar.specs.Reading.Next.{pad}
 use Rattle.scan.proofs.queue.wipe.Statement.{statement}
 use Rattle.scan.proofs.queue.wipe.Tie as tie
 
 abbrev Inv-loop : tie.InvT-loop
-Inv-loop waiting q₀ i₀ q i = (waiting ≤ i) × (i ≤ 96) × (length q ≡ 96) × (length q₀ ≡ 96) × (take i q ≡ take waiting q₀ ++ replicate (i - waiting) 0)
+Inv-loop waiting q₀ i₀ q i = (waiting ≤ i) × (i ≤ queue-limit) × (length q ≡ queue-limit) × (length q₀ ≡ queue-limit) × (take i q ≡ take waiting q₀ ++ replicate (i - waiting) 0)
 
 abbrev μ-loop : tie.MeasureT-loop
-μ-loop waiting q₀ i₀ q i = 96 - i
+μ-loop waiting q₀ i₀ q i = queue-limit - i
 
 none : (S : List ℕ) (from : ℕ) → take from S ≡ take from S ++ replicate (from - from) 0
 none S from = rw sub-self (sym (append-nil (take from S)))
@@ -26,10 +27,10 @@ next S S₀ from i h l e =
     let m : i + 1 - from ≡ i - from + 1 = omega arith in
     rw (add-one i) (take-suc-set S i 0 l) ∙ ap (λ x. x ++ 0 ∷ []) e ∙ append-assoc (take from S₀) (replicate (i - from) 0) (0 ∷ []) ∙ rw (m, ← replicate-append-replicate {A = ℕ} (i - from) 1 0)
 
-all : (S S₀ : List ℕ) (from i : ℕ) → 96 ≤ i → i ≤ 96 → from ≤ 96 → length S ≡ 96 → length S₀ ≡ 96 → take i S ≡ take from S₀ ++ replicate (i - from) 0 → S ≡ pad (take from S₀)
+all : (S S₀ : List ℕ) (from i : ℕ) → queue-limit ≤ i → i ≤ queue-limit → from ≤ queue-limit → length S ≡ queue-limit → length S₀ ≡ queue-limit → take i S ≡ take from S₀ ++ replicate (i - from) 0 → S ≡ pad (take from S₀)
 all S S₀ from i h g f n m e =
     let l : length (take from S₀) ≡ from = length-take-le from S₀ (omega arith) in
-    let k : i - from ≡ 96 - length (take from S₀) = omega arith in
+    let k : i - from ≡ queue-limit - length (take from S₀) = omega arith in
     sym (take-all i S (omega arith)) ∙ e ∙ ap (λ (n : ℕ). take from S₀ ++ replicate n 0) k
 
 loop-holds : tie.Need-loop-holds Inv-loop μ-loop

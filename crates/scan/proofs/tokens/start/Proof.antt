@@ -5,6 +5,7 @@ use Prim.Native.Nat.{ℕ, _+_, _-_, _≤_}
 use borrow.Author.Needs.{needs}
 use native.Mathlib.Omega.{arith}
 use lib.ListN.{length, drop, length-drop}
+use Rattle.grammar.specs.Reading.Result.{Error}
 use Rattle.scan.proofs.Laws.{taken, not-taken, unseen}
 use Rattle.grammar.specs.Reading.Next.{start}
 use Rattle.scan.proofs.Start.{start-stop, start-none, start-lexer, start-eof, start-semi, start-here, halted}
@@ -14,7 +15,7 @@ use Rattle.scan.proofs.tokens.start.Tie as tie
 record Going (T : List ℕ) (pos p : ℕ) : Type 0 where
   pub fuel : ℕ
   pub enough : length T ≤ p + fuel
-  pub same : (q : List ℕ) → start (length (drop pos T)) q (drop pos T) ≡ start fuel q (drop p T)
+  pub same : (q : List Error) → start (length (drop pos T)) q (drop pos T) ≡ start fuel q (drop p T)
   pub on : pos ≤ p
   pub within : p ≤ length T
 
