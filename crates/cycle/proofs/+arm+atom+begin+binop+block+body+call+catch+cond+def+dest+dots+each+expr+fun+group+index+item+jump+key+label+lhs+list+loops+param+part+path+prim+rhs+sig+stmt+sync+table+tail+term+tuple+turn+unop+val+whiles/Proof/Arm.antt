@@ -11,38 +11,46 @@ use Rattle.grammar.specs.Reading.Block.{block-of}
 use Rattle.cycle.proofs.PathsStmt.{closable, under, branch-step, two-words}
 use Rattle.cycle.proofs.arm.Reads as reads
 use Rattle.cycle.proofs.+arm+atom+begin+binop+block+body+call+catch+cond+def+dest+dots+each+expr+fun+group+index+item+jump+key+label+lhs+list+loops+param+part+path+prim+rhs+sig+stmt+sync+table+tail+term+tuple+turn+unop+val+whiles.Lts-arm as lts
-use Rattle.cycle.proofs.+arm+atom+begin+binop+block+body+call+catch+cond+def+dest+dots+each+expr+fun+group+index+item+jump+key+label+lhs+list+loops+param+part+path+prim+rhs+sig+stmt+sync+table+tail+term+tuple+turn+unop+val+whiles.Proof.Base.{arm-calls, arm-at}
+use Rattle.cycle.proofs.expr.Reads as expr-reads
+use Rattle.cycle.proofs.list.Reads as list-reads
+use Rattle.nodes.proofs.records.block_under.Reads as block-under-reads
+use Rattle.scan.proofs.tokens.expect.Reads as expect-reads
+use Rattle.cycle.proofs.+arm+atom+begin+binop+block+body+call+catch+cond+def+dest+dots+each+expr+fun+group+index+item+jump+key+label+lhs+list+loops+param+part+path+prim+rhs+sig+stmt+sync+table+tail+term+tuple+turn+unop+val+whiles.Proof.Below.{arm-at, expr-below, list-below}
 
-pub expr-requires : (t : ℕ) → lts.Need-expr-requires (arm-calls t) (arm-at t) reads.Post
+-- what is known of the functions that it calls
+abbrev pub calls : ℕ → lts.Claims
+calls t = (expr-below t, expr-reads.Post, expect-reads.Asked, expect-reads.Learnt, list-below t, list-reads.Post, block-under-reads.Asked, block-under-reads.Learnt)
+
+pub expr-requires : (t : ℕ) → lts.Need-expr-requires (calls t) (arm-at t) reads.Post
 expr-requires t c κs = omega arith
 
-pub enum-known-r : (t : ℕ) → lts.Need-enum-known-r (arm-calls t) (arm-at t) reads.Post
+pub enum-known-r : (t : ℕ) → lts.Need-enum-known-r (calls t) (arm-at t) reads.Post
 enum-known-r t c = search needs
 
-pub same-length : (t : ℕ) → lts.Need-same-length (arm-calls t) (arm-at t) reads.Post
+pub same-length : (t : ℕ) → lts.Need-same-length (calls t) (arm-at t) reads.Post
 same-length t c = search needs
 
-pub returns : (t : ℕ) → lts.Need-returns (arm-calls t) (arm-at t) reads.Post
+pub returns : (t : ℕ) → lts.Need-returns (calls t) (arm-at t) reads.Post
 returns t c = let path = way _ (branch-step _ _ _) in
     did-not (fails _ path (undone (c .match .keys2) (c .before .before .before .expr .ensures)) refl (omega arith))
 
-pub expect-requires : (t : ℕ) → lts.Need-expect-requires (arm-calls t) (arm-at t) reads.Post
+pub expect-requires : (t : ℕ) → lts.Need-expect-requires (calls t) (arm-at t) reads.Post
 expect-requires t c κs = let w = done (c .before .r .given .1) (c .before .before .before .before .before .expr .ensures) in
     w .moved .within
 
-pub enum-known-s : (t : ℕ) → lts.Need-enum-known-s (arm-calls t) (arm-at t) reads.Post
+pub enum-known-s : (t : ℕ) → lts.Need-enum-known-s (calls t) (arm-at t) reads.Post
 enum-known-s t c = search needs
 
-pub same-length-2 : (t : ℕ) → lts.Need-same-length-2 (arm-calls t) (arm-at t) reads.Post
+pub same-length-2 : (t : ℕ) → lts.Need-same-length-2 (calls t) (arm-at t) reads.Post
 same-length-2 t c = search needs
 
-pub returns-2 : (t : ℕ) → lts.Need-returns-2 (arm-calls t) (arm-at t) reads.Post
+pub returns-2 : (t : ℕ) → lts.Need-returns-2 (calls t) (arm-at t) reads.Post
 returns-2 t c = let w = done (c .before .before .before .r .given .1) (c .before .before .before .before .before .before .before .expr .ensures) in
     let path = way _ (branch-step _ _ _) in
     let on = goes _ path (w .same) in
     did-not (lacks _ (unpassed (c .match2 .keys2) (c .before .expect .ensures)) on (prefix w (omega arith)) (omega arith))
 
-pub list-requires : (t : ℕ) → lts.Need-list-requires (arm-calls t) (arm-at t) reads.Post
+pub list-requires : (t : ℕ) → lts.Need-list-requires (calls t) (arm-at t) reads.Post
 list-requires t c κs = let w = done (c .before .before .before .before .before .before .before .r .given .1) (c .before .before .before .before .before .before .before .before .before .before .before .expr .ensures) in
     let ps = passed (c .before .before .before .s .given .1) (c .before .before .before .before .before .expect .ensures) in
     let g = ps .got in
@@ -50,7 +58,7 @@ list-requires t c κs = let w = done (c .before .before .before .before .before 
     let gwithin = g .within in
     omega arith
 
-pub block-under-requires : (t : ℕ) → lts.Need-block-under-requires (arm-calls t) (arm-at t) reads.Post
+pub block-under-requires : (t : ℕ) → lts.Need-block-under-requires (calls t) (arm-at t) reads.Post
 block-under-requires t c κs = let w = done (c .before .before .before .before .before .before .before .before .before .before .before .r .given .1) (c .before .before .before .before .before .before .before .before .before .before .before .before .before .before .before .expr .ensures) in
     let ps = passed (c .before .before .before .before .before .before .before .s .given .1) (c .before .before .before .before .before .before .before .before .before .expect .ensures) in
     let g = ps .got in
@@ -58,10 +66,10 @@ block-under-requires t c κs = let w = done (c .before .before .before .before .
     let gwithin = g .within in
     closable _ (c .before .before .before .list .ensures) (omega (arith, c .before .before .before .before .before .before .before .before .before .before .before .before .before .before .before .before .before .before .before .before .pre, w .moved, w .room, gon, gwithin, c .before .before .before .before .before .before .before .before .before .before .before .before .before .before .before .expr .kept .1 .0, c .before .before .before .list .kept .1 .0))
 
-pub same-length-3 : (t : ℕ) → lts.Need-same-length-3 (arm-calls t) (arm-at t) reads.Post
+pub same-length-3 : (t : ℕ) → lts.Need-same-length-3 (calls t) (arm-at t) reads.Post
 same-length-3 t c = search needs
 
-pub returns-3 : (t : ℕ) → lts.Need-returns-3 (arm-calls t) (arm-at t) reads.Post
+pub returns-3 : (t : ℕ) → lts.Need-returns-3 (calls t) (arm-at t) reads.Post
 returns-3 t c = let w = done (c .before .before .before .before .before .before .before .before .before .before .before .before .before .before .r .given .1) (c .before .before .before .before .before .before .before .before .before .before .before .before .before .before .before .before .before .before .expr .ensures) in
     let path = way _ (branch-step _ _ _) in
     let on = goes _ path (w .same) in

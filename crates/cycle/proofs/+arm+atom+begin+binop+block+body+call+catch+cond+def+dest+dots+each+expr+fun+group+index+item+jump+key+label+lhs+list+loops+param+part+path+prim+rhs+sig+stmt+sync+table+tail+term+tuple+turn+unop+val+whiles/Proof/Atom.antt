@@ -11,46 +11,53 @@ use Rattle.cycle.proofs.PathsExpr.{left}
 use Rattle.cycle.proofs.PathsPrimary.{atom-looks, atom-group, atom-literal}
 use Rattle.cycle.proofs.atom.Reads as reads
 use Rattle.cycle.proofs.+arm+atom+begin+binop+block+body+call+catch+cond+def+dest+dots+each+expr+fun+group+index+item+jump+key+label+lhs+list+loops+param+part+path+prim+rhs+sig+stmt+sync+table+tail+term+tuple+turn+unop+val+whiles.Lts-atom as lts
-use Rattle.cycle.proofs.+arm+atom+begin+binop+block+body+call+catch+cond+def+dest+dots+each+expr+fun+group+index+item+jump+key+label+lhs+list+loops+param+part+path+prim+rhs+sig+stmt+sync+table+tail+term+tuple+turn+unop+val+whiles.Proof.Base.{atom-calls, atom-at}
+use Rattle.cycle.proofs.group.Reads as group-reads
+use Rattle.nodes.proofs.records.literal.Reads as literal-reads
+use Rattle.scan.proofs.tokens.look.Reads as look-reads
+use Rattle.cycle.proofs.+arm+atom+begin+binop+block+body+call+catch+cond+def+dest+dots+each+expr+fun+group+index+item+jump+key+label+lhs+list+loops+param+part+path+prim+rhs+sig+stmt+sync+table+tail+term+tuple+turn+unop+val+whiles.Proof.Below.{atom-at, group-below}
 
-pub look-requires : (t : ℕ) → lts.Need-look-requires (atom-calls t) (atom-at t) reads.Post
+-- what is known of the functions that it calls
+abbrev pub calls : ℕ → lts.Claims
+calls t = (look-reads.Asked, look-reads.Learnt, group-below t, group-reads.Post, literal-reads.Asked, literal-reads.Learnt)
+
+pub look-requires : (t : ℕ) → lts.Need-look-requires (calls t) (atom-at t) reads.Post
 look-requires t c κs = search needs
 
-pub enum-known-kind : (t : ℕ) → lts.Need-enum-known-kind (atom-calls t) (atom-at t) reads.Post
+pub enum-known-kind : (t : ℕ) → lts.Need-enum-known-kind (calls t) (atom-at t) reads.Post
 enum-known-kind t c = search needs
 
-pub add-group : (t : ℕ) → lts.Need-add-group (atom-calls t) (atom-at t) reads.Post
+pub add-group : (t : ℕ) → lts.Need-add-group (calls t) (atom-at t) reads.Post
 add-group t c = let tk = taken (c .before .before .before .before .kind .given .1) (c .before .before .before .before .before .before .look .ensures) in
     omega arith
 
-pub group-requires : (t : ℕ) → lts.Need-group-requires (atom-calls t) (atom-at t) reads.Post
+pub group-requires : (t : ℕ) → lts.Need-group-requires (calls t) (atom-at t) reads.Post
 group-requires t c κs = let tk = taken (c .before .before .before .before .kind .given .1) (c .before .before .before .before .before .before .look .ensures) in
     omega arith
 
-pub same-length : (t : ℕ) → lts.Need-same-length (atom-calls t) (atom-at t) reads.Post
+pub same-length : (t : ℕ) → lts.Need-same-length (calls t) (atom-at t) reads.Post
 same-length t c = search needs
 
-pub returns : (t : ℕ) → lts.Need-returns (atom-calls t) (atom-at t) reads.Post
+pub returns : (t : ℕ) → lts.Need-returns (calls t) (atom-at t) reads.Post
 returns t c = let tk = taken (c .before .before .before .before .before .before .before .kind .given .1) (c .before .before .before .before .before .before .before .before .before .look .ensures) in
     later (atom-group _ _ tk (c .before .before .before .before .before .if1 .taken)) (c .before .before .group .ensures) (omega arith) (omega arith) (omega arith)
 
-pub add-literal : (t : ℕ) → lts.Need-add-literal (atom-calls t) (atom-at t) reads.Post
+pub add-literal : (t : ℕ) → lts.Need-add-literal (calls t) (atom-at t) reads.Post
 add-literal t c = let tk = taken (c .before .before .before .kind .given .1) (c .before .before .before .before .before .look .ensures) in
     omega arith
 
-pub literal-requires : (t : ℕ) → lts.Need-literal-requires (atom-calls t) (atom-at t) reads.Post
+pub literal-requires : (t : ℕ) → lts.Need-literal-requires (calls t) (atom-at t) reads.Post
 literal-requires t c κs = let tk = taken (c .before .before .before .kind .given .1) (c .before .before .before .before .before .look .ensures) in
     omega arith
 
-pub enum-known-s : (t : ℕ) → lts.Need-enum-known-s (atom-calls t) (atom-at t) reads.Post
+pub enum-known-s : (t : ℕ) → lts.Need-enum-known-s (calls t) (atom-at t) reads.Post
 enum-known-s t c = search needs
 
-pub same-length-2 : (t : ℕ) → lts.Need-same-length-2 (atom-calls t) (atom-at t) reads.Post
+pub same-length-2 : (t : ℕ) → lts.Need-same-length-2 (calls t) (atom-at t) reads.Post
 same-length-2 t c = search needs
 
-pub returns-2 : (t : ℕ) → lts.Need-returns-2 (atom-calls t) (atom-at t) reads.Post
+pub returns-2 : (t : ℕ) → lts.Need-returns-2 (calls t) (atom-at t) reads.Post
 returns-2 t c = let tk = taken (c .before .before .before .before .before .before .kind .given .1) (c .before .before .before .before .before .before .before .before .look .ensures) in
     settled (c .before .before .literal .ensures (c .before .before .before .before .before .before .before .before .before .before .before .args .tokens .now) (tk .within)) refl (way _ (atom-literal _ _ tk (c .before .before .before .before .if1 .left))) refl (omega arith)
 
-pub returns-3 : (t : ℕ) → lts.Need-returns-3 (atom-calls t) (atom-at t) reads.Post
+pub returns-3 : (t : ℕ) → lts.Need-returns-3 (calls t) (atom-at t) reads.Post
 returns-3 t c = did-not (blind here (atom-looks _ _ _) (not-taken (c .before .s .given .1) (c .before .before .before .look .ensures)) refl (omega arith))

@@ -7,35 +7,41 @@ use Rattle.scan.proofs.Laws.{here, did-not, taken, not-taken, blind, later}
 use Rattle.cycle.proofs.PathsStmt.{fails-with, begin-looks, begin-is, begin-not}
 use Rattle.cycle.proofs.begin.Reads as reads
 use Rattle.cycle.proofs.+arm+atom+begin+binop+block+body+call+catch+cond+def+dest+dots+each+expr+fun+group+index+item+jump+key+label+lhs+list+loops+param+part+path+prim+rhs+sig+stmt+sync+table+tail+term+tuple+turn+unop+val+whiles.Lts-begin as lts
-use Rattle.cycle.proofs.+arm+atom+begin+binop+block+body+call+catch+cond+def+dest+dots+each+expr+fun+group+index+item+jump+key+label+lhs+list+loops+param+part+path+prim+rhs+sig+stmt+sync+table+tail+term+tuple+turn+unop+val+whiles.Proof.Base.{begin-calls, begin-at}
+use Rattle.cycle.proofs.block.Reads as block-reads
+use Rattle.scan.proofs.tokens.look.Reads as look-reads
+use Rattle.cycle.proofs.+arm+atom+begin+binop+block+body+call+catch+cond+def+dest+dots+each+expr+fun+group+index+item+jump+key+label+lhs+list+loops+param+part+path+prim+rhs+sig+stmt+sync+table+tail+term+tuple+turn+unop+val+whiles.Proof.Below.{begin-at, block-below}
 
-pub look-requires : (t : ℕ) → lts.Need-look-requires (begin-calls t) (begin-at t) reads.Post
+-- what is known of the functions that it calls
+abbrev pub calls : ℕ → lts.Claims
+calls t = (look-reads.Asked, look-reads.Learnt, block-below t, block-reads.Post)
+
+pub look-requires : (t : ℕ) → lts.Need-look-requires (calls t) (begin-at t) reads.Post
 look-requires t c κs = search needs
 
-pub enum-known-kind : (t : ℕ) → lts.Need-enum-known-kind (begin-calls t) (begin-at t) reads.Post
+pub enum-known-kind : (t : ℕ) → lts.Need-enum-known-kind (calls t) (begin-at t) reads.Post
 enum-known-kind t c = search needs
 
-pub add-block : (t : ℕ) → lts.Need-add-block (begin-calls t) (begin-at t) reads.Post
+pub add-block : (t : ℕ) → lts.Need-add-block (calls t) (begin-at t) reads.Post
 add-block t c = let tk = taken (c .before .before .before .before .kind .given .1) (c .before .before .before .before .before .before .look .ensures) in
     omega arith
 
-pub block-requires : (t : ℕ) → lts.Need-block-requires (begin-calls t) (begin-at t) reads.Post
+pub block-requires : (t : ℕ) → lts.Need-block-requires (calls t) (begin-at t) reads.Post
 block-requires t c κs = let tk = taken (c .before .before .before .before .kind .given .1) (c .before .before .before .before .before .before .look .ensures) in
     omega arith
 
-pub same-length : (t : ℕ) → lts.Need-same-length (begin-calls t) (begin-at t) reads.Post
+pub same-length : (t : ℕ) → lts.Need-same-length (calls t) (begin-at t) reads.Post
 same-length t c = search needs
 
-pub returns : (t : ℕ) → lts.Need-returns (begin-calls t) (begin-at t) reads.Post
+pub returns : (t : ℕ) → lts.Need-returns (calls t) (begin-at t) reads.Post
 returns t c = let tk = taken (c .before .before .before .before .before .before .before .kind .given .1) (c .before .before .before .before .before .before .before .before .before .look .ensures) in
     later (begin-is _ _ tk _ (c .before .before .before .before .before .if1 .taken)) (c .before .before .block .ensures) (omega arith) (omega arith) (omega arith)
 
-pub enum-known-s : (t : ℕ) → lts.Need-enum-known-s (begin-calls t) (begin-at t) reads.Post
+pub enum-known-s : (t : ℕ) → lts.Need-enum-known-s (calls t) (begin-at t) reads.Post
 enum-known-s t c = search needs
 
-pub returns-2 : (t : ℕ) → lts.Need-returns-2 (begin-calls t) (begin-at t) reads.Post
+pub returns-2 : (t : ℕ) → lts.Need-returns-2 (calls t) (begin-at t) reads.Post
 returns-2 t c = let tk = taken (c .before .before .kind .given .1) (c .before .before .before .before .look .ensures) in
     fails-with (begin-not _ _ tk _ (c .if1 .left)) (omega arith) (omega arith)
 
-pub returns-3 : (t : ℕ) → lts.Need-returns-3 (begin-calls t) (begin-at t) reads.Post
+pub returns-3 : (t : ℕ) → lts.Need-returns-3 (calls t) (begin-at t) reads.Post
 returns-3 t c = did-not (blind here (begin-looks _ _ _ _) (not-taken (c .before .s .given .1) (c .before .before .before .look .ensures)) refl (omega arith))

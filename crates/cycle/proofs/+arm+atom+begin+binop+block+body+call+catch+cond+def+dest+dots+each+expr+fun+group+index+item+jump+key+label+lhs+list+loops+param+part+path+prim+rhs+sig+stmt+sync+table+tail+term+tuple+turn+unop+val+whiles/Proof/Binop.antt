@@ -14,7 +14,17 @@ use Rattle.cycle.proofs.PathsExpr.{binop-unary, left}
 use Rattle.cycle.proofs.Climb.{climb, binop-step, climb-looks, climb-ends, climb-takes}
 use Rattle.cycle.proofs.binop.Reads as reads
 use Rattle.cycle.proofs.+arm+atom+begin+binop+block+body+call+catch+cond+def+dest+dots+each+expr+fun+group+index+item+jump+key+label+lhs+list+loops+param+part+path+prim+rhs+sig+stmt+sync+table+tail+term+tuple+turn+unop+val+whiles.Lts-binop as lts
-use Rattle.cycle.proofs.+arm+atom+begin+binop+block+body+call+catch+cond+def+dest+dots+each+expr+fun+group+index+item+jump+key+label+lhs+list+loops+param+part+path+prim+rhs+sig+stmt+sync+table+tail+term+tuple+turn+unop+val+whiles.Proof.Base.{binop-calls, binop-at}
+use Rattle.cycle.proofs.unop.Reads as unop-reads
+use Rattle.scan.proofs.again.Reads as again-reads
+use Rattle.scan.proofs.tokens.look.Reads as look-reads
+use Rattle.scan.proofs.tokens.op_level.Reads as op-level-reads
+use Rattle.scan.proofs.tokens.op_number.Reads as op-number-reads
+use Rattle.tree.proofs.emit.Reads as emit-reads
+use Rattle.cycle.proofs.+arm+atom+begin+binop+block+body+call+catch+cond+def+dest+dots+each+expr+fun+group+index+item+jump+key+label+lhs+list+loops+param+part+path+prim+rhs+sig+stmt+sync+table+tail+term+tuple+turn+unop+val+whiles.Proof.Below.{binop-at, unop-below, binop-below}
+
+-- what is known of the functions that it calls
+abbrev pub calls : ℕ → lts.Claims
+calls t = (unop-below t, unop-reads.Post, again-reads.Asked, again-reads.Learnt, look-reads.Asked, look-reads.Learnt, op-level-reads.Asked, op-level-reads.Learnt, binop-below t, reads.Post, op-number-reads.Asked, op-number-reads.Learnt, emit-reads.Asked, emit-reads.Learnt)
 
 -- where the loop stands. What the first call read is only known by its text, so this is said for any tree t₀ with that text
 pub record Going (T S₀ Q₀ : List ℕ) (depth l pos at p₀ a₀ w₀ : ℕ) (S Q : List ℕ) (p a w : ℕ) : Type 0 where
@@ -29,31 +39,31 @@ Inv-loop tokens store₀ queue₀ depth l pos at waiting p0 a0 w0 p₀ a₀ w₀
 abbrev pub μ-loop : lts.MeasureT-loop
 μ-loop tokens store₀ queue₀ depth l pos at waiting p0 a0 w0 p₀ a₀ w₀ store queue p a w = length tokens - p
 
-pub unop-requires : (t : ℕ) → lts.Need-unop-requires (binop-calls t) (binop-at t) reads.Post Inv-loop μ-loop
+pub unop-requires : (t : ℕ) → lts.Need-unop-requires (calls t) (binop-at t) reads.Post Inv-loop μ-loop
 unop-requires t c κs = omega arith
 
-pub same-length : (t : ℕ) → lts.Need-same-length (binop-calls t) (binop-at t) reads.Post Inv-loop μ-loop
+pub same-length : (t : ℕ) → lts.Need-same-length (calls t) (binop-at t) reads.Post Inv-loop μ-loop
 same-length t c = search needs
 
-pub returns : (t : ℕ) → lts.Need-returns (binop-calls t) (binop-at t) reads.Post Inv-loop μ-loop
+pub returns : (t : ℕ) → lts.Need-returns (calls t) (binop-at t) reads.Post Inv-loop μ-loop
 returns t c = as-agrees (binop-unary _ _ _ _ (c .before .before .before .before .before .if1 .taken)) (c .before .before .unop .ensures)
 
-pub unop-requires-2 : (t : ℕ) → lts.Need-unop-requires-2 (binop-calls t) (binop-at t) reads.Post Inv-loop μ-loop
+pub unop-requires-2 : (t : ℕ) → lts.Need-unop-requires-2 (calls t) (binop-at t) reads.Post Inv-loop μ-loop
 unop-requires-2 t c κs = omega arith
 
-pub enum-known-first : (t : ℕ) → lts.Need-enum-known-first (binop-calls t) (binop-at t) reads.Post Inv-loop μ-loop
+pub enum-known-first : (t : ℕ) → lts.Need-enum-known-first (calls t) (binop-at t) reads.Post Inv-loop μ-loop
 enum-known-first t c = search needs
 
-pub again-requires : (t : ℕ) → lts.Need-again-requires (binop-calls t) (binop-at t) reads.Post Inv-loop μ-loop
+pub again-requires : (t : ℕ) → lts.Need-again-requires (calls t) (binop-at t) reads.Post Inv-loop μ-loop
 again-requires t c κs = search needs
 
-pub same-length-2 : (t : ℕ) → lts.Need-same-length-2 (binop-calls t) (binop-at t) reads.Post Inv-loop μ-loop
+pub same-length-2 : (t : ℕ) → lts.Need-same-length-2 (calls t) (binop-at t) reads.Post Inv-loop μ-loop
 same-length-2 t c = search needs
 
-pub returns-2 : (t : ℕ) → lts.Need-returns-2 (binop-calls t) (binop-at t) reads.Post Inv-loop μ-loop
+pub returns-2 : (t : ℕ) → lts.Need-returns-2 (calls t) (binop-at t) reads.Post Inv-loop μ-loop
 returns-2 t c = anew (c .again .ensures) (did-not (fails _ (way _ (binop-step _ _ _ _ (c .before .before .before .before .before .before .before .if1 .left))) (undone (c .before .match .keys2) (c .before .before .before .before .unop2 .ensures)) refl (omega arith)))
 
-pub loop-holds : (t : ℕ) → lts.Need-loop-holds (binop-calls t) (binop-at t) reads.Post Inv-loop μ-loop
+pub loop-holds : (t : ℕ) → lts.Need-loop-holds (calls t) (binop-at t) reads.Post Inv-loop μ-loop
 loop-holds t c = let f = done (c .before .first .given .1) (c .before .before .before .before .before .unop2 .ensures) in
     record {
       fuel = length (drop (c .before .first .given .0 .0) (c .before .before .before .before .before .before .before .before .before .before .before .args .tokens .now));
@@ -62,22 +72,22 @@ loop-holds t c = let f = done (c .before .first .given .1) (c .before .before .b
       kept = refl;
     }
 
-pub look-requires : (t : ℕ) → lts.Need-look-requires (binop-calls t) (binop-at t) reads.Post Inv-loop μ-loop
+pub look-requires : (t : ℕ) → lts.Need-look-requires (calls t) (binop-at t) reads.Post Inv-loop μ-loop
 look-requires t c κs = let f = done (c .before .before .first .given .1) (c .before .before .before .before .before .before .unop2 .ensures) in
     let i = c .loop .inv in
     let g = i .run (f .what) (rebased f (omega (arith, c .before .before .before .before .before .before .before .before .before .before .before .before .pre))) in
     g .moved .within
 
-pub enum-known-kind : (t : ℕ) → lts.Need-enum-known-kind (binop-calls t) (binop-at t) reads.Post Inv-loop μ-loop
+pub enum-known-kind : (t : ℕ) → lts.Need-enum-known-kind (calls t) (binop-at t) reads.Post Inv-loop μ-loop
 enum-known-kind t c = search needs
 
-pub op-level-requires : (t : ℕ) → lts.Need-op-level-requires (binop-calls t) (binop-at t) reads.Post Inv-loop μ-loop
+pub op-level-requires : (t : ℕ) → lts.Need-op-level-requires (calls t) (binop-at t) reads.Post Inv-loop μ-loop
 op-level-requires t c κs = search needs
 
-pub same-length-3 : (t : ℕ) → lts.Need-same-length-3 (binop-calls t) (binop-at t) reads.Post Inv-loop μ-loop
+pub same-length-3 : (t : ℕ) → lts.Need-same-length-3 (calls t) (binop-at t) reads.Post Inv-loop μ-loop
 same-length-3 t c = search needs
 
-pub returns-3 : (t : ℕ) → lts.Need-returns-3 (binop-calls t) (binop-at t) reads.Post Inv-loop μ-loop
+pub returns-3 : (t : ℕ) → lts.Need-returns-3 (calls t) (binop-at t) reads.Post Inv-loop μ-loop
 returns-3 t c = let f = done (c .before .before .before .before .before .before .before .before .first .given .1) (c .before .before .before .before .before .before .before .before .before .before .before .before .unop2 .ensures) in
     let path = goes _ (way _ (binop-step _ _ _ _ (c .before .before .before .before .before .before .before .before .before .before .before .before .before .before .before .if1 .left))) (f .same) in
     let i = c .before .before .before .before .before .before .loop .inv in
@@ -85,10 +95,10 @@ returns-3 t c = let f = done (c .before .before .before .before .before .before 
     let tk = taken (c .before .before .before .kind .given .1) (c .before .before .before .before .before .look .ensures) in
     record { how = home path (prefix f (omega arith)) (f .moved .more) (relabel g (g .what) refl (link (g .same) (way _ (climb-ends _ _ (g .what) _ (i .fuel) _ (i .enough) tk (c .before .op-level .ensures) (λ h. absurd (h (c .if2 .taken)))))) (g .moved) (g .room)) }
 
-pub same-length-4 : (t : ℕ) → lts.Need-same-length-4 (binop-calls t) (binop-at t) reads.Post Inv-loop μ-loop
+pub same-length-4 : (t : ℕ) → lts.Need-same-length-4 (calls t) (binop-at t) reads.Post Inv-loop μ-loop
 same-length-4 t c = search needs
 
-pub returns-4 : (t : ℕ) → lts.Need-returns-4 (binop-calls t) (binop-at t) reads.Post Inv-loop μ-loop
+pub returns-4 : (t : ℕ) → lts.Need-returns-4 (calls t) (binop-at t) reads.Post Inv-loop μ-loop
 returns-4 t c = let f = done (c .before .before .before .before .before .before .before .before .before .first .given .1) (c .before .before .before .before .before .before .before .before .before .before .before .before .before .unop2 .ensures) in
     let path = goes _ (way _ (binop-step _ _ _ _ (c .before .before .before .before .before .before .before .before .before .before .before .before .before .before .before .before .if1 .left))) (f .same) in
     let i = c .before .before .before .before .before .before .before .loop .inv in
@@ -96,15 +106,15 @@ returns-4 t c = let f = done (c .before .before .before .before .before .before 
     let tk = taken (c .before .before .before .before .kind .given .1) (c .before .before .before .before .before .before .look .ensures) in
     record { how = home path (prefix f (omega arith)) (f .moved .more) (relabel g (g .what) refl (link (g .same) (way _ (climb-ends _ _ (g .what) _ (i .fuel) _ (i .enough) tk (c .before .before .op-level .ensures) (λ h. c .if3 .taken)))) (g .moved) (g .room)) }
 
-pub sub-binop : (t : ℕ) → lts.Need-sub-binop (binop-calls t) (binop-at t) reads.Post Inv-loop μ-loop
+pub sub-binop : (t : ℕ) → lts.Need-sub-binop (calls t) (binop-at t) reads.Post Inv-loop μ-loop
 sub-binop t c = let n = c .before .before .before .if2 .left in
     omega arith
 
-pub add-binop : (t : ℕ) → lts.Need-add-binop (binop-calls t) (binop-at t) reads.Post Inv-loop μ-loop
+pub add-binop : (t : ℕ) → lts.Need-add-binop (calls t) (binop-at t) reads.Post Inv-loop μ-loop
 add-binop t c = let tk = taken (c .before .before .before .before .before .before .kind .given .1) (c .before .before .before .before .before .before .before .before .look .ensures) in
     omega arith
 
-pub binop-requires : (t : ℕ) → lts.Need-binop-requires (binop-calls t) (binop-at t) reads.Post Inv-loop μ-loop
+pub binop-requires : (t : ℕ) → lts.Need-binop-requires (calls t) (binop-at t) reads.Post Inv-loop μ-loop
 binop-requires t c κs = let f = done (c .before .before .before .before .before .before .before .before .before .before .before .first .given .1) (c .before .before .before .before .before .before .before .before .before .before .before .before .before .before .before .unop2 .ensures) in
     let i = c .before .before .before .before .before .before .before .before .before .loop .inv in
     let g = i .run (f .what) (rebased f (omega (arith, c .before .before .before .before .before .before .before .before .before .before .before .before .before .before .before .before .before .before .before .before .before .pre))) in
@@ -113,13 +123,13 @@ binop-requires t c κs = let f = done (c .before .before .before .before .before
     let m = c .before .before .if3 .left in
     omega (arith, c .before .before .before .before .before .before .before .before .before .before .before .before .before .before .before .before .before .before .before .before .before .pre)
 
-pub enum-known-r : (t : ℕ) → lts.Need-enum-known-r (binop-calls t) (binop-at t) reads.Post Inv-loop μ-loop
+pub enum-known-r : (t : ℕ) → lts.Need-enum-known-r (calls t) (binop-at t) reads.Post Inv-loop μ-loop
 enum-known-r t c = search needs
 
-pub op-number-requires : (t : ℕ) → lts.Need-op-number-requires (binop-calls t) (binop-at t) reads.Post Inv-loop μ-loop
+pub op-number-requires : (t : ℕ) → lts.Need-op-number-requires (calls t) (binop-at t) reads.Post Inv-loop μ-loop
 op-number-requires t c κs = search needs
 
-pub emit-requires : (t : ℕ) → lts.Need-emit-requires (binop-calls t) (binop-at t) reads.Post Inv-loop μ-loop
+pub emit-requires : (t : ℕ) → lts.Need-emit-requires (calls t) (binop-at t) reads.Post Inv-loop μ-loop
 emit-requires t c κs = let f = done (c .before .before .before .before .before .before .before .before .before .before .before .before .before .before .before .before .before .before .before .first .given .1) (c .before .before .before .before .before .before .before .before .before .before .before .before .before .before .before .before .before .before .before .before .before .before .before .unop2 .ensures) in
     let i = c .before .before .before .before .before .before .before .before .before .before .before .before .before .before .before .before .before .loop .inv in
     let g = i .run (f .what) (rebased f (omega (arith, c .before .before .before .before .before .before .before .before .before .before .before .before .before .before .before .before .before .before .before .before .before .before .before .before .before .before .before .before .before .pre))) in
@@ -127,12 +137,12 @@ emit-requires t c κs = let f = done (c .before .before .before .before .before 
     let w = done (c .before .before .before .r .given .1) (c .before .before .before .before .before .before .before .binop .ensures) in
     omega (arith, c .before .before .before .before .before .before .before .before .before .before .before .before .before .before .before .before .before .before .before .before .before .before .before .before .before .before .before .before .before .pre, c .before .before .before .before .before .before .before .before .before .before .before .before .before .before .before .before .before .before .before .before .before .before .before .unop2 .kept .1 .0, f .moved, f .room, g .moved, g .room, i .kept, tk .within, w .moved, w .room, c .before .before .before .before .before .before .before .binop .kept .1 .0)
 
-pub loop-less : (t : ℕ) → lts.Need-loop-less (binop-calls t) (binop-at t) reads.Post Inv-loop μ-loop
+pub loop-less : (t : ℕ) → lts.Need-loop-less (calls t) (binop-at t) reads.Post Inv-loop μ-loop
 loop-less t c = let tk = taken (c .before .before .before .before .before .before .before .before .before .before .before .before .before .before .before .before .before .kind .given .1) (c .before .before .before .before .before .before .before .before .before .before .before .before .before .before .before .before .before .before .before .look .ensures) in
     let w = done (c .before .before .before .before .before .before .r .given .1) (c .before .before .before .before .before .before .before .before .before .before .binop .ensures) in
     omega arith
 
-pub loop-again : (t : ℕ) → lts.Need-loop-again (binop-calls t) (binop-at t) reads.Post Inv-loop μ-loop
+pub loop-again : (t : ℕ) → lts.Need-loop-again (calls t) (binop-at t) reads.Post Inv-loop μ-loop
 loop-again t c = let f = done (c .before .before .before .before .before .before .before .before .before .before .before .before .before .before .before .before .before .before .before .before .before .before .first .given .1) (c .before .before .before .before .before .before .before .before .before .before .before .before .before .before .before .before .before .before .before .before .before .before .before .before .before .before .unop2 .ensures) in
     let i = c .before .before .before .before .before .before .before .before .before .before .before .before .before .before .before .before .before .before .before .before .loop .inv in
     let tk = taken (c .before .before .before .before .before .before .before .before .before .before .before .before .before .before .before .before .before .kind .given .1) (c .before .before .before .before .before .before .before .before .before .before .before .before .before .before .before .before .before .before .before .look .ensures) in
@@ -145,13 +155,13 @@ loop-again t c = let f = done (c .before .before .before .before .before .before
       kept = omega arith;
     }
 
-pub again-requires-2 : (t : ℕ) → lts.Need-again-requires-2 (binop-calls t) (binop-at t) reads.Post Inv-loop μ-loop
+pub again-requires-2 : (t : ℕ) → lts.Need-again-requires-2 (calls t) (binop-at t) reads.Post Inv-loop μ-loop
 again-requires-2 t c κs = search needs
 
-pub same-length-5 : (t : ℕ) → lts.Need-same-length-5 (binop-calls t) (binop-at t) reads.Post Inv-loop μ-loop
+pub same-length-5 : (t : ℕ) → lts.Need-same-length-5 (calls t) (binop-at t) reads.Post Inv-loop μ-loop
 same-length-5 t c = search needs
 
-pub returns-5 : (t : ℕ) → lts.Need-returns-5 (binop-calls t) (binop-at t) reads.Post Inv-loop μ-loop
+pub returns-5 : (t : ℕ) → lts.Need-returns-5 (calls t) (binop-at t) reads.Post Inv-loop μ-loop
 returns-5 t c = let f = done (c .before .before .before .before .before .before .before .before .before .before .before .before .before .before .before .before .first .given .1) (c .before .before .before .before .before .before .before .before .before .before .before .before .before .before .before .before .before .before .before .before .unop2 .ensures) in
     let path = goes _ (way _ (binop-step _ _ _ _ (c .before .before .before .before .before .before .before .before .before .before .before .before .before .before .before .before .before .before .before .before .before .before .before .if1 .left))) (f .same) in
     let i = c .before .before .before .before .before .before .before .before .before .before .before .before .before .before .loop .inv in
@@ -160,13 +170,13 @@ returns-5 t c = let f = done (c .before .before .before .before .before .before 
     let on = link (g .same) (way _ (climb-takes _ _ (g .what) _ (i .fuel) _ (i .enough) tk (c .before .before .before .before .before .before .before .before .before .op-level .ensures) (c .before .before .before .before .before .before .before .before .if2 .left) (c .before .before .before .before .before .before .before .if3 .left) (refl))) in
     anew (c .again2 .ensures) (did-not (fails _ (link path on) (undone (c .before .match3 .keys2) (c .before .before .before .before .binop .ensures)) (prefix g (omega (arith, c .before .before .before .before .before .before .before .before .before .before .before .before .before .before .before .before .before .before .before .before .before .before .before .before .before .before .pre, c .before .before .before .before .before .before .before .before .before .before .before .before .before .before .before .before .before .before .before .before .unop2 .kept .1 .0, f .moved, f .room, g .moved, g .room, tk .within)) ∙ prefix f (omega (arith, c .before .before .before .before .before .before .before .before .before .before .before .before .before .before .before .before .before .before .before .before .before .before .before .before .before .before .pre, c .before .before .before .before .before .before .before .before .before .before .before .before .before .before .before .before .before .before .before .before .unop2 .kept .1 .0, f .moved, f .room, g .moved, g .room, tk .within))) (omega (arith, c .before .before .before .before .before .before .before .before .before .before .before .before .before .before .before .before .before .before .before .before .before .before .before .before .before .before .pre, c .before .before .before .before .before .before .before .before .before .before .before .before .before .before .before .before .before .before .before .before .unop2 .kept .1 .0, f .moved, f .room, g .moved, g .room, tk .within))))
 
-pub enum-known-s : (t : ℕ) → lts.Need-enum-known-s (binop-calls t) (binop-at t) reads.Post Inv-loop μ-loop
+pub enum-known-s : (t : ℕ) → lts.Need-enum-known-s (calls t) (binop-at t) reads.Post Inv-loop μ-loop
 enum-known-s t c = search needs
 
-pub same-length-6 : (t : ℕ) → lts.Need-same-length-6 (binop-calls t) (binop-at t) reads.Post Inv-loop μ-loop
+pub same-length-6 : (t : ℕ) → lts.Need-same-length-6 (calls t) (binop-at t) reads.Post Inv-loop μ-loop
 same-length-6 t c = search needs
 
-pub returns-6 : (t : ℕ) → lts.Need-returns-6 (binop-calls t) (binop-at t) reads.Post Inv-loop μ-loop
+pub returns-6 : (t : ℕ) → lts.Need-returns-6 (calls t) (binop-at t) reads.Post Inv-loop μ-loop
 returns-6 t c = let f = done (c .before .before .before .before .before .before .first .given .1) (c .before .before .before .before .before .before .before .before .before .before .unop2 .ensures) in
     let path = goes _ (way _ (binop-step _ _ _ _ (c .before .before .before .before .before .before .before .before .before .before .before .before .before .if1 .left))) (f .same) in
     let i = c .before .before .before .before .loop .inv in

@@ -15,62 +15,71 @@ use Rattle.cycle.proofs.PathsExpr.{left}
 use Rattle.cycle.proofs.PathsPrimary.{call-looks, call-empty, call-more}
 use Rattle.cycle.proofs.call.Reads as reads
 use Rattle.cycle.proofs.+arm+atom+begin+binop+block+body+call+catch+cond+def+dest+dots+each+expr+fun+group+index+item+jump+key+label+lhs+list+loops+param+part+path+prim+rhs+sig+stmt+sync+table+tail+term+tuple+turn+unop+val+whiles.Lts-call as lts
-use Rattle.cycle.proofs.+arm+atom+begin+binop+block+body+call+catch+cond+def+dest+dots+each+expr+fun+group+index+item+jump+key+label+lhs+list+loops+param+part+path+prim+rhs+sig+stmt+sync+table+tail+term+tuple+turn+unop+val+whiles.Proof.Base.{call-calls, call-at}
+use Rattle.cycle.proofs.expr.Reads as expr-reads
+use Rattle.nodes.proofs.records.bare_call.Reads as bare-call-reads
+use Rattle.nodes.proofs.records.call_end.Reads as call-end-reads
+use Rattle.scan.proofs.tokens.expect.Reads as expect-reads
+use Rattle.scan.proofs.tokens.look.Reads as look-reads
+use Rattle.cycle.proofs.+arm+atom+begin+binop+block+body+call+catch+cond+def+dest+dots+each+expr+fun+group+index+item+jump+key+label+lhs+list+loops+param+part+path+prim+rhs+sig+stmt+sync+table+tail+term+tuple+turn+unop+val+whiles.Proof.Below.{call-at, expr-below}
 
-pub look-requires : (t : ℕ) → lts.Need-look-requires (call-calls t) (call-at t) reads.Post
+-- what is known of the functions that it calls
+abbrev pub calls : ℕ → lts.Claims
+calls t = (look-reads.Asked, look-reads.Learnt, bare-call-reads.Asked, bare-call-reads.Learnt, expr-below t, expr-reads.Post, expect-reads.Asked, expect-reads.Learnt, call-end-reads.Asked, call-end-reads.Learnt)
+
+pub look-requires : (t : ℕ) → lts.Need-look-requires (calls t) (call-at t) reads.Post
 look-requires t c κs = search needs
 
-pub enum-known-kind : (t : ℕ) → lts.Need-enum-known-kind (call-calls t) (call-at t) reads.Post
+pub enum-known-kind : (t : ℕ) → lts.Need-enum-known-kind (calls t) (call-at t) reads.Post
 enum-known-kind t c = search needs
 
-pub add-t19 : (t : ℕ) → lts.Need-add-t19 (call-calls t) (call-at t) reads.Post
+pub add-t19 : (t : ℕ) → lts.Need-add-t19 (calls t) (call-at t) reads.Post
 add-t19 t c = let tk = taken (c .before .before .kind .given .1) (c .before .before .before .before .look .ensures) in
     omega arith
 
-pub bare-call-requires : (t : ℕ) → lts.Need-bare-call-requires (call-calls t) (call-at t) reads.Post
+pub bare-call-requires : (t : ℕ) → lts.Need-bare-call-requires (calls t) (call-at t) reads.Post
 bare-call-requires t c κs = let tk = taken (c .before .before .before .kind .given .1) (c .before .before .before .before .before .look .ensures) in
     omega arith
 
-pub same-length : (t : ℕ) → lts.Need-same-length (call-calls t) (call-at t) reads.Post
+pub same-length : (t : ℕ) → lts.Need-same-length (calls t) (call-at t) reads.Post
 same-length t c = search needs
 
-pub returns : (t : ℕ) → lts.Need-returns (call-calls t) (call-at t) reads.Post
+pub returns : (t : ℕ) → lts.Need-returns (calls t) (call-at t) reads.Post
 returns t c = let tk = taken (c .before .before .before .before .before .before .kind .given .1) (c .before .before .before .before .before .before .before .before .look .ensures) in
     let e = c .before .before .bare-call .ensures in
     record { how = made-added (Node.invoke none) e refl (way _ (call-empty _ _ tk (c .before .before .before .before .if1 .taken))) (omega arith) (omega (arith, e .up, e .far)) }
 
-pub expr-requires : (t : ℕ) → lts.Need-expr-requires (call-calls t) (call-at t) reads.Post
+pub expr-requires : (t : ℕ) → lts.Need-expr-requires (calls t) (call-at t) reads.Post
 expr-requires t c κs = omega arith
 
-pub enum-known-r : (t : ℕ) → lts.Need-enum-known-r (call-calls t) (call-at t) reads.Post
+pub enum-known-r : (t : ℕ) → lts.Need-enum-known-r (calls t) (call-at t) reads.Post
 enum-known-r t c = search needs
 
-pub same-length-2 : (t : ℕ) → lts.Need-same-length-2 (call-calls t) (call-at t) reads.Post
+pub same-length-2 : (t : ℕ) → lts.Need-same-length-2 (calls t) (call-at t) reads.Post
 same-length-2 t c = search needs
 
-pub returns-2 : (t : ℕ) → lts.Need-returns-2 (call-calls t) (call-at t) reads.Post
+pub returns-2 : (t : ℕ) → lts.Need-returns-2 (calls t) (call-at t) reads.Post
 returns-2 t c = let tk = taken (c .before .before .before .before .before .before .before .before .kind .given .1) (c .before .before .before .before .before .before .before .before .before .before .look .ensures) in
     let path = way _ (call-more _ _ tk (c .before .before .before .before .before .before .if1 .left)) in
     did-not (fails _ path (undone (c .match2 .keys2) (c .before .before .before .expr .ensures)) refl (omega arith))
 
-pub expect-requires : (t : ℕ) → lts.Need-expect-requires (call-calls t) (call-at t) reads.Post
+pub expect-requires : (t : ℕ) → lts.Need-expect-requires (calls t) (call-at t) reads.Post
 expect-requires t c κs = let w = done (c .before .r .given .1) (c .before .before .before .before .before .expr .ensures) in
     w .moved .within
 
-pub enum-known-s : (t : ℕ) → lts.Need-enum-known-s (call-calls t) (call-at t) reads.Post
+pub enum-known-s : (t : ℕ) → lts.Need-enum-known-s (calls t) (call-at t) reads.Post
 enum-known-s t c = search needs
 
-pub same-length-3 : (t : ℕ) → lts.Need-same-length-3 (call-calls t) (call-at t) reads.Post
+pub same-length-3 : (t : ℕ) → lts.Need-same-length-3 (calls t) (call-at t) reads.Post
 same-length-3 t c = search needs
 
-pub returns-3 : (t : ℕ) → lts.Need-returns-3 (call-calls t) (call-at t) reads.Post
+pub returns-3 : (t : ℕ) → lts.Need-returns-3 (calls t) (call-at t) reads.Post
 returns-3 t c = let tk = taken (c .before .before .before .before .before .before .before .before .before .before .before .before .kind .given .1) (c .before .before .before .before .before .before .before .before .before .before .before .before .before .before .look .ensures) in
     let path = way _ (call-more _ _ tk (c .before .before .before .before .before .before .before .before .before .before .if1 .left)) in
     let w = done (c .before .before .before .r .given .1) (c .before .before .before .before .before .before .before .expr .ensures) in
     let s1 = goes _ path (w .same) in
     did-not (lacks _ (unpassed (c .match3 .keys2) (c .before .expect .ensures)) s1 (prefix w (omega (arith, c .before .before .before .before .before .before .before .before .before .before .before .before .before .before .before .before .before .pre))) (omega (arith, c .before .before .before .before .before .before .before .before .before .before .before .before .before .before .before .before .before .pre, w .moved)))
 
-pub call-end-requires : (t : ℕ) → lts.Need-call-end-requires (call-calls t) (call-at t) reads.Post
+pub call-end-requires : (t : ℕ) → lts.Need-call-end-requires (calls t) (call-at t) reads.Post
 call-end-requires t c κs = let tk = taken (c .before .before .before .before .before .before .before .before .before .before .before .before .before .before .before .kind .given .1) (c .before .before .before .before .before .before .before .before .before .before .before .before .before .before .before .before .before .look .ensures) in
     let w = done (c .before .before .before .before .before .before .r .given .1) (c .before .before .before .before .before .before .before .before .before .before .expr .ensures) in
     let y = passed (c .before .before .s .given .1) (c .before .before .before .before .expect .ensures) in
@@ -79,13 +88,13 @@ call-end-requires t c κs = let tk = taken (c .before .before .before .before .b
     let h = taller w (omega (arith, c .before .before .before .before .before .before .before .before .before .before .before .before .before .before .before .before .before .before .before .before .pre)) in
     omega (arith, c .before .before .before .before .before .before .before .before .before .before .before .before .before .before .before .before .before .before .before .before .pre, h, w .moved, w .room, yo, yw, c .before .before .before .before .before .before .before .before .before .before .expr .kept .1 .0)
 
-pub enum-known-s-2 : (t : ℕ) → lts.Need-enum-known-s-2 (call-calls t) (call-at t) reads.Post
+pub enum-known-s-2 : (t : ℕ) → lts.Need-enum-known-s-2 (calls t) (call-at t) reads.Post
 enum-known-s-2 t c = search needs
 
-pub same-length-4 : (t : ℕ) → lts.Need-same-length-4 (call-calls t) (call-at t) reads.Post
+pub same-length-4 : (t : ℕ) → lts.Need-same-length-4 (calls t) (call-at t) reads.Post
 same-length-4 t c = search needs
 
-pub returns-4 : (t : ℕ) → lts.Need-returns-4 (call-calls t) (call-at t) reads.Post
+pub returns-4 : (t : ℕ) → lts.Need-returns-4 (calls t) (call-at t) reads.Post
 returns-4 t c = let tk = taken (c .before .before .before .before .before .before .before .before .before .before .before .before .before .before .before .before .before .before .kind .given .1) (c .before .before .before .before .before .before .before .before .before .before .before .before .before .before .before .before .before .before .before .before .look .ensures) in
     let path = way _ (call-more _ _ tk (c .before .before .before .before .before .before .before .before .before .before .before .before .before .before .before .before .if1 .left)) in
     let w = done (c .before .before .before .before .before .before .before .before .before .r .given .1) (c .before .before .before .before .before .before .before .before .before .before .before .before .before .expr .ensures) in
@@ -96,5 +105,5 @@ returns-4 t c = let tk = taken (c .before .before .before .before .before .befor
     let e = c .before .before .call-end .ensures in
     record { how = remade w e (given (expr-shape _ _ _) (w .same)) (gets _ (y .got) s1) (omega (arith, c .before .before .before .before .before .before .before .before .before .before .before .before .before .before .before .before .before .before .before .before .before .before .before .pre, w .moved, yo, yw)) (omega (arith, c .before .before .before .before .before .before .before .before .before .before .before .before .before .before .before .before .before .before .before .before .before .before .before .pre, w .moved, w .room, yo, yw, e .up, e .far)) }
 
-pub returns-5 : (t : ℕ) → lts.Need-returns-5 (call-calls t) (call-at t) reads.Post
+pub returns-5 : (t : ℕ) → lts.Need-returns-5 (calls t) (call-at t) reads.Post
 returns-5 t c = did-not (blind here (call-looks _ _ _) (not-taken (c .before .s2 .given .1) (c .before .before .before .look .ensures)) refl (omega arith))

@@ -13,7 +13,17 @@ use Rattle.grammar.specs.Reading.Block.{block-of}
 use Rattle.cycle.proofs.PathsStmt.{Going, closable, under, two-words, branches-step, behind-looks, behind-end, behind-else, behind-more, branch-text, branch-count, if-text, else-text, branch-before, else-before}
 use Rattle.cycle.proofs.cond.Reads as reads
 use Rattle.cycle.proofs.+arm+atom+begin+binop+block+body+call+catch+cond+def+dest+dots+each+expr+fun+group+index+item+jump+key+label+lhs+list+loops+param+part+path+prim+rhs+sig+stmt+sync+table+tail+term+tuple+turn+unop+val+whiles.Lts-cond as lts
-use Rattle.cycle.proofs.+arm+atom+begin+binop+block+body+call+catch+cond+def+dest+dots+each+expr+fun+group+index+item+jump+key+label+lhs+list+loops+param+part+path+prim+rhs+sig+stmt+sync+table+tail+term+tuple+turn+unop+val+whiles.Proof.Base.{cond-calls, cond-at}
+use Rattle.cycle.proofs.arm.Reads as arm-reads
+use Rattle.cycle.proofs.body.Reads as body-reads
+use Rattle.nodes.proofs.records.block_under.Reads as block-under-reads
+use Rattle.nodes.proofs.records.if_end.Reads as if-end-reads
+use Rattle.nodes.proofs.records.list_end.Reads as list-end-reads
+use Rattle.scan.proofs.tokens.look.Reads as look-reads
+use Rattle.cycle.proofs.+arm+atom+begin+binop+block+body+call+catch+cond+def+dest+dots+each+expr+fun+group+index+item+jump+key+label+lhs+list+loops+param+part+path+prim+rhs+sig+stmt+sync+table+tail+term+tuple+turn+unop+val+whiles.Proof.Below.{cond-at, arm-below, body-below}
+
+-- what is known of the functions that it calls
+abbrev pub calls : ℕ → lts.Claims
+calls t = (arm-below t, arm-reads.Post, look-reads.Asked, look-reads.Learnt, if-end-reads.Asked, if-end-reads.Learnt, list-end-reads.Asked, list-end-reads.Learnt, body-below t, body-reads.Post, block-under-reads.Asked, block-under-reads.Learnt)
 
 abbrev pub Inv-loop : lts.InvT-loop
 Inv-loop tokens store₀ queue₀ depth pos at waiting p₀ a₀ w₀ n₀ store queue p a w n = Going tokens store₀ queue₀ depth pos at waiting store queue p a w n
@@ -21,24 +31,24 @@ Inv-loop tokens store₀ queue₀ depth pos at waiting p₀ a₀ w₀ n₀ store
 abbrev pub μ-loop : lts.MeasureT-loop
 μ-loop tokens store₀ queue₀ depth pos at waiting p₀ a₀ w₀ n₀ store queue p a w n = length tokens - p
 
-pub loop-holds : (t : ℕ) → lts.Need-loop-holds (cond-calls t) (cond-at t) reads.Post Inv-loop μ-loop
+pub loop-holds : (t : ℕ) → lts.Need-loop-holds (calls t) (cond-at t) reads.Post Inv-loop μ-loop
 unfolding records count
 loop-holds t c = record { fuel = length (drop (c .before .before .args .pos) (c .before .before .args .tokens .now)); enough = rw length-drop (omega arith); run = record { what = none; same = here; moved = omega arith; room = omega arith; text = sym (append-nil (take (c .before .before .args .at) (c .before .before .args .store .now))) }; many = refl; short = omega arith; kept = refl }
 
-pub arm-requires : (t : ℕ) → lts.Need-arm-requires (cond-calls t) (cond-at t) reads.Post Inv-loop μ-loop
+pub arm-requires : (t : ℕ) → lts.Need-arm-requires (calls t) (cond-at t) reads.Post Inv-loop μ-loop
 arm-requires t c κs = let g = c .before .before .loop .inv in
     let gr = g .run in
     let gs = g .short in
     let gk = g .kept in
     omega (arith, c .before .before .before .before .before .pre, gr .moved, gr .room, gk)
 
-pub enum-known-r : (t : ℕ) → lts.Need-enum-known-r (cond-calls t) (cond-at t) reads.Post Inv-loop μ-loop
+pub enum-known-r : (t : ℕ) → lts.Need-enum-known-r (calls t) (cond-at t) reads.Post Inv-loop μ-loop
 enum-known-r t c = search needs
 
-pub same-length : (t : ℕ) → lts.Need-same-length (cond-calls t) (cond-at t) reads.Post Inv-loop μ-loop
+pub same-length : (t : ℕ) → lts.Need-same-length (calls t) (cond-at t) reads.Post Inv-loop μ-loop
 same-length t c = search needs
 
-pub returns : (t : ℕ) → lts.Need-returns (cond-calls t) (cond-at t) reads.Post Inv-loop μ-loop
+pub returns : (t : ℕ) → lts.Need-returns (calls t) (cond-at t) reads.Post Inv-loop μ-loop
 returns t c = let g = c .before .before .before .before .before .before .loop .inv in
     let gr = g .run in
     let gs = g .short in
@@ -46,26 +56,26 @@ returns t c = let g = c .before .before .before .before .before .before .loop .i
     let step = link (gr .same) (way _ (branches-step _ (g .fuel) (gr .what) _ _ _ (g .enough))) in
     did-not (fails _ step (undone (c .match .keys2) (c .before .before .before .arm .ensures)) (prefix gr (omega (arith, c .before .before .before .before .before .before .before .before .before .pre))) (omega (arith, gr .moved, gr .room)))
 
-pub look-requires : (t : ℕ) → lts.Need-look-requires (cond-calls t) (cond-at t) reads.Post Inv-loop μ-loop
+pub look-requires : (t : ℕ) → lts.Need-look-requires (calls t) (cond-at t) reads.Post Inv-loop μ-loop
 look-requires t c κs = let b = done (c .before .r .given .1) (c .before .before .before .before .before .arm .ensures) in
     b .moved .within
 
-pub enum-known-kind : (t : ℕ) → lts.Need-enum-known-kind (cond-calls t) (cond-at t) reads.Post Inv-loop μ-loop
+pub enum-known-kind : (t : ℕ) → lts.Need-enum-known-kind (calls t) (cond-at t) reads.Post Inv-loop μ-loop
 enum-known-kind t c = search needs
 
-pub add-t24 : (t : ℕ) → lts.Need-add-t24 (cond-calls t) (cond-at t) reads.Post Inv-loop μ-loop
+pub add-t24 : (t : ℕ) → lts.Need-add-t24 (calls t) (cond-at t) reads.Post Inv-loop μ-loop
 add-t24 t c = let b = done (c .before .before .before .before .before .before .r .given .1) (c .before .before .before .before .before .before .before .before .before .before .arm .ensures) in
     let tk = taken (c .before .before .kind .given .1) (c .before .before .before .before .look .ensures) in
     omega (arith, c .before .before .before .before .before .before .before .before .before .before .before .before .before .before .before .before .pre, tk .within)
 
-pub add-if-end : (t : ℕ) → lts.Need-add-if-end (cond-calls t) (cond-at t) reads.Post Inv-loop μ-loop
+pub add-if-end : (t : ℕ) → lts.Need-add-if-end (calls t) (cond-at t) reads.Post Inv-loop μ-loop
 add-if-end t c = let g = c .before .before .before .before .before .before .before .before .before .before .before .before .before .before .loop .inv in
     let gr = g .run in
     let gs = g .short in
     let gk = g .kept in
     omega (arith, c .before .before .before .before .before .before .before .before .before .before .before .before .before .before .before .before .before .pre, gr .moved, gs)
 
-pub if-end-requires : (t : ℕ) → lts.Need-if-end-requires (cond-calls t) (cond-at t) reads.Post Inv-loop μ-loop
+pub if-end-requires : (t : ℕ) → lts.Need-if-end-requires (calls t) (cond-at t) reads.Post Inv-loop μ-loop
 if-end-requires t c κs = let g = c .before .before .before .before .before .before .before .before .before .before .before .before .before .before .loop .inv in
     let gr = g .run in
     let gs = g .short in
@@ -74,10 +84,10 @@ if-end-requires t c κs = let g = c .before .before .before .before .before .bef
     let tk = taken (c .before .before .before .kind .given .1) (c .before .before .before .before .before .look .ensures) in
     (omega (arith, c .before .before .before .before .before .before .before .before .before .before .before .before .before .before .before .before .before .pre, gr .moved, gr .room, gk, b .moved, b .room, tk .within, c .before .before .before .before .before .before .before .before .before .before .before .arm .kept .1 .0), omega (arith, c .before .before .before .before .before .before .before .before .before .before .before .before .before .before .before .before .before .pre, gr .moved, gs))
 
-pub same-length-2 : (t : ℕ) → lts.Need-same-length-2 (cond-calls t) (cond-at t) reads.Post Inv-loop μ-loop
+pub same-length-2 : (t : ℕ) → lts.Need-same-length-2 (calls t) (cond-at t) reads.Post Inv-loop μ-loop
 same-length-2 t c = search needs
 
-pub returns-2 : (t : ℕ) → lts.Need-returns-2 (cond-calls t) (cond-at t) reads.Post Inv-loop μ-loop
+pub returns-2 : (t : ℕ) → lts.Need-returns-2 (calls t) (cond-at t) reads.Post Inv-loop μ-loop
 returns-2 t c = let g = c .before .before .before .before .before .before .before .before .before .before .before .before .before .before .before .before .before .loop .inv in
     let gr = g .run in
     let gs = g .short in
@@ -89,14 +99,14 @@ returns-2 t c = let g = c .before .before .before .before .before .before .befor
     let e = c .before .before .if-end .ensures in
     record { how = record { what = Node.if-expr (snoc (gr .what) (b .what)) Node.absent; same = link on (way _ (behind-end _ _ _ _ _ tk (c .before .before .before .before .match3 .keys1))); moved = omega (arith, gr .moved, b .moved, tk .within); room = omega (arith, gr .moved, gr .room, b .moved, b .room, tk .within, e .up, e .far); text = if-text gr b e (g .many) } }
 
-pub add-list-end : (t : ℕ) → lts.Need-add-list-end (cond-calls t) (cond-at t) reads.Post Inv-loop μ-loop
+pub add-list-end : (t : ℕ) → lts.Need-add-list-end (calls t) (cond-at t) reads.Post Inv-loop μ-loop
 add-list-end t c = let g = c .before .before .before .before .before .before .before .before .before .before .before .before .before .before .loop .inv in
     let gr = g .run in
     let gs = g .short in
     let gk = g .kept in
     omega (arith, c .before .before .before .before .before .before .before .before .before .before .before .before .before .before .before .before .before .pre, gr .moved, gs)
 
-pub list-end-requires : (t : ℕ) → lts.Need-list-end-requires (cond-calls t) (cond-at t) reads.Post Inv-loop μ-loop
+pub list-end-requires : (t : ℕ) → lts.Need-list-end-requires (calls t) (cond-at t) reads.Post Inv-loop μ-loop
 list-end-requires t c κs = let g = c .before .before .before .before .before .before .before .before .before .before .before .before .before .before .loop .inv in
     let gr = g .run in
     let gs = g .short in
@@ -105,11 +115,11 @@ list-end-requires t c κs = let g = c .before .before .before .before .before .b
     let tk = taken (c .before .before .before .kind .given .1) (c .before .before .before .before .before .look .ensures) in
     (omega (arith, c .before .before .before .before .before .before .before .before .before .before .before .before .before .before .before .before .before .pre, gr .moved, gr .room, gk, b .moved, b .room, tk .within, c .before .before .before .before .before .before .before .before .before .before .before .arm .kept .1 .0), omega (arith, c .before .before .before .before .before .before .before .before .before .before .before .before .before .before .before .before .before .pre, gr .moved, gs))
 
-pub add-body : (t : ℕ) → lts.Need-add-body (cond-calls t) (cond-at t) reads.Post Inv-loop μ-loop
+pub add-body : (t : ℕ) → lts.Need-add-body (calls t) (cond-at t) reads.Post Inv-loop μ-loop
 add-body t c = let tk = taken (c .before .before .before .before .before .before .before .before .kind .given .1) (c .before .before .before .before .before .before .before .before .before .before .look .ensures) in
     omega (arith, c .before .before .before .before .before .before .before .before .before .before .before .before .before .before .before .before .before .before .before .before .before .before .pre, tk .within)
 
-pub body-requires : (t : ℕ) → lts.Need-body-requires (cond-calls t) (cond-at t) reads.Post Inv-loop μ-loop
+pub body-requires : (t : ℕ) → lts.Need-body-requires (calls t) (cond-at t) reads.Post Inv-loop μ-loop
 body-requires t c κs = let g = c .before .before .before .before .before .before .before .before .before .before .before .before .before .before .before .before .before .before .before .loop .inv in
     let gr = g .run in
     let gs = g .short in
@@ -119,7 +129,7 @@ body-requires t c κs = let g = c .before .before .before .before .before .befor
     let le = c .before .before .before .before .list-end .ensures in
     omega (arith, c .before .before .before .before .before .before .before .before .before .before .before .before .before .before .before .before .before .before .before .before .before .before .pre, gr .moved, gr .room, gk, b .moved, b .room, tk .within, le .next, le .whole, c .before .before .before .before .before .before .before .before .before .before .before .before .before .before .before .before .arm .kept .1 .0, c .before .before .before .before .list-end .kept .0)
 
-pub block-under-requires : (t : ℕ) → lts.Need-block-under-requires (cond-calls t) (cond-at t) reads.Post Inv-loop μ-loop
+pub block-under-requires : (t : ℕ) → lts.Need-block-under-requires (calls t) (cond-at t) reads.Post Inv-loop μ-loop
 block-under-requires t c κs = let g = c .before .before .before .before .before .before .before .before .before .before .before .before .before .before .before .before .before .before .before .before .before .before .before .loop .inv in
     let gr = g .run in
     let gs = g .short in
@@ -129,12 +139,12 @@ block-under-requires t c κs = let g = c .before .before .before .before .before
     let le = c .before .before .before .before .before .before .before .before .list-end .ensures in
     closable _ (c .before .before .before .body .ensures) (omega (arith, c .before .before .before .before .before .before .before .before .before .before .before .before .before .before .before .before .before .before .before .before .before .before .before .before .before .before .pre, gr .moved, gr .room, gk, b .moved, b .room, tk .within, le .next, le .whole, c .before .before .before .before .before .before .before .before .before .before .before .before .before .before .before .before .before .before .before .before .arm .kept .1 .0, c .before .before .before .before .before .before .before .before .list-end .kept .0, c .before .before .before .body .kept .1 .0))
 
-pub same-length-3 : (t : ℕ) → lts.Need-same-length-3 (cond-calls t) (cond-at t) reads.Post Inv-loop μ-loop
+pub same-length-3 : (t : ℕ) → lts.Need-same-length-3 (calls t) (cond-at t) reads.Post Inv-loop μ-loop
 same-length-3 t c = let g = c .before .before .before .before .before .before .before .before .before .before .before .before .before .before .before .before .before .before .before .before .before .before .before .before .before .before .loop .inv in
     let gk = g .kept in
     omega (arith, gk, c .before .before .before .before .before .before .before .before .before .before .before .before .before .before .before .before .before .before .before .before .before .before .before .arm .kept .1 .0, c .before .before .before .before .before .before .before .before .before .before .before .list-end .kept .0, c .before .before .before .before .before .before .body .kept .1 .0, c .before .before .block-under .kept .0)
 
-pub returns-3 : (t : ℕ) → lts.Need-returns-3 (cond-calls t) (cond-at t) reads.Post Inv-loop μ-loop
+pub returns-3 : (t : ℕ) → lts.Need-returns-3 (calls t) (cond-at t) reads.Post Inv-loop μ-loop
 returns-3 t c = let g = c .before .before .before .before .before .before .before .before .before .before .before .before .before .before .before .before .before .before .before .before .before .before .before .before .before .before .loop .inv in
     let gr = g .run in
     let gs = g .short in
@@ -147,24 +157,24 @@ returns-3 t c = let g = c .before .before .before .before .before .before .befor
     let y = else-text gr b le (g .many) in
     under (λ s. Node.if-expr (snoc (gr .what) (b .what)) (block-of s)) (records (Node.list (snoc (gr .what) (b .what)))) (c .before .before .before .before .before .before .body .ensures) (c .before .before .block-under .ensures) (link on (way _ (behind-else _ _ _ _ _ tk (c .before .before .before .before .before .before .before .before .before .before .before .before .before .match3 .keys2)))) y (λ s. two-words 18 _ _ _) (else-before gr b le (g .many) (omega (arith, c .before .before .before .before .before .before .before .before .before .before .before .before .before .before .before .before .before .before .before .before .before .before .before .before .before .before .before .before .before .pre))) (omega (arith, c .before .before .before .before .before .before .before .before .before .before .before .before .before .before .before .before .before .before .before .before .before .before .before .before .before .before .before .before .before .pre, gr .moved, gr .room, gk, b .moved, b .room, tk .within, le .next, le .whole, c .before .before .before .before .before .before .before .before .before .before .before .before .before .before .before .before .before .before .before .before .before .before .before .arm .kept .1 .0, c .before .before .before .before .before .before .before .before .before .before .before .list-end .kept .0))
 
-pub add-p : (t : ℕ) → lts.Need-add-p (cond-calls t) (cond-at t) reads.Post Inv-loop μ-loop
+pub add-p : (t : ℕ) → lts.Need-add-p (calls t) (cond-at t) reads.Post Inv-loop μ-loop
 add-p t c = let tk = taken (c .before .before .kind .given .1) (c .before .before .before .before .look .ensures) in
     omega (arith, c .before .before .before .before .before .before .before .before .before .before .before .before .before .before .before .before .pre, tk .within)
 
-pub add-n : (t : ℕ) → lts.Need-add-n (cond-calls t) (cond-at t) reads.Post Inv-loop μ-loop
+pub add-n : (t : ℕ) → lts.Need-add-n (calls t) (cond-at t) reads.Post Inv-loop μ-loop
 add-n t c = let g = c .before .before .before .before .before .before .before .before .before .before .before .before .before .loop .inv in
     let gr = g .run in
     let gs = g .short in
     omega (arith, c .before .before .before .before .before .before .before .before .before .before .before .before .before .before .before .before .pre, gr .moved, gs)
 
-pub loop-less : (t : ℕ) → lts.Need-loop-less (cond-calls t) (cond-at t) reads.Post Inv-loop μ-loop
+pub loop-less : (t : ℕ) → lts.Need-loop-less (calls t) (cond-at t) reads.Post Inv-loop μ-loop
 loop-less t c = let g = c .before .before .before .before .before .before .before .before .before .before .before .before .before .loop .inv in
     let gr = g .run in
     let b = done (c .before .before .before .before .before .before .r .given .1) (c .before .before .before .before .before .before .before .before .before .before .arm .ensures) in
     let tk = taken (c .before .before .kind .given .1) (c .before .before .before .before .look .ensures) in
     omega (arith, gr .moved, b .moved, tk .within)
 
-pub loop-again : (t : ℕ) → lts.Need-loop-again (cond-calls t) (cond-at t) reads.Post Inv-loop μ-loop
+pub loop-again : (t : ℕ) → lts.Need-loop-again (calls t) (cond-at t) reads.Post Inv-loop μ-loop
 loop-again t c = let g = c .before .before .before .before .before .before .before .before .before .before .before .before .before .loop .inv in
     let gr = g .run in
     let gs = g .short in
@@ -175,13 +185,13 @@ loop-again t c = let g = c .before .before .before .before .before .before .befo
     let on = goes _ step (b .same) in
     record { fuel = g .fuel - 1; enough = omega (arith, g .enough, b .moved); run = record { what = snoc (gr .what) (b .what); same = link on (way _ (behind-more _ _ _ _ _ tk (c .match3 .rest .0 .1) (c .match3 .rest .1))); moved = omega (arith, gr .moved, b .moved, tk .within); room = omega (arith, gr .moved, gr .room, b .moved, b .room, tk .within); text = branch-text gr b }; many = branch-count gr b (g .many); short = omega (arith, gs, b .moved); kept = omega (arith, gk, c .before .before .before .before .before .before .before .before .before .before .arm .kept .1 .0) }
 
-pub enum-known-s : (t : ℕ) → lts.Need-enum-known-s (cond-calls t) (cond-at t) reads.Post Inv-loop μ-loop
+pub enum-known-s : (t : ℕ) → lts.Need-enum-known-s (calls t) (cond-at t) reads.Post Inv-loop μ-loop
 enum-known-s t c = search needs
 
-pub same-length-4 : (t : ℕ) → lts.Need-same-length-4 (cond-calls t) (cond-at t) reads.Post Inv-loop μ-loop
+pub same-length-4 : (t : ℕ) → lts.Need-same-length-4 (calls t) (cond-at t) reads.Post Inv-loop μ-loop
 same-length-4 t c = search needs
 
-pub returns-4 : (t : ℕ) → lts.Need-returns-4 (cond-calls t) (cond-at t) reads.Post Inv-loop μ-loop
+pub returns-4 : (t : ℕ) → lts.Need-returns-4 (calls t) (cond-at t) reads.Post Inv-loop μ-loop
 returns-4 t c = let g = c .before .before .before .before .before .before .before .before .before .before .before .before .loop .inv in
     let gr = g .run in
     let gs = g .short in

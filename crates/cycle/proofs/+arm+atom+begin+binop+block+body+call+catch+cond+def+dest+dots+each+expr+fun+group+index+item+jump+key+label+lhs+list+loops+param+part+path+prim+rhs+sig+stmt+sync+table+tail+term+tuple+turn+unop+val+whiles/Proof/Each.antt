@@ -10,38 +10,45 @@ use Rattle.grammar.specs.Reading.Stmt.{stmt-list-of}
 use Rattle.cycle.proofs.PathsStmt.{renamed, three-words, for-step, turning-as}
 use Rattle.cycle.proofs.each.Reads as reads
 use Rattle.cycle.proofs.+arm+atom+begin+binop+block+body+call+catch+cond+def+dest+dots+each+expr+fun+group+index+item+jump+key+label+lhs+list+loops+param+part+path+prim+rhs+sig+stmt+sync+table+tail+term+tuple+turn+unop+val+whiles.Lts-each as lts
-use Rattle.cycle.proofs.+arm+atom+begin+binop+block+body+call+catch+cond+def+dest+dots+each+expr+fun+group+index+item+jump+key+label+lhs+list+loops+param+part+path+prim+rhs+sig+stmt+sync+table+tail+term+tuple+turn+unop+val+whiles.Proof.Base.{each-calls, each-at}
+use Rattle.cycle.proofs.lhs.Reads as lhs-reads
+use Rattle.cycle.proofs.whiles.Reads as whiles-reads
+use Rattle.scan.proofs.tokens.expect.Reads as expect-reads
+use Rattle.cycle.proofs.+arm+atom+begin+binop+block+body+call+catch+cond+def+dest+dots+each+expr+fun+group+index+item+jump+key+label+lhs+list+loops+param+part+path+prim+rhs+sig+stmt+sync+table+tail+term+tuple+turn+unop+val+whiles.Proof.Below.{each-at, lhs-below, whiles-below}
 
-pub lhs-requires : (t : ℕ) → lts.Need-lhs-requires (each-calls t) (each-at t) reads.Post
+-- what is known of the functions that it calls
+abbrev pub calls : ℕ → lts.Claims
+calls t = (lhs-below t, lhs-reads.Post, expect-reads.Asked, expect-reads.Learnt, whiles-below t, whiles-reads.Post)
+
+pub lhs-requires : (t : ℕ) → lts.Need-lhs-requires (calls t) (each-at t) reads.Post
 lhs-requires t c κs = omega arith
 
-pub enum-known-r : (t : ℕ) → lts.Need-enum-known-r (each-calls t) (each-at t) reads.Post
+pub enum-known-r : (t : ℕ) → lts.Need-enum-known-r (calls t) (each-at t) reads.Post
 enum-known-r t c = search needs
 
-pub same-length : (t : ℕ) → lts.Need-same-length (each-calls t) (each-at t) reads.Post
+pub same-length : (t : ℕ) → lts.Need-same-length (calls t) (each-at t) reads.Post
 same-length t c = search needs
 
-pub returns : (t : ℕ) → lts.Need-returns (each-calls t) (each-at t) reads.Post
+pub returns : (t : ℕ) → lts.Need-returns (calls t) (each-at t) reads.Post
 returns t c = let path = way _ (for-step _ _ _ _) in
     did-not (fails _ path (undone (c .match .keys2) (c .before .before .before .lhs .ensures)) refl (omega arith))
 
-pub expect-requires : (t : ℕ) → lts.Need-expect-requires (each-calls t) (each-at t) reads.Post
+pub expect-requires : (t : ℕ) → lts.Need-expect-requires (calls t) (each-at t) reads.Post
 expect-requires t c κs = let w = done (c .before .r .given .1) (c .before .before .before .before .before .lhs .ensures) in
     w .moved .within
 
-pub enum-known-s : (t : ℕ) → lts.Need-enum-known-s (each-calls t) (each-at t) reads.Post
+pub enum-known-s : (t : ℕ) → lts.Need-enum-known-s (calls t) (each-at t) reads.Post
 enum-known-s t c = search needs
 
-pub same-length-2 : (t : ℕ) → lts.Need-same-length-2 (each-calls t) (each-at t) reads.Post
+pub same-length-2 : (t : ℕ) → lts.Need-same-length-2 (calls t) (each-at t) reads.Post
 same-length-2 t c = search needs
 
-pub returns-2 : (t : ℕ) → lts.Need-returns-2 (each-calls t) (each-at t) reads.Post
+pub returns-2 : (t : ℕ) → lts.Need-returns-2 (calls t) (each-at t) reads.Post
 returns-2 t c = let w = done (c .before .before .before .r .given .1) (c .before .before .before .before .before .before .before .lhs .ensures) in
     let path = way _ (for-step _ _ _ _) in
     let on = goes _ path (w .same) in
     did-not (lacks _ (unpassed (c .match2 .keys2) (c .before .expect .ensures)) on (prefix w (omega arith)) (omega arith))
 
-pub whiles-requires : (t : ℕ) → lts.Need-whiles-requires (each-calls t) (each-at t) reads.Post
+pub whiles-requires : (t : ℕ) → lts.Need-whiles-requires (calls t) (each-at t) reads.Post
 whiles-requires t c κs = let w = done (c .before .before .before .before .before .before .before .r .given .1) (c .before .before .before .before .before .before .before .before .before .before .before .lhs .ensures) in
     let ps = passed (c .before .before .before .s .given .1) (c .before .before .before .before .before .expect .ensures) in
     let g = ps .got in
@@ -49,10 +56,10 @@ whiles-requires t c κs = let w = done (c .before .before .before .before .befor
     let gwithin = g .within in
     omega arith
 
-pub same-length-3 : (t : ℕ) → lts.Need-same-length-3 (each-calls t) (each-at t) reads.Post
+pub same-length-3 : (t : ℕ) → lts.Need-same-length-3 (calls t) (each-at t) reads.Post
 same-length-3 t c = search needs
 
-pub returns-3 : (t : ℕ) → lts.Need-returns-3 (each-calls t) (each-at t) reads.Post
+pub returns-3 : (t : ℕ) → lts.Need-returns-3 (calls t) (each-at t) reads.Post
 returns-3 t c = let w = done (c .before .before .before .before .before .before .before .before .before .before .r .given .1) (c .before .before .before .before .before .before .before .before .before .before .before .before .before .before .lhs .ensures) in
     let path = way _ (for-step _ _ _ _) in
     let on = goes _ path (w .same) in

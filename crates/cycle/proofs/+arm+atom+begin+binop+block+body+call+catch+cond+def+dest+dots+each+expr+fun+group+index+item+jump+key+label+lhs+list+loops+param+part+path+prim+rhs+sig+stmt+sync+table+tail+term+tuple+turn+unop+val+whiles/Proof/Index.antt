@@ -11,28 +11,34 @@ use Rattle.cycle.proofs.Shapes.{given}
 use Rattle.cycle.proofs.PathsPrimary.{index-step}
 use Rattle.cycle.proofs.index.Reads as reads
 use Rattle.cycle.proofs.+arm+atom+begin+binop+block+body+call+catch+cond+def+dest+dots+each+expr+fun+group+index+item+jump+key+label+lhs+list+loops+param+part+path+prim+rhs+sig+stmt+sync+table+tail+term+tuple+turn+unop+val+whiles.Lts-index as lts
-use Rattle.cycle.proofs.+arm+atom+begin+binop+block+body+call+catch+cond+def+dest+dots+each+expr+fun+group+index+item+jump+key+label+lhs+list+loops+param+part+path+prim+rhs+sig+stmt+sync+table+tail+term+tuple+turn+unop+val+whiles.Proof.Base.{index-calls, index-at}
+use Rattle.cycle.proofs.expr.Reads as expr-reads
+use Rattle.scan.proofs.tokens.expect.Reads as expect-reads
+use Rattle.cycle.proofs.+arm+atom+begin+binop+block+body+call+catch+cond+def+dest+dots+each+expr+fun+group+index+item+jump+key+label+lhs+list+loops+param+part+path+prim+rhs+sig+stmt+sync+table+tail+term+tuple+turn+unop+val+whiles.Proof.Below.{index-at, expr-below}
 
-pub expr-requires : (t : ℕ) → lts.Need-expr-requires (index-calls t) (index-at t) reads.Post
+-- what is known of the functions that it calls
+abbrev pub calls : ℕ → lts.Claims
+calls t = (expr-below t, expr-reads.Post, expect-reads.Asked, expect-reads.Learnt)
+
+pub expr-requires : (t : ℕ) → lts.Need-expr-requires (calls t) (index-at t) reads.Post
 expr-requires t c κs = omega arith
 
-pub enum-known-r : (t : ℕ) → lts.Need-enum-known-r (index-calls t) (index-at t) reads.Post
+pub enum-known-r : (t : ℕ) → lts.Need-enum-known-r (calls t) (index-at t) reads.Post
 enum-known-r t c = search needs
 
-pub same-length : (t : ℕ) → lts.Need-same-length (index-calls t) (index-at t) reads.Post
+pub same-length : (t : ℕ) → lts.Need-same-length (calls t) (index-at t) reads.Post
 same-length t c = search needs
 
-pub returns : (t : ℕ) → lts.Need-returns (index-calls t) (index-at t) reads.Post
+pub returns : (t : ℕ) → lts.Need-returns (calls t) (index-at t) reads.Post
 returns t c = did-not (fails _ (way _ (index-step _ _ _)) (undone (c .match .keys2) (c .before .before .before .expr .ensures)) refl (omega arith))
 
-pub expect-requires : (t : ℕ) → lts.Need-expect-requires (index-calls t) (index-at t) reads.Post
+pub expect-requires : (t : ℕ) → lts.Need-expect-requires (calls t) (index-at t) reads.Post
 expect-requires t c κs = let w = done (c .before .r .given .1) (c .before .before .before .before .before .expr .ensures) in
     w .moved .within
 
-pub same-length-2 : (t : ℕ) → lts.Need-same-length-2 (index-calls t) (index-at t) reads.Post
+pub same-length-2 : (t : ℕ) → lts.Need-same-length-2 (calls t) (index-at t) reads.Post
 same-length-2 t c = search needs
 
-pub returns-2 : (t : ℕ) → lts.Need-returns-2 (index-calls t) (index-at t) reads.Post
+pub returns-2 : (t : ℕ) → lts.Need-returns-2 (calls t) (index-at t) reads.Post
 returns-2 t c = let w = done (c .before .before .r .given .1) (c .before .before .before .before .before .before .expr .ensures) in
     let on = goes _ (way _ (index-step _ _ _)) (w .same) in
     closed-by w (omega (arith, c .before .before .before .before .before .before .before .before .before .before .before .pre)) on (c .expect .ensures) (omega arith) (omega arith)

@@ -10,64 +10,72 @@ use Rattle.scan.proofs.Looking.{name-small}
 use Rattle.cycle.proofs.PathsPrimary.{writing, field-looks, field-square, field-named}
 use Rattle.cycle.proofs.key.Reads as reads
 use Rattle.cycle.proofs.+arm+atom+begin+binop+block+body+call+catch+cond+def+dest+dots+each+expr+fun+group+index+item+jump+key+label+lhs+list+loops+param+part+path+prim+rhs+sig+stmt+sync+table+tail+term+tuple+turn+unop+val+whiles.Lts-key as lts
-use Rattle.cycle.proofs.+arm+atom+begin+binop+block+body+call+catch+cond+def+dest+dots+each+expr+fun+group+index+item+jump+key+label+lhs+list+loops+param+part+path+prim+rhs+sig+stmt+sync+table+tail+term+tuple+turn+unop+val+whiles.Proof.Base.{key-calls, key-at}
+use Rattle.cycle.proofs.index.Reads as index-reads
+use Rattle.nodes.proofs.fields.named_field.Reads as named-field-reads
+use Rattle.scan.proofs.tokens.look.Reads as look-reads
+use Rattle.tree.proofs.emit.Reads as emit-reads
+use Rattle.cycle.proofs.+arm+atom+begin+binop+block+body+call+catch+cond+def+dest+dots+each+expr+fun+group+index+item+jump+key+label+lhs+list+loops+param+part+path+prim+rhs+sig+stmt+sync+table+tail+term+tuple+turn+unop+val+whiles.Proof.Below.{key-at, index-below}
 
-pub look-requires : (t : ℕ) → lts.Need-look-requires (key-calls t) (key-at t) reads.Post
+-- what is known of the functions that it calls
+abbrev pub calls : ℕ → lts.Claims
+calls t = (look-reads.Asked, look-reads.Learnt, named-field-reads.Asked, named-field-reads.Learnt, index-below t, index-reads.Post, emit-reads.Asked, emit-reads.Learnt)
+
+pub look-requires : (t : ℕ) → lts.Need-look-requires (calls t) (key-at t) reads.Post
 look-requires t c κs = search needs
 
-pub enum-known-kind : (t : ℕ) → lts.Need-enum-known-kind (key-calls t) (key-at t) reads.Post
+pub enum-known-kind : (t : ℕ) → lts.Need-enum-known-kind (calls t) (key-at t) reads.Post
 enum-known-kind t c = search needs
 
-pub add-named-field : (t : ℕ) → lts.Need-add-named-field (key-calls t) (key-at t) reads.Post
+pub add-named-field : (t : ℕ) → lts.Need-add-named-field (calls t) (key-at t) reads.Post
 add-named-field t c = let tk = taken (c .before .before .before .kind .given .1) (c .before .before .before .before .before .look .ensures) in
     omega arith
 
-pub named-field-requires : (t : ℕ) → lts.Need-named-field-requires (key-calls t) (key-at t) reads.Post
+pub named-field-requires : (t : ℕ) → lts.Need-named-field-requires (calls t) (key-at t) reads.Post
 named-field-requires t c κs = let tk = taken (c .before .before .before .kind .given .1) (c .before .before .before .before .before .look .ensures) in
     (omega arith, omega arith, λ e. name-small (tk .fits) e)
 
-pub same-length : (t : ℕ) → lts.Need-same-length (key-calls t) (key-at t) reads.Post
+pub same-length : (t : ℕ) → lts.Need-same-length (calls t) (key-at t) reads.Post
 same-length t c = search needs
 
-pub returns : (t : ℕ) → lts.Need-returns (key-calls t) (key-at t) reads.Post
+pub returns : (t : ℕ) → lts.Need-returns (calls t) (key-at t) reads.Post
 returns t c = let tk = taken (c .before .before .before .before .before .before .kind .given .1) (c .before .before .before .before .before .before .before .before .look .ensures) in
     writing (c .before .before .named-field .ensures) (way _ (field-named _ _ tk (c .before .before .before .before .if1 .taken))) refl (omega (arith, c .before .before .before .before .before .before .before .before .before .before .before .pre, tk .within)) (omega (arith, c .before .before .before .before .before .before .before .before .before .before .before .pre)) (omega (arith, c .before .before .before .before .before .before .before .before .before .before .before .pre, tk .within, c .before .before .named-field .kept .1 .0)) (omega arith)
 
-pub add-index : (t : ℕ) → lts.Need-add-index (key-calls t) (key-at t) reads.Post
+pub add-index : (t : ℕ) → lts.Need-add-index (calls t) (key-at t) reads.Post
 add-index t c = let tk = taken (c .before .before .before .before .kind .given .1) (c .before .before .before .before .before .before .look .ensures) in
     omega arith
 
-pub index-requires : (t : ℕ) → lts.Need-index-requires (key-calls t) (key-at t) reads.Post
+pub index-requires : (t : ℕ) → lts.Need-index-requires (calls t) (key-at t) reads.Post
 index-requires t c κs = let tk = taken (c .before .before .before .before .kind .given .1) (c .before .before .before .before .before .before .look .ensures) in
     omega arith
 
-pub enum-known-r : (t : ℕ) → lts.Need-enum-known-r (key-calls t) (key-at t) reads.Post
+pub enum-known-r : (t : ℕ) → lts.Need-enum-known-r (calls t) (key-at t) reads.Post
 enum-known-r t c = search needs
 
-pub same-length-2 : (t : ℕ) → lts.Need-same-length-2 (key-calls t) (key-at t) reads.Post
+pub same-length-2 : (t : ℕ) → lts.Need-same-length-2 (calls t) (key-at t) reads.Post
 same-length-2 t c = search needs
 
-pub returns-2 : (t : ℕ) → lts.Need-returns-2 (key-calls t) (key-at t) reads.Post
+pub returns-2 : (t : ℕ) → lts.Need-returns-2 (calls t) (key-at t) reads.Post
 returns-2 t c = let tk = taken (c .before .before .before .before .before .before .before .before .kind .given .1) (c .before .before .before .before .before .before .before .before .before .before .look .ensures) in
     let path = way _ (field-square _ _ tk (c .before .before .before .before .before .before .if1 .left)) in
     did-not (fails _ path (undone (c .match2 .keys2) (c .before .before .before .index .ensures)) refl (omega arith))
 
-pub emit-requires : (t : ℕ) → lts.Need-emit-requires (key-calls t) (key-at t) reads.Post
+pub emit-requires : (t : ℕ) → lts.Need-emit-requires (calls t) (key-at t) reads.Post
 emit-requires t c κs = let tk = taken (c .before .before .before .before .before .before .before .before .before .before .before .kind .given .1) (c .before .before .before .before .before .before .before .before .before .before .before .before .before .look .ensures) in
     let w = done (c .before .before .r .given .1) (c .before .before .before .before .before .before .index .ensures) in
     omega (arith, c .before .before .before .before .before .before .before .before .before .before .before .before .before .before .before .before .pre, tk .within, w .moved, w .room, c .before .before .before .before .before .before .index .kept .1 .0)
 
-pub enum-known-s : (t : ℕ) → lts.Need-enum-known-s (key-calls t) (key-at t) reads.Post
+pub enum-known-s : (t : ℕ) → lts.Need-enum-known-s (calls t) (key-at t) reads.Post
 enum-known-s t c = search needs
 
-pub same-length-3 : (t : ℕ) → lts.Need-same-length-3 (key-calls t) (key-at t) reads.Post
+pub same-length-3 : (t : ℕ) → lts.Need-same-length-3 (calls t) (key-at t) reads.Post
 same-length-3 t c = search needs
 
-pub returns-3 : (t : ℕ) → lts.Need-returns-3 (key-calls t) (key-at t) reads.Post
+pub returns-3 : (t : ℕ) → lts.Need-returns-3 (calls t) (key-at t) reads.Post
 returns-3 t c = let tk = taken (c .before .before .before .before .before .before .before .before .before .before .before .before .before .before .kind .given .1) (c .before .before .before .before .before .before .before .before .before .before .before .before .before .before .before .before .look .ensures) in
     let path = way _ (field-square _ _ tk (c .before .before .before .before .before .before .before .before .before .before .before .before .if1 .left)) in
     let w = done (c .before .before .before .before .before .r .given .1) (c .before .before .before .before .before .before .before .before .before .index .ensures) in
     record { how = made-one 28 w (c .before .before .emit .ensures) (goes _ path (w .same)) (omega (arith, c .before .before .before .before .before .before .before .before .before .before .before .before .before .before .before .before .before .before .before .pre, tk .within, w .moved)) (omega (arith, w .room, c .before .before .emit .ensures .next)) refl }
 
-pub returns-4 : (t : ℕ) → lts.Need-returns-4 (key-calls t) (key-at t) reads.Post
+pub returns-4 : (t : ℕ) → lts.Need-returns-4 (calls t) (key-at t) reads.Post
 returns-4 t c = did-not (blind here (field-looks _ _ _) (not-taken (c .before .s .given .1) (c .before .before .before .look .ensures)) refl (omega arith))

@@ -10,66 +10,74 @@ use Rattle.grammar.specs.Reading.Stmt.{stmt-list-of}
 use Rattle.cycle.proofs.PathsStmt.{fails-with, renamed, two-words, while-as, stmt-label-looks, label-loop, label-while, label-for, label-alone}
 use Rattle.cycle.proofs.label.Reads as reads
 use Rattle.cycle.proofs.+arm+atom+begin+binop+block+body+call+catch+cond+def+dest+dots+each+expr+fun+group+index+item+jump+key+label+lhs+list+loops+param+part+path+prim+rhs+sig+stmt+sync+table+tail+term+tuple+turn+unop+val+whiles.Lts-label as lts
-use Rattle.cycle.proofs.+arm+atom+begin+binop+block+body+call+catch+cond+def+dest+dots+each+expr+fun+group+index+item+jump+key+label+lhs+list+loops+param+part+path+prim+rhs+sig+stmt+sync+table+tail+term+tuple+turn+unop+val+whiles.Proof.Base.{label-calls, label-at}
+use Rattle.cycle.proofs.each.Reads as each-reads
+use Rattle.cycle.proofs.loops.Reads as loops-reads
+use Rattle.cycle.proofs.whiles.Reads as whiles-reads
+use Rattle.scan.proofs.tokens.look.Reads as look-reads
+use Rattle.cycle.proofs.+arm+atom+begin+binop+block+body+call+catch+cond+def+dest+dots+each+expr+fun+group+index+item+jump+key+label+lhs+list+loops+param+part+path+prim+rhs+sig+stmt+sync+table+tail+term+tuple+turn+unop+val+whiles.Proof.Below.{label-at, loops-below, whiles-below, each-below}
 
-pub look-requires : (t : ℕ) → lts.Need-look-requires (label-calls t) (label-at t) reads.Post
+-- what is known of the functions that it calls
+abbrev pub calls : ℕ → lts.Claims
+calls t = (look-reads.Asked, look-reads.Learnt, loops-below t, loops-reads.Post, whiles-below t, whiles-reads.Post, each-below t, each-reads.Post)
+
+pub look-requires : (t : ℕ) → lts.Need-look-requires (calls t) (label-at t) reads.Post
 look-requires t c κs = search needs
 
-pub enum-known-kind : (t : ℕ) → lts.Need-enum-known-kind (label-calls t) (label-at t) reads.Post
+pub enum-known-kind : (t : ℕ) → lts.Need-enum-known-kind (calls t) (label-at t) reads.Post
 enum-known-kind t c = search needs
 
-pub add-loops : (t : ℕ) → lts.Need-add-loops (label-calls t) (label-at t) reads.Post
+pub add-loops : (t : ℕ) → lts.Need-add-loops (calls t) (label-at t) reads.Post
 add-loops t c = let tk = taken (c .before .before .before .before .kind .given .1) (c .before .before .before .before .before .before .look .ensures) in
     omega arith
 
-pub loops-requires : (t : ℕ) → lts.Need-loops-requires (label-calls t) (label-at t) reads.Post
+pub loops-requires : (t : ℕ) → lts.Need-loops-requires (calls t) (label-at t) reads.Post
 loops-requires t c κs = let tk = taken (c .before .before .before .before .kind .given .1) (c .before .before .before .before .before .before .look .ensures) in
     omega arith
 
-pub add-whiles : (t : ℕ) → lts.Need-add-whiles (label-calls t) (label-at t) reads.Post
+pub add-whiles : (t : ℕ) → lts.Need-add-whiles (calls t) (label-at t) reads.Post
 add-whiles t c = let tk = taken (c .before .before .before .before .kind .given .1) (c .before .before .before .before .before .before .look .ensures) in
     omega arith
 
-pub whiles-requires : (t : ℕ) → lts.Need-whiles-requires (label-calls t) (label-at t) reads.Post
+pub whiles-requires : (t : ℕ) → lts.Need-whiles-requires (calls t) (label-at t) reads.Post
 whiles-requires t c κs = let tk = taken (c .before .before .before .before .kind .given .1) (c .before .before .before .before .before .before .look .ensures) in
     omega arith
 
-pub add-each : (t : ℕ) → lts.Need-add-each (label-calls t) (label-at t) reads.Post
+pub add-each : (t : ℕ) → lts.Need-add-each (calls t) (label-at t) reads.Post
 add-each t c = let tk = taken (c .before .before .before .before .kind .given .1) (c .before .before .before .before .before .before .look .ensures) in
     omega arith
 
-pub each-requires : (t : ℕ) → lts.Need-each-requires (label-calls t) (label-at t) reads.Post
+pub each-requires : (t : ℕ) → lts.Need-each-requires (calls t) (label-at t) reads.Post
 each-requires t c κs = let tk = taken (c .before .before .before .before .kind .given .1) (c .before .before .before .before .before .before .look .ensures) in
     omega arith
 
-pub enum-known-s : (t : ℕ) → lts.Need-enum-known-s (label-calls t) (label-at t) reads.Post
+pub enum-known-s : (t : ℕ) → lts.Need-enum-known-s (calls t) (label-at t) reads.Post
 enum-known-s t c = search needs
 
-pub same-length : (t : ℕ) → lts.Need-same-length (label-calls t) (label-at t) reads.Post
+pub same-length : (t : ℕ) → lts.Need-same-length (calls t) (label-at t) reads.Post
 same-length t c = search needs
 
-pub returns : (t : ℕ) → lts.Need-returns (label-calls t) (label-at t) reads.Post
+pub returns : (t : ℕ) → lts.Need-returns (calls t) (label-at t) reads.Post
 returns t c = let tk = taken (c .before .before .before .before .before .before .before .kind .given .1) (c .before .before .before .before .before .before .before .before .before .look .ensures) in
     later (label-loop _ _ tk _ (c .before .before .before .before .before .match2 .keys1)) (c .before .before .loops .ensures) (omega arith) (omega arith) (omega arith)
 
-pub same-length-2 : (t : ℕ) → lts.Need-same-length-2 (label-calls t) (label-at t) reads.Post
+pub same-length-2 : (t : ℕ) → lts.Need-same-length-2 (calls t) (label-at t) reads.Post
 same-length-2 t c = search needs
 
-pub returns-2 : (t : ℕ) → lts.Need-returns-2 (label-calls t) (label-at t) reads.Post
+pub returns-2 : (t : ℕ) → lts.Need-returns-2 (calls t) (label-at t) reads.Post
 returns-2 t c = let tk = taken (c .before .before .before .before .before .before .before .kind .given .1) (c .before .before .before .before .before .before .before .before .before .look .ensures) in
     renamed (λ x. Node.while-loop (c .before .before .before .before .before .before .before .before .before .before .before .before .args .label) (x .over) (stmt-list-of (x .run))) [] (c .before .before .whiles .ensures) (way _ (label-while _ _ tk _ (c .before .before .before .before .before .match2 .keys2) ∙ while-as _ _ _ _)) (sym (append-nil _)) (λ x. two-words 4 _ _ _) refl (omega arith)
 
-pub same-length-3 : (t : ℕ) → lts.Need-same-length-3 (label-calls t) (label-at t) reads.Post
+pub same-length-3 : (t : ℕ) → lts.Need-same-length-3 (calls t) (label-at t) reads.Post
 same-length-3 t c = search needs
 
-pub returns-3 : (t : ℕ) → lts.Need-returns-3 (label-calls t) (label-at t) reads.Post
+pub returns-3 : (t : ℕ) → lts.Need-returns-3 (calls t) (label-at t) reads.Post
 returns-3 t c = let tk = taken (c .before .before .before .before .before .before .before .kind .given .1) (c .before .before .before .before .before .before .before .before .before .look .ensures) in
     later (label-for _ _ tk _ (c .before .before .before .before .before .match2 .keys3)) (c .before .before .each .ensures) (omega arith) (omega arith) (omega arith)
 
-pub returns-4 : (t : ℕ) → lts.Need-returns-4 (label-calls t) (label-at t) reads.Post
+pub returns-4 : (t : ℕ) → lts.Need-returns-4 (calls t) (label-at t) reads.Post
 returns-4 t c = let tk = taken (c .before .before .kind .given .1) (c .before .before .before .before .look .ensures) in
     let r = c .match2 .rest in
     fails-with (label-alone _ _ tk _ (r .0 .0 .1) (r .0 .1) (r .1)) (omega arith) (omega arith)
 
-pub returns-5 : (t : ℕ) → lts.Need-returns-5 (label-calls t) (label-at t) reads.Post
+pub returns-5 : (t : ℕ) → lts.Need-returns-5 (calls t) (label-at t) reads.Post
 returns-5 t c = did-not (blind here (stmt-label-looks _ _ _ _) (not-taken (c .before .s .given .1) (c .before .before .before .look .ensures)) refl (omega arith))

@@ -11,30 +11,38 @@ use Rattle.grammar.specs.Laws.Kinds.{tuple-small, depth-small}
 use Rattle.cycle.proofs.PathsStmt.{whole-of, up-of, ended-text, modified-text, lvalue-step}
 use Rattle.cycle.proofs.lhs.Reads as reads
 use Rattle.cycle.proofs.+arm+atom+begin+binop+block+body+call+catch+cond+def+dest+dots+each+expr+fun+group+index+item+jump+key+label+lhs+list+loops+param+part+path+prim+rhs+sig+stmt+sync+table+tail+term+tuple+turn+unop+val+whiles.Lts-lhs as lts
-use Rattle.cycle.proofs.+arm+atom+begin+binop+block+body+call+catch+cond+def+dest+dots+each+expr+fun+group+index+item+jump+key+label+lhs+list+loops+param+part+path+prim+rhs+sig+stmt+sync+table+tail+term+tuple+turn+unop+val+whiles.Proof.Base.{lhs-calls, lhs-at}
+use Rattle.cycle.proofs.tuple.Reads as tuple-reads
+use Rattle.nodes.proofs.records.expect_pattern.Reads as expect-pattern-reads
+use Rattle.nodes.proofs.records.modified.Reads as modified-reads
+use Rattle.scan.proofs.tokens.assign_keyword.Reads as assign-keyword-reads
+use Rattle.cycle.proofs.+arm+atom+begin+binop+block+body+call+catch+cond+def+dest+dots+each+expr+fun+group+index+item+jump+key+label+lhs+list+loops+param+part+path+prim+rhs+sig+stmt+sync+table+tail+term+tuple+turn+unop+val+whiles.Proof.Below.{lhs-at, tuple-below}
 use Rattle.cycle.proofs.Shapes.{given}
 use Rattle.cycle.proofs.Writing.{stored, unstored}
 
-pub assign-keyword-requires : (t : ℕ) → lts.Need-assign-keyword-requires (lhs-calls t) (lhs-at t) reads.Post
+-- what is known of the functions that it calls
+abbrev pub calls : ℕ → lts.Claims
+calls t = (assign-keyword-reads.Asked, assign-keyword-reads.Learnt, tuple-below t, tuple-reads.Post, expect-pattern-reads.Asked, expect-pattern-reads.Learnt, modified-reads.Asked, modified-reads.Learnt)
+
+pub assign-keyword-requires : (t : ℕ) → lts.Need-assign-keyword-requires (calls t) (lhs-at t) reads.Post
 assign-keyword-requires t c κs = search needs
 
-pub enum-known-p : (t : ℕ) → lts.Need-enum-known-p (lhs-calls t) (lhs-at t) reads.Post
+pub enum-known-p : (t : ℕ) → lts.Need-enum-known-p (calls t) (lhs-at t) reads.Post
 enum-known-p t c = search needs
 
-pub tuple-requires : (t : ℕ) → lts.Need-tuple-requires (lhs-calls t) (lhs-at t) reads.Post
+pub tuple-requires : (t : ℕ) → lts.Need-tuple-requires (calls t) (lhs-at t) reads.Post
 tuple-requires t c κs = let f = found (c .before .before .before .p .given .1) (c .before .before .before .before .before .assign-keyword .ensures) in
     let g = f .got in
     let gon = g .on in
     let gwithin = g .within in
     omega arith
 
-pub enum-known-r : (t : ℕ) → lts.Need-enum-known-r (lhs-calls t) (lhs-at t) reads.Post
+pub enum-known-r : (t : ℕ) → lts.Need-enum-known-r (calls t) (lhs-at t) reads.Post
 enum-known-r t c = search needs
 
-pub same-length : (t : ℕ) → lts.Need-same-length (lhs-calls t) (lhs-at t) reads.Post
+pub same-length : (t : ℕ) → lts.Need-same-length (calls t) (lhs-at t) reads.Post
 same-length t c = search needs
 
-pub returns : (t : ℕ) → lts.Need-returns (lhs-calls t) (lhs-at t) reads.Post
+pub returns : (t : ℕ) → lts.Need-returns (calls t) (lhs-at t) reads.Post
 returns t c = let f = found (c .before .before .before .before .before .before .before .p .given .1) (c .before .before .before .before .before .before .before .before .before .assign-keyword .ensures) in
     let g = f .got in
     let gon = g .on in
@@ -43,7 +51,7 @@ returns t c = let f = found (c .before .before .before .before .before .before .
     let on = gets _ g path in
     did-not (fails _ on (undone (c .match2 .keys2) (c .before .before .before .tuple .ensures)) refl (omega arith))
 
-pub expect-pattern-requires : (t : ℕ) → lts.Need-expect-pattern-requires (lhs-calls t) (lhs-at t) reads.Post
+pub expect-pattern-requires : (t : ℕ) → lts.Need-expect-pattern-requires (calls t) (lhs-at t) reads.Post
 expect-pattern-requires t c κs = let f = found (c .before .before .before .before .before .before .before .before .before .before .p .given .1) (c .before .before .before .before .before .before .before .before .before .before .before .before .assign-keyword .ensures) in
     let g = f .got in
     let gon = g .on in
@@ -52,13 +60,13 @@ expect-pattern-requires t c κs = let f = found (c .before .before .before .befo
     let small = given (tuple-small _ (depth-small _) _ _) (w .same) in
     record { tree = w .what; whole = whole-of w small (omega (arith, c .before .before .before .before .before .before .before .before .before .before .before .before .before .before .before .pre, gon, gwithin)) (omega (arith, c .before .before .before .before .before .before .before .before .before .before .before .before .before .before .before .pre, gon, gwithin, w .moved, w .room, c .before .before .before .before .before .before .tuple .kept .1 .0)) }
 
-pub enum-known-t : (t : ℕ) → lts.Need-enum-known-t (lhs-calls t) (lhs-at t) reads.Post
+pub enum-known-t : (t : ℕ) → lts.Need-enum-known-t (calls t) (lhs-at t) reads.Post
 enum-known-t t c = search needs
 
-pub same-length-2 : (t : ℕ) → lts.Need-same-length-2 (lhs-calls t) (lhs-at t) reads.Post
+pub same-length-2 : (t : ℕ) → lts.Need-same-length-2 (calls t) (lhs-at t) reads.Post
 same-length-2 t c = search needs
 
-pub returns-2 : (t : ℕ) → lts.Need-returns-2 (lhs-calls t) (lhs-at t) reads.Post
+pub returns-2 : (t : ℕ) → lts.Need-returns-2 (calls t) (lhs-at t) reads.Post
 returns-2 t c = let f = found (c .before .before .before .before .before .before .before .before .before .before .before .before .before .before .p .given .1) (c .before .before .before .before .before .before .before .before .before .before .before .before .before .before .before .before .assign-keyword .ensures) in
     let g = f .got in
     let gon = g .on in
@@ -73,7 +81,7 @@ returns-2 t c = let f = found (c .before .before .before .before .before .before
     let u = unstored (c .match3 .keys2) ep in
     did-not (lacks _ (u .unread) on2 (ap (take (c .before .before .before .before .before .before .before .before .before .before .before .before .before .before .before .before .before .before .before .args .at)) (u .text) ∙ prefix w (omega (arith, c .before .before .before .before .before .before .before .before .before .before .before .before .before .before .before .before .before .before .before .pre, gon, gwithin))) (omega (arith, c .before .before .before .before .before .before .before .before .before .before .before .before .before .before .before .before .before .before .before .pre, gon, gwithin, w .moved)))
 
-pub modified-requires : (t : ℕ) → lts.Need-modified-requires (lhs-calls t) (lhs-at t) reads.Post
+pub modified-requires : (t : ℕ) → lts.Need-modified-requires (calls t) (lhs-at t) reads.Post
 modified-requires t c κs = let f = found (c .before .before .before .before .before .before .before .before .before .before .before .before .before .before .before .before .before .p .given .1) (c .before .before .before .before .before .before .before .before .before .before .before .before .before .before .before .before .before .before .before .assign-keyword .ensures) in
     let g = f .got in
     let gon = g .on in
@@ -86,13 +94,13 @@ modified-requires t c κs = let f = found (c .before .before .before .before .be
     let below = f .below in
     (omega (arith, c .before .before .before .before .before .before .before .before .before .before .before .before .before .before .before .before .before .before .before .before .before .before .pre, gon, gwithin, w .moved, w .room, st .far, c .before .before .before .before .before .before .before .before .before .before .before .before .before .tuple .kept .1 .0, c .before .before .before .before .before .before .expect-pattern .kept .0), omega (arith, below))
 
-pub enum-known-s : (t : ℕ) → lts.Need-enum-known-s (lhs-calls t) (lhs-at t) reads.Post
+pub enum-known-s : (t : ℕ) → lts.Need-enum-known-s (calls t) (lhs-at t) reads.Post
 enum-known-s t c = search needs
 
-pub same-length-3 : (t : ℕ) → lts.Need-same-length-3 (lhs-calls t) (lhs-at t) reads.Post
+pub same-length-3 : (t : ℕ) → lts.Need-same-length-3 (calls t) (lhs-at t) reads.Post
 same-length-3 t c = search needs
 
-pub returns-3 : (t : ℕ) → lts.Need-returns-3 (lhs-calls t) (lhs-at t) reads.Post
+pub returns-3 : (t : ℕ) → lts.Need-returns-3 (calls t) (lhs-at t) reads.Post
 returns-3 t c = let f = found (c .before .before .before .before .before .before .before .before .before .before .before .before .before .before .before .before .before .before .before .before .p .given .1) (c .before .before .before .before .before .before .before .before .before .before .before .before .before .before .before .before .before .before .before .before .before .before .assign-keyword .ensures) in
     let g = f .got in
     let gon = g .on in
@@ -111,6 +119,6 @@ returns-3 t c = let f = found (c .before .before .before .before .before .before
     let in3 = st .got .within in
     record { how = record { what = modified (g .what) (st .got .what); same = gets _ (st .got) on2; moved = omega (arith, c .before .before .before .before .before .before .before .before .before .before .before .before .before .before .before .before .before .before .before .before .before .before .before .before .before .pre, gon, gwithin, w .moved, on3, in3); room = omega (arith, c .before .before .before .before .before .before .before .before .before .before .before .before .before .before .before .before .before .before .before .before .before .before .before .before .before .pre, gon, gwithin, w .moved, w .room, st .far, md .up, md .far, up, on3, in3); text = modified-text (st .got .what) (ended-text md st) (prefix w (omega (arith, c .before .before .before .before .before .before .before .before .before .before .before .before .before .before .before .before .before .before .before .before .before .before .before .before .before .pre, gon, gwithin))) (f .is) } }
 
-pub returns-4 : (t : ℕ) → lts.Need-returns-4 (lhs-calls t) (lhs-at t) reads.Post
+pub returns-4 : (t : ℕ) → lts.Need-returns-4 (calls t) (lhs-at t) reads.Post
 returns-4 t c = let path = way _ (lvalue-step _ _ _) in
     did-not (lacks _ (unfound (c .before .s .given .1) (c .before .before .before .assign-keyword .ensures)) path refl (omega arith))

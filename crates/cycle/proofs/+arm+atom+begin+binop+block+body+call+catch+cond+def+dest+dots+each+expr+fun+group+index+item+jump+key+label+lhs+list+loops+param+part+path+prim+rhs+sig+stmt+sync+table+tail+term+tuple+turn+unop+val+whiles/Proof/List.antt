@@ -16,7 +16,15 @@ use Rattle.nodes.specs.Lists.{Ends, keeps}
 use Rattle.cycle.proofs.PathsList.{list-ends, list-goes, stmts-looks, stmts-semi, stmts-end, stmts-turn, was-stmt, was-control, was-caught, was-not, place-small, split-none, next-ends, mark-le, place-at, stmt-two, held-text}
 use Rattle.cycle.proofs.list.Reads as reads
 use Rattle.cycle.proofs.+arm+atom+begin+binop+block+body+call+catch+cond+def+dest+dots+each+expr+fun+group+index+item+jump+key+label+lhs+list+loops+param+part+path+prim+rhs+sig+stmt+sync+table+tail+term+tuple+turn+unop+val+whiles.Lts-list as lts
-use Rattle.cycle.proofs.+arm+atom+begin+binop+block+body+call+catch+cond+def+dest+dots+each+expr+fun+group+index+item+jump+key+label+lhs+list+loops+param+part+path+prim+rhs+sig+stmt+sync+table+tail+term+tuple+turn+unop+val+whiles.Proof.Base.{list-calls, list-at}
+use Rattle.cycle.proofs.turn.Reads as turn-reads
+use Rattle.nodes.proofs.records.mark.Reads as mark-reads
+use Rattle.scan.proofs.tokens.ends.Reads as ends-reads
+use Rattle.scan.proofs.tokens.look.Reads as look-reads
+use Rattle.cycle.proofs.+arm+atom+begin+binop+block+body+call+catch+cond+def+dest+dots+each+expr+fun+group+index+item+jump+key+label+lhs+list+loops+param+part+path+prim+rhs+sig+stmt+sync+table+tail+term+tuple+turn+unop+val+whiles.Proof.Below.{list-at, turn-below}
+
+-- what is known of the functions that it calls
+abbrev pub calls : ℕ → lts.Claims
+calls t = (look-reads.Asked, look-reads.Learnt, ends-reads.Asked, ends-reads.Learnt, turn-below t, turn-reads.Post, mark-reads.Asked, mark-reads.Learnt)
 
 -- where the loop stands: the whole is what `stmts` makes of the n statements that are written so far
 pub record Going (T S₀ Q₀ : List ℕ) (depth end pos at waiting : ℕ) (S Q : List ℕ) (p a w n last : ℕ) : Type 0 where
@@ -35,29 +43,29 @@ Inv-loop tokens store₀ queue₀ depth end pos at waiting p₀ a₀ w₀ n₀ l
 abbrev pub μ-loop : lts.MeasureT-loop
 μ-loop tokens store₀ queue₀ depth end pos at waiting p₀ a₀ w₀ n₀ last₀ store queue p a w n last = length tokens - p
 
-pub returns : (t : ℕ) → lts.Need-returns (list-calls t) (list-at t) reads.Post Inv-loop μ-loop
+pub returns : (t : ℕ) → lts.Need-returns (calls t) (list-at t) reads.Post Inv-loop μ-loop
 returns t c = record { how = record { how = ends (list-ends _ _ _ _ (c .if1 .taken)) } }
 
-pub loop-holds : (t : ℕ) → lts.Need-loop-holds (list-calls t) (list-at t) reads.Post Inv-loop μ-loop
+pub loop-holds : (t : ℕ) → lts.Need-loop-holds (calls t) (list-at t) reads.Post Inv-loop μ-loop
 unfolding records count
 loop-holds t c = record { fuel = length (drop (c .before .before .before .args .pos) (c .before .before .before .args .tokens .now)); enough = rw length-drop (omega arith); run = record { what = none; same = way _ (list-goes _ _ _ _ (c .if1 .left)); moved = omega arith; room = omega arith; text = sym (append-nil (take (c .before .before .before .args .at) (c .before .before .before .args .store .now))) }; many = refl; short = omega arith; back = omega arith; ending = keeps split-none refl; kept = refl }
 
-pub look-requires : (t : ℕ) → lts.Need-look-requires (list-calls t) (list-at t) reads.Post Inv-loop μ-loop
+pub look-requires : (t : ℕ) → lts.Need-look-requires (calls t) (list-at t) reads.Post Inv-loop μ-loop
 look-requires t c κs = c .loop .inv .run .moved .within
 
-pub enum-known-kind : (t : ℕ) → lts.Need-enum-known-kind (list-calls t) (list-at t) reads.Post Inv-loop μ-loop
+pub enum-known-kind : (t : ℕ) → lts.Need-enum-known-kind (calls t) (list-at t) reads.Post Inv-loop μ-loop
 enum-known-kind t c = search needs
 
-pub add-p : (t : ℕ) → lts.Need-add-p (list-calls t) (list-at t) reads.Post Inv-loop μ-loop
+pub add-p : (t : ℕ) → lts.Need-add-p (calls t) (list-at t) reads.Post Inv-loop μ-loop
 add-p t c = let tk = taken (c .before .before .kind .given .1) (c .before .before .before .before .look .ensures) in
     omega arith
 
-pub loop-less : (t : ℕ) → lts.Need-loop-less (list-calls t) (list-at t) reads.Post Inv-loop μ-loop
+pub loop-less : (t : ℕ) → lts.Need-loop-less (calls t) (list-at t) reads.Post Inv-loop μ-loop
 loop-less t c = let g = c .before .before .before .before .before .loop .inv in
     let tk = taken (c .before .before .kind .given .1) (c .before .before .before .before .look .ensures) in
     omega arith
 
-pub loop-again : (t : ℕ) → lts.Need-loop-again (list-calls t) (list-at t) reads.Post Inv-loop μ-loop
+pub loop-again : (t : ℕ) → lts.Need-loop-again (calls t) (list-at t) reads.Post Inv-loop μ-loop
 loop-again t c = let g = c .before .before .before .before .before .loop .inv in
     let gr = g .run in
     let tk = taken (c .before .before .kind .given .1) (c .before .before .before .before .look .ensures) in
@@ -72,13 +80,13 @@ loop-again t c = let g = c .before .before .before .before .before .loop .inv in
       kept = g .kept;
     }
 
-pub ends-requires : (t : ℕ) → lts.Need-ends-requires (list-calls t) (list-at t) reads.Post Inv-loop μ-loop
+pub ends-requires : (t : ℕ) → lts.Need-ends-requires (calls t) (list-at t) reads.Post Inv-loop μ-loop
 ends-requires t c κs = search needs
 
-pub same-length : (t : ℕ) → lts.Need-same-length (list-calls t) (list-at t) reads.Post Inv-loop μ-loop
+pub same-length : (t : ℕ) → lts.Need-same-length (calls t) (list-at t) reads.Post Inv-loop μ-loop
 same-length t c = search needs
 
-pub returns-2 : (t : ℕ) → lts.Need-returns-2 (list-calls t) (list-at t) reads.Post Inv-loop μ-loop
+pub returns-2 : (t : ℕ) → lts.Need-returns-2 (calls t) (list-at t) reads.Post Inv-loop μ-loop
 returns-2 t c = let g = c .before .before .before .before .before .before .before .loop .inv in
     let gr = g .run in
     let tk = taken (c .before .before .before .before .kind .given .1) (c .before .before .before .before .before .before .look .ensures) in
@@ -93,39 +101,39 @@ returns-2 t c = let g = c .before .before .before .before .before .before .befor
       };
     }
 
-pub sub-turn : (t : ℕ) → lts.Need-sub-turn (list-calls t) (list-at t) reads.Post Inv-loop μ-loop
+pub sub-turn : (t : ℕ) → lts.Need-sub-turn (calls t) (list-at t) reads.Post Inv-loop μ-loop
 sub-turn t c = search needs
 
-pub turn-requires : (t : ℕ) → lts.Need-turn-requires (list-calls t) (list-at t) reads.Post Inv-loop μ-loop
+pub turn-requires : (t : ℕ) → lts.Need-turn-requires (calls t) (list-at t) reads.Post Inv-loop μ-loop
 turn-requires t c κs = let g = c .before .before .before .before .before .before .before .before .before .loop .inv in
     let gr = g .run in
     let tk = taken (c .before .before .before .before .before .before .kind .given .1) (c .before .before .before .before .before .before .before .before .look .ensures) in
     omega (arith, c .before .before .before .before .before .before .before .before .before .before .before .before .before .pre, c .before .before .before .before .before .before .before .before .before .before .if1 .left, g .short, g .kept, gr .moved, gr .room, tk .within)
 
-pub enum-known-p2 : (t : ℕ) → lts.Need-enum-known-p2 (list-calls t) (list-at t) reads.Post Inv-loop μ-loop
+pub enum-known-p2 : (t : ℕ) → lts.Need-enum-known-p2 (calls t) (list-at t) reads.Post Inv-loop μ-loop
 enum-known-p2 t c = search needs
 
-pub mark-requires : (t : ℕ) → lts.Need-mark-requires (list-calls t) (list-at t) reads.Post Inv-loop μ-loop
+pub mark-requires : (t : ℕ) → lts.Need-mark-requires (calls t) (list-at t) reads.Post Inv-loop μ-loop
 mark-requires t c κs = let g = c .before .before .before .before .before .before .before .before .before .before .before .before .before .before .before .before .loop .inv in
     let gr = g .run in
     let tk = taken (c .before .before .before .before .before .before .before .before .before .before .before .before .before .kind .given .1) (c .before .before .before .before .before .before .before .before .before .before .before .before .before .before .before .look .ensures) in
     let w1 = was-stmt (c .before .before .p2 .given .1) (c .before .before .before .before .before .before .turn .ensures) in
     (stmt-two w1 (omega (arith, c .before .before .before .before .before .before .before .before .before .before .before .before .before .before .before .before .before .before .before .before .pre, g .kept, gr .moved, gr .room)) (omega (arith, c .before .before .before .before .before .before .before .before .before .before .before .before .before .before .before .before .before .before .before .before .pre, g .kept, gr .moved, gr .room, w1 .moved, w1 .room)), omega (arith, c .before .before .before .before .before .before .before .before .before .before .before .before .before .before .before .before .before .before .before .before .pre, g .kept, gr .moved, gr .room, w1 .moved, w1 .room))
 
-pub add-n : (t : ℕ) → lts.Need-add-n (list-calls t) (list-at t) reads.Post Inv-loop μ-loop
+pub add-n : (t : ℕ) → lts.Need-add-n (calls t) (list-at t) reads.Post Inv-loop μ-loop
 add-n t c = let g = c .before .before .before .before .before .before .before .before .before .before .before .before .before .before .before .before .before .loop .inv in
     let gr = g .run in
     let tk = taken (c .before .before .before .before .before .before .before .before .before .before .before .before .before .before .kind .given .1) (c .before .before .before .before .before .before .before .before .before .before .before .before .before .before .before .before .look .ensures) in
     let w1 = was-stmt (c .before .before .before .p2 .given .1) (c .before .before .before .before .before .before .before .turn .ensures) in
     omega (arith, c .before .before .before .before .before .before .before .before .before .before .before .before .before .before .before .before .before .before .before .before .before .pre, g .short, gr .moved)
 
-pub loop-less-2 : (t : ℕ) → lts.Need-loop-less-2 (list-calls t) (list-at t) reads.Post Inv-loop μ-loop
+pub loop-less-2 : (t : ℕ) → lts.Need-loop-less-2 (calls t) (list-at t) reads.Post Inv-loop μ-loop
 loop-less-2 t c = let g = c .before .before .before .before .before .before .before .before .before .before .before .before .before .before .before .before .before .loop .inv in
     let tk = taken (c .before .before .before .before .before .before .before .before .before .before .before .before .before .before .kind .given .1) (c .before .before .before .before .before .before .before .before .before .before .before .before .before .before .before .before .look .ensures) in
     let w1 = was-stmt (c .before .before .before .p2 .given .1) (c .before .before .before .before .before .before .before .turn .ensures) in
     omega (arith, w1 .moved, tk .within)
 
-pub loop-again-2 : (t : ℕ) → lts.Need-loop-again-2 (list-calls t) (list-at t) reads.Post Inv-loop μ-loop
+pub loop-again-2 : (t : ℕ) → lts.Need-loop-again-2 (calls t) (list-at t) reads.Post Inv-loop μ-loop
 loop-again-2 t c = let g = c .before .before .before .before .before .before .before .before .before .before .before .before .before .before .before .before .before .loop .inv in
     let gr = g .run in
     let tk = taken (c .before .before .before .before .before .before .before .before .before .before .before .before .before .before .kind .given .1) (c .before .before .before .before .before .before .before .before .before .before .before .before .before .before .before .before .look .ensures) in
@@ -146,13 +154,13 @@ loop-again-2 t c = let g = c .before .before .before .before .before .before .be
       kept = omega (arith, g .kept);
     }
 
-pub enum-known-p2-2 : (t : ℕ) → lts.Need-enum-known-p2-2 (list-calls t) (list-at t) reads.Post Inv-loop μ-loop
+pub enum-known-p2-2 : (t : ℕ) → lts.Need-enum-known-p2-2 (calls t) (list-at t) reads.Post Inv-loop μ-loop
 enum-known-p2-2 t c = search needs
 
-pub same-length-2 : (t : ℕ) → lts.Need-same-length-2 (list-calls t) (list-at t) reads.Post Inv-loop μ-loop
+pub same-length-2 : (t : ℕ) → lts.Need-same-length-2 (calls t) (list-at t) reads.Post Inv-loop μ-loop
 same-length-2 t c = search needs
 
-pub returns-3 : (t : ℕ) → lts.Need-returns-3 (list-calls t) (list-at t) reads.Post Inv-loop μ-loop
+pub returns-3 : (t : ℕ) → lts.Need-returns-3 (calls t) (list-at t) reads.Post Inv-loop μ-loop
 returns-3 t c = let g = c .before .before .before .before .before .before .before .before .before .before .before .before .before .before .before .loop .inv in
     let gr = g .run in
     let tk = taken (c .before .before .before .before .before .before .before .before .before .before .before .before .kind .given .1) (c .before .before .before .before .before .before .before .before .before .before .before .before .before .before .look .ensures) in
@@ -166,16 +174,16 @@ returns-3 t c = let g = c .before .before .before .before .before .before .befor
       };
     }
 
-pub enum-known-p2-3 : (t : ℕ) → lts.Need-enum-known-p2-3 (list-calls t) (list-at t) reads.Post Inv-loop μ-loop
+pub enum-known-p2-3 : (t : ℕ) → lts.Need-enum-known-p2-3 (calls t) (list-at t) reads.Post Inv-loop μ-loop
 enum-known-p2-3 t c = search needs
 
-pub loop-less-3 : (t : ℕ) → lts.Need-loop-less-3 (list-calls t) (list-at t) reads.Post Inv-loop μ-loop
+pub loop-less-3 : (t : ℕ) → lts.Need-loop-less-3 (calls t) (list-at t) reads.Post Inv-loop μ-loop
 loop-less-3 t c = let g = c .before .before .before .before .before .before .before .before .before .before .before .before .before .before .before .loop .inv in
     let tk = taken (c .before .before .before .before .before .before .before .before .before .before .before .before .kind .given .1) (c .before .before .before .before .before .before .before .before .before .before .before .before .before .before .look .ensures) in
     let v = was-caught (c .before .p23 .given .1) (c .before .before .before .before .before .turn .ensures) in
     omega (arith, v .moved, tk .within)
 
-pub loop-again-3 : (t : ℕ) → lts.Need-loop-again-3 (list-calls t) (list-at t) reads.Post Inv-loop μ-loop
+pub loop-again-3 : (t : ℕ) → lts.Need-loop-again-3 (calls t) (list-at t) reads.Post Inv-loop μ-loop
 loop-again-3 t c = let g = c .before .before .before .before .before .before .before .before .before .before .before .before .before .before .before .loop .inv in
     let gr = g .run in
     let tk = taken (c .before .before .before .before .before .before .before .before .before .before .before .before .kind .given .1) (c .before .before .before .before .before .before .before .before .before .before .before .before .before .before .look .ensures) in
@@ -192,26 +200,26 @@ loop-again-3 t c = let g = c .before .before .before .before .before .before .be
       kept = omega (arith, g .kept);
     }
 
-pub enum-known-s : (t : ℕ) → lts.Need-enum-known-s (list-calls t) (list-at t) reads.Post Inv-loop μ-loop
+pub enum-known-s : (t : ℕ) → lts.Need-enum-known-s (calls t) (list-at t) reads.Post Inv-loop μ-loop
 enum-known-s t c = search needs
 
-pub same-length-3 : (t : ℕ) → lts.Need-same-length-3 (list-calls t) (list-at t) reads.Post Inv-loop μ-loop
+pub same-length-3 : (t : ℕ) → lts.Need-same-length-3 (calls t) (list-at t) reads.Post Inv-loop μ-loop
 same-length-3 t c = search needs
 
-pub returns-4 : (t : ℕ) → lts.Need-returns-4 (list-calls t) (list-at t) reads.Post Inv-loop μ-loop
+pub returns-4 : (t : ℕ) → lts.Need-returns-4 (calls t) (list-at t) reads.Post Inv-loop μ-loop
 returns-4 t c = let g = c .before .before .before .before .before .before .before .before .before .before .before .before .before .before .before .loop .inv in
     let gr = g .run in
     let tk = taken (c .before .before .before .before .before .before .before .before .before .before .before .before .kind .given .1) (c .before .before .before .before .before .before .before .before .before .before .before .before .before .before .look .ensures) in
     let try = link (gr .same) (way _ (stmts-turn _ _ (gr .what) _ (g .fuel) _ (g .enough) tk (c .before .before .before .before .before .before .before .before .before .before .if2 .left) (sym (c .before .before .before .before .before .before .before .before .before .ends .ensures) ∙ c .before .before .before .before .before .before .before .before .if3 .left))) in
     record { how = fails _ try (was-not (c .before .s .given .1) (c .before .before .before .before .before .turn .ensures)) (prefix gr (omega (arith, c .before .before .before .before .before .before .before .before .before .before .before .before .before .before .before .before .before .before .before .pre))) (omega (arith, gr .moved, gr .room)) }
 
-pub enum-known-s-2 : (t : ℕ) → lts.Need-enum-known-s-2 (list-calls t) (list-at t) reads.Post Inv-loop μ-loop
+pub enum-known-s-2 : (t : ℕ) → lts.Need-enum-known-s-2 (calls t) (list-at t) reads.Post Inv-loop μ-loop
 enum-known-s-2 t c = search needs
 
-pub same-length-4 : (t : ℕ) → lts.Need-same-length-4 (list-calls t) (list-at t) reads.Post Inv-loop μ-loop
+pub same-length-4 : (t : ℕ) → lts.Need-same-length-4 (calls t) (list-at t) reads.Post Inv-loop μ-loop
 same-length-4 t c = search needs
 
-pub returns-5 : (t : ℕ) → lts.Need-returns-5 (list-calls t) (list-at t) reads.Post Inv-loop μ-loop
+pub returns-5 : (t : ℕ) → lts.Need-returns-5 (calls t) (list-at t) reads.Post Inv-loop μ-loop
 returns-5 t c = let g = c .before .before .before .before .loop .inv in
     let gr = g .run in
     record { how = blind (gr .same) (stmts-looks _ _ (gr .what) _ _ (g .fuel) _ (g .enough)) (not-taken (c .before .s2 .given .1) (c .before .before .before .look .ensures)) (prefix gr (omega (arith, c .before .before .before .before .before .before .before .before .pre))) (omega arith) }

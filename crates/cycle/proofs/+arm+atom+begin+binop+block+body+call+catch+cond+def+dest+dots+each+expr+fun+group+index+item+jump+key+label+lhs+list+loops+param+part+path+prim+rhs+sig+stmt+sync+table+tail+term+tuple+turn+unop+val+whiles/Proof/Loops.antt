@@ -10,16 +10,22 @@ use Rattle.grammar.specs.Reading.Stmt.{stmt-list-of}
 use Rattle.cycle.proofs.PathsStmt.{closable, under, one-words, loop-step}
 use Rattle.cycle.proofs.loops.Reads as reads
 use Rattle.cycle.proofs.+arm+atom+begin+binop+block+body+call+catch+cond+def+dest+dots+each+expr+fun+group+index+item+jump+key+label+lhs+list+loops+param+part+path+prim+rhs+sig+stmt+sync+table+tail+term+tuple+turn+unop+val+whiles.Lts-loops as lts
-use Rattle.cycle.proofs.+arm+atom+begin+binop+block+body+call+catch+cond+def+dest+dots+each+expr+fun+group+index+item+jump+key+label+lhs+list+loops+param+part+path+prim+rhs+sig+stmt+sync+table+tail+term+tuple+turn+unop+val+whiles.Proof.Base.{loops-calls, loops-at}
+use Rattle.cycle.proofs.body.Reads as body-reads
+use Rattle.nodes.proofs.records.list_under.Reads as list-under-reads
+use Rattle.cycle.proofs.+arm+atom+begin+binop+block+body+call+catch+cond+def+dest+dots+each+expr+fun+group+index+item+jump+key+label+lhs+list+loops+param+part+path+prim+rhs+sig+stmt+sync+table+tail+term+tuple+turn+unop+val+whiles.Proof.Below.{loops-at, body-below}
 
-pub body-requires : (t : ℕ) → lts.Need-body-requires (loops-calls t) (loops-at t) reads.Post
+-- what is known of the functions that it calls
+abbrev pub calls : ℕ → lts.Claims
+calls t = (body-below t, body-reads.Post, list-under-reads.Asked, list-under-reads.Learnt)
+
+pub body-requires : (t : ℕ) → lts.Need-body-requires (calls t) (loops-at t) reads.Post
 body-requires t c κs = omega arith
 
-pub list-under-requires : (t : ℕ) → lts.Need-list-under-requires (loops-calls t) (loops-at t) reads.Post
+pub list-under-requires : (t : ℕ) → lts.Need-list-under-requires (calls t) (loops-at t) reads.Post
 list-under-requires t c κs = closable _ (c .before .before .before .body .ensures) (omega arith)
 
-pub same-length : (t : ℕ) → lts.Need-same-length (loops-calls t) (loops-at t) reads.Post
+pub same-length : (t : ℕ) → lts.Need-same-length (calls t) (loops-at t) reads.Post
 same-length t c = search needs
 
-pub returns : (t : ℕ) → lts.Need-returns (loops-calls t) (loops-at t) reads.Post
+pub returns : (t : ℕ) → lts.Need-returns (calls t) (loops-at t) reads.Post
 returns t c = under (λ s. Node.loop (c .before .before .before .before .before .before .before .before .before .before .before .args .label) (stmt-list-of s)) [] (c .before .before .before .before .before .before .body .ensures) (c .before .before .list-under .ensures) (way _ (loop-step _ _ _ _)) (sym (append-nil _)) (λ s. one-words 3 _ _) refl (omega arith)

@@ -12,58 +12,66 @@ use Rattle.nodes.specs.Parameters.{required-words}
 use Rattle.cycle.proofs.PathsFunction.{added-prefix, param-step, param-got, head-required, head-variadic, head-default, no-head, default-one}
 use Rattle.cycle.proofs.param.Reads as reads
 use Rattle.cycle.proofs.+arm+atom+begin+binop+block+body+call+catch+cond+def+dest+dots+each+expr+fun+group+index+item+jump+key+label+lhs+list+loops+param+part+path+prim+rhs+sig+stmt+sync+table+tail+term+tuple+turn+unop+val+whiles.Lts-param as lts
-use Rattle.cycle.proofs.+arm+atom+begin+binop+block+body+call+catch+cond+def+dest+dots+each+expr+fun+group+index+item+jump+key+label+lhs+list+loops+param+part+path+prim+rhs+sig+stmt+sync+table+tail+term+tuple+turn+unop+val+whiles.Proof.Base.{param-calls, param-at}
+use Rattle.cycle.proofs.expr.Reads as expr-reads
+use Rattle.nodes.proofs.fields.param_head.Reads as param-head-reads
+use Rattle.nodes.proofs.fields.required_end.Reads as required-end-reads
+use Rattle.tree.proofs.emit.Reads as emit-reads
+use Rattle.cycle.proofs.+arm+atom+begin+binop+block+body+call+catch+cond+def+dest+dots+each+expr+fun+group+index+item+jump+key+label+lhs+list+loops+param+part+path+prim+rhs+sig+stmt+sync+table+tail+term+tuple+turn+unop+val+whiles.Proof.Below.{param-at, expr-below}
 
-pub param-head-requires : (t : ℕ) → lts.Need-param-head-requires (param-calls t) (param-at t) reads.Post
+-- what is known of the functions that it calls
+abbrev pub calls : ℕ → lts.Claims
+calls t = (param-head-reads.Asked, param-head-reads.Learnt, required-end-reads.Asked, required-end-reads.Learnt, expr-below t, expr-reads.Post, emit-reads.Asked, emit-reads.Learnt)
+
+pub param-head-requires : (t : ℕ) → lts.Need-param-head-requires (calls t) (param-at t) reads.Post
 param-head-requires t c κs = omega arith
 
-pub enum-known-p : (t : ℕ) → lts.Need-enum-known-p (param-calls t) (param-at t) reads.Post
+pub enum-known-p : (t : ℕ) → lts.Need-enum-known-p (calls t) (param-at t) reads.Post
 enum-known-p t c = search needs
 
-pub enum-known-p-2 : (t : ℕ) → lts.Need-enum-known-p-2 (param-calls t) (param-at t) reads.Post
+pub enum-known-p-2 : (t : ℕ) → lts.Need-enum-known-p-2 (calls t) (param-at t) reads.Post
 enum-known-p-2 t c = search needs
 
-pub enum-known-p-3 : (t : ℕ) → lts.Need-enum-known-p-3 (param-calls t) (param-at t) reads.Post
+pub enum-known-p-3 : (t : ℕ) → lts.Need-enum-known-p-3 (calls t) (param-at t) reads.Post
 enum-known-p-3 t c = search needs
 
-pub required-end-requires : (t : ℕ) → lts.Need-required-end-requires (param-calls t) (param-at t) reads.Post
+pub required-end-requires : (t : ℕ) → lts.Need-required-end-requires (calls t) (param-at t) reads.Post
 required-end-requires t c κs = let h = head-default (c .before .before .p3 .given .1) (c .before .before .before .before .param-head .ensures) in
     let hg = h .got in
     (omega arith, omega arith)
 
-pub expr-requires : (t : ℕ) → lts.Need-expr-requires (param-calls t) (param-at t) reads.Post
+pub expr-requires : (t : ℕ) → lts.Need-expr-requires (calls t) (param-at t) reads.Post
 expr-requires t c κs = let h = head-default (c .before .before .before .before .before .before .before .p3 .given .1) (c .before .before .before .before .before .before .before .before .before .param-head .ensures) in
     let hg = h .got in
     let b = c .before .before .before .before .required-end .ensures in
     omega (arith, c .before .before .before .before .before .before .before .before .before .before .before .before .pre)
 
-pub enum-known-r : (t : ℕ) → lts.Need-enum-known-r (param-calls t) (param-at t) reads.Post
+pub enum-known-r : (t : ℕ) → lts.Need-enum-known-r (calls t) (param-at t) reads.Post
 enum-known-r t c = search needs
 
-pub emit-requires : (t : ℕ) → lts.Need-emit-requires (param-calls t) (param-at t) reads.Post
+pub emit-requires : (t : ℕ) → lts.Need-emit-requires (calls t) (param-at t) reads.Post
 emit-requires t c κs = let h = head-default (c .before .before .before .before .before .before .before .before .before .before .before .before .before .before .p3 .given .1) (c .before .before .before .before .before .before .before .before .before .before .before .before .before .before .before .before .param-head .ensures) in
     let hg = h .got in
     let b = c .before .before .before .before .before .before .before .before .before .before .before .required-end .ensures in
     let w = done (c .before .before .r .given .1) (c .before .before .before .before .before .before .expr .ensures) in
     omega (arith, c .before .before .before .before .before .before .before .before .before .before .before .before .before .before .before .before .before .before .before .pre)
 
-pub enum-known-s : (t : ℕ) → lts.Need-enum-known-s (param-calls t) (param-at t) reads.Post
+pub enum-known-s : (t : ℕ) → lts.Need-enum-known-s (calls t) (param-at t) reads.Post
 enum-known-s t c = search needs
 
-pub returns : (t : ℕ) → lts.Need-returns (param-calls t) (param-at t) reads.Post
+pub returns : (t : ℕ) → lts.Need-returns (calls t) (param-at t) reads.Post
 returns t c = let h = head-required (c .before .p .given .1) (c .before .before .before .param-head .ensures) in
     let g = h .got in
     record { how = record { run = record { what = tt; same = way _ (param-got _ h-required (c .before .before .before .before .before .before .args .pos) h _); moved = omega arith; room = omega arith; text = sym (append-nil (take (c .before .before .before .before .before .before .args .at) (c .before .before .before .before .before .before .args .store .now))) }; below = h .below } }
 
-pub returns-2 : (t : ℕ) → lts.Need-returns-2 (param-calls t) (param-at t) reads.Post
+pub returns-2 : (t : ℕ) → lts.Need-returns-2 (calls t) (param-at t) reads.Post
 returns-2 t c = let h = head-variadic (c .before .p2 .given .1) (c .before .before .before .param-head .ensures) in
     let g = h .got in
     record { how = record { run = record { what = tt; same = way _ (param-got _ h-variadic (c .before .before .before .before .before .before .args .pos) h _); moved = omega arith; room = omega arith; text = sym (append-nil (take (c .before .before .before .before .before .before .args .at) (c .before .before .before .before .before .before .args .store .now))) }; below = h .below } }
 
-pub same-length : (t : ℕ) → lts.Need-same-length (param-calls t) (param-at t) reads.Post
+pub same-length : (t : ℕ) → lts.Need-same-length (calls t) (param-at t) reads.Post
 same-length t c = search needs
 
-pub returns-3 : (t : ℕ) → lts.Need-returns-3 (param-calls t) (param-at t) reads.Post
+pub returns-3 : (t : ℕ) → lts.Need-returns-3 (calls t) (param-at t) reads.Post
 returns-3 t c = let h = head-default (c .before .before .before .before .before .before .before .before .before .before .before .before .before .before .before .before .before .p3 .given .1) (c .before .before .before .before .before .before .before .before .before .before .before .before .before .before .before .before .before .before .before .param-head .ensures) in
     let hg = h .got in
     let b = c .before .before .before .before .before .before .before .before .before .before .before .before .before .before .required-end .ensures in
@@ -73,15 +81,15 @@ returns-3 t c = let h = head-default (c .before .before .before .before .before 
     let e = c .before .before .emit .ensures in
     record { how = record { what = record { name = c .before .before .before .before .before .before .before .before .before .before .before .before .before .before .before .before .before .p3 .given .0 .1 .0; value = w .what }; same = goes _ path (w .same); moved = omega (arith, c .before .before .before .before .before .before .before .before .before .before .before .before .before .before .before .before .before .before .before .before .before .before .pre, hg .on, w .moved); room = omega (arith, c .before .before .before .before .before .before .before .before .before .before .before .before .before .before .before .before .before .before .before .before .before .before .pre, hg .on, hg .within, b .up, b .far, w .room, w .moved, e .next); text = default-one (take (x .at) (x .store .now)) (required-words (x .required) (x .default)) (c .before .before .before .before .before .before .before .before .before .before .before .before .before .before .before .before .before .p3 .given .0 .1 .0) (w .what) e (w .text) (b .text) } }
 
-pub same-length-2 : (t : ℕ) → lts.Need-same-length-2 (param-calls t) (param-at t) reads.Post
+pub same-length-2 : (t : ℕ) → lts.Need-same-length-2 (calls t) (param-at t) reads.Post
 same-length-2 t c = search needs
 
-pub returns-4 : (t : ℕ) → lts.Need-returns-4 (param-calls t) (param-at t) reads.Post
+pub returns-4 : (t : ℕ) → lts.Need-returns-4 (calls t) (param-at t) reads.Post
 returns-4 t c = let h = head-default (c .before .before .before .before .before .before .before .before .before .before .before .p3 .given .1) (c .before .before .before .before .before .before .before .before .before .before .before .before .before .param-head .ensures) in
     let hg = h .got in
     let b = c .before .before .before .before .before .before .before .before .required-end .ensures in
     let path = way _ (param-got _ h-default (c .before .before .before .before .before .before .before .before .before .before .before .before .before .before .before .before .args .pos) h _) in
     record { how = fails _ path (undone (c .match2 .keys2) (c .before .before .before .expr .ensures)) (added-prefix b (omega arith)) (omega arith) }
 
-pub returns-5 : (t : ℕ) → lts.Need-returns-5 (param-calls t) (param-at t) reads.Post
+pub returns-5 : (t : ℕ) → lts.Need-returns-5 (calls t) (param-at t) reads.Post
 returns-5 t c = record { how = lacks _ (no-head (c .before .s .given .1) (c .before .before .before .param-head .ensures)) (way _ (param-step _ _ _)) refl (omega arith) }

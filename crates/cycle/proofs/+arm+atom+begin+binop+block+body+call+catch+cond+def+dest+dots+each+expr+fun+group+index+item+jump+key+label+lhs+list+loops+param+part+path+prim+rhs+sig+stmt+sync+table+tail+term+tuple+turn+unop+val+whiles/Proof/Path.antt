@@ -17,7 +17,15 @@ use Rattle.grammar.specs.Reading.Primary.{path as path-def}
 use Rattle.cycle.proofs.PathsPrimary.{path-looks, path-ends, path-more, path-far}
 use Rattle.cycle.proofs.path.Reads as reads
 use Rattle.cycle.proofs.+arm+atom+begin+binop+block+body+call+catch+cond+def+dest+dots+each+expr+fun+group+index+item+jump+key+label+lhs+list+loops+param+part+path+prim+rhs+sig+stmt+sync+table+tail+term+tuple+turn+unop+val+whiles.Lts-path as lts
-use Rattle.cycle.proofs.+arm+atom+begin+binop+block+body+call+catch+cond+def+dest+dots+each+expr+fun+group+index+item+jump+key+label+lhs+list+loops+param+part+path+prim+rhs+sig+stmt+sync+table+tail+term+tuple+turn+unop+val+whiles.Proof.Base.{path-calls, path-at}
+use Rattle.cycle.proofs.part.Reads as part-reads
+use Rattle.nodes.proofs.records.path_end.Reads as path-end-reads
+use Rattle.scan.proofs.tokens.continues.Reads as continues-reads
+use Rattle.scan.proofs.tokens.look.Reads as look-reads
+use Rattle.cycle.proofs.+arm+atom+begin+binop+block+body+call+catch+cond+def+dest+dots+each+expr+fun+group+index+item+jump+key+label+lhs+list+loops+param+part+path+prim+rhs+sig+stmt+sync+table+tail+term+tuple+turn+unop+val+whiles.Proof.Below.{path-at, part-below}
+
+-- what is known of the functions that it calls
+abbrev pub calls : ℕ → lts.Claims
+calls t = (look-reads.Asked, look-reads.Learnt, continues-reads.Asked, continues-reads.Learnt, path-end-reads.Asked, path-end-reads.Learnt, part-below t, part-reads.Post)
 
 -- where the loop stands: the whole is what `path` makes of the n items that are written so far; the token before each of these has left 14 words
 pub record Going (T S₀ Q₀ : List ℕ) (depth : ℕ) (calls : Bool) (pos at waiting : ℕ) (S Q : List ℕ) (p a w n : ℕ) : Type 0 where
@@ -35,7 +43,7 @@ Inv-loop tokens store₀ queue₀ depth calls pos at waiting p₀ a₀ w₀ n₀
 abbrev pub μ-loop : lts.MeasureT-loop
 μ-loop tokens store₀ queue₀ depth calls pos at waiting p₀ a₀ w₀ n₀ store queue p a w n = length tokens - p
 
-pub loop-holds : (t : ℕ) → lts.Need-loop-holds (path-calls t) (path-at t) reads.Post Inv-loop μ-loop
+pub loop-holds : (t : ℕ) → lts.Need-loop-holds (calls t) (path-at t) reads.Post Inv-loop μ-loop
 unfolding records count
 loop-holds t c = record {
   fuel = length (drop (c .before .before .args .pos) (c .before .before .args .tokens .now));
@@ -47,25 +55,25 @@ loop-holds t c = record {
   kept = refl;
 }
 
-pub look-requires : (t : ℕ) → lts.Need-look-requires (path-calls t) (path-at t) reads.Post Inv-loop μ-loop
+pub look-requires : (t : ℕ) → lts.Need-look-requires (calls t) (path-at t) reads.Post Inv-loop μ-loop
 look-requires t c κs = c .loop .inv .run .moved .within
 
-pub enum-known-kind : (t : ℕ) → lts.Need-enum-known-kind (path-calls t) (path-at t) reads.Post Inv-loop μ-loop
+pub enum-known-kind : (t : ℕ) → lts.Need-enum-known-kind (calls t) (path-at t) reads.Post Inv-loop μ-loop
 enum-known-kind t c = search needs
 
-pub continues-requires : (t : ℕ) → lts.Need-continues-requires (path-calls t) (path-at t) reads.Post Inv-loop μ-loop
+pub continues-requires : (t : ℕ) → lts.Need-continues-requires (calls t) (path-at t) reads.Post Inv-loop μ-loop
 continues-requires t c κs = search needs
 
-pub path-end-requires : (t : ℕ) → lts.Need-path-end-requires (path-calls t) (path-at t) reads.Post Inv-loop μ-loop
+pub path-end-requires : (t : ℕ) → lts.Need-path-end-requires (calls t) (path-at t) reads.Post Inv-loop μ-loop
 path-end-requires t c κs = let g = c .before .before .before .before .before .before .before .loop .inv in
     let gr = g .run in
     let tk = taken (c .before .before .before .before .kind .given .1) (c .before .before .before .before .before .before .look .ensures) in
     (omega (arith, c .before .before .before .before .before .before .before .before .before .before .pre, g .kept, gr .moved, gr .room, tk .within), omega (arith, c .before .before .before .before .before .before .before .before .before .before .pre, g .short, tk .within))
 
-pub same-length : (t : ℕ) → lts.Need-same-length (path-calls t) (path-at t) reads.Post Inv-loop μ-loop
+pub same-length : (t : ℕ) → lts.Need-same-length (calls t) (path-at t) reads.Post Inv-loop μ-loop
 same-length t c = search needs
 
-pub returns : (t : ℕ) → lts.Need-returns (path-calls t) (path-at t) reads.Post Inv-loop μ-loop
+pub returns : (t : ℕ) → lts.Need-returns (calls t) (path-at t) reads.Post Inv-loop μ-loop
 returns t c = let g = c .before .before .before .before .before .before .before .before .before .before .loop .inv in
     let gr = g .run in
     let tk = taken (c .before .before .before .before .before .before .before .kind .given .1) (c .before .before .before .before .before .before .before .before .before .look .ensures) in
@@ -76,31 +84,31 @@ returns t c = let g = c .before .before .before .before .before .before .before 
     let far = path-far (gr .what) _ _ Z _ _ (gr .text) x (omega (arith, c .before .before .before .before .before .before .before .before .before .before .before .before .before .pre, g .kept, gr .moved, gr .room, tk .within)) (omega (arith, c .before .before .before .before .before .before .before .before .before .before .before .before .before .pre, g .kept, gr .moved, gr .room, tk .within, e .far, c .before .before .path-end .kept .0)) (e .far) in
     record { how = record { what = gr .what; same = out; moved = gr .moved; room = omega (arith, g .spare, g .many, gr .room, e .up, far); text = x } }
 
-pub add-part : (t : ℕ) → lts.Need-add-part (path-calls t) (path-at t) reads.Post Inv-loop μ-loop
+pub add-part : (t : ℕ) → lts.Need-add-part (calls t) (path-at t) reads.Post Inv-loop μ-loop
 add-part t c = let tk = taken (c .before .before .before .before .before .kind .given .1) (c .before .before .before .before .before .before .before .look .ensures) in
     omega arith
 
-pub part-requires : (t : ℕ) → lts.Need-part-requires (path-calls t) (path-at t) reads.Post Inv-loop μ-loop
+pub part-requires : (t : ℕ) → lts.Need-part-requires (calls t) (path-at t) reads.Post Inv-loop μ-loop
 part-requires t c κs = let g = c .before .before .before .before .before .before .before .before .loop .inv in
     let gr = g .run in
     let tk = taken (c .before .before .before .before .before .kind .given .1) (c .before .before .before .before .before .before .before .look .ensures) in
     (omega (arith, c .before .before .before .before .before .before .before .before .before .before .before .pre, g .kept, gr .moved, gr .room, tk .within), omega (arith, c .before .before .before .before .before .before .before .before .before .before .before .pre, g .kept, gr .moved, gr .room, tk .within))
 
-pub enum-known-r : (t : ℕ) → lts.Need-enum-known-r (path-calls t) (path-at t) reads.Post Inv-loop μ-loop
+pub enum-known-r : (t : ℕ) → lts.Need-enum-known-r (calls t) (path-at t) reads.Post Inv-loop μ-loop
 enum-known-r t c = search needs
 
-pub add-n : (t : ℕ) → lts.Need-add-n (path-calls t) (path-at t) reads.Post Inv-loop μ-loop
+pub add-n : (t : ℕ) → lts.Need-add-n (calls t) (path-at t) reads.Post Inv-loop μ-loop
 add-n t c = let g = c .before .before .before .before .before .before .before .before .before .before .before .before .before .before .loop .inv in
     let tk = taken (c .before .before .before .before .before .before .before .before .before .before .before .kind .given .1) (c .before .before .before .before .before .before .before .before .before .before .before .before .before .look .ensures) in
     let w = done (c .before .r .given .1) (c .before .before .before .before .before .part .ensures) in
     omega (arith, c .before .before .before .before .before .before .before .before .before .before .before .before .before .before .before .before .before .pre, g .short, w .moved)
 
-pub loop-less : (t : ℕ) → lts.Need-loop-less (path-calls t) (path-at t) reads.Post Inv-loop μ-loop
+pub loop-less : (t : ℕ) → lts.Need-loop-less (calls t) (path-at t) reads.Post Inv-loop μ-loop
 loop-less t c = let tk = taken (c .before .before .before .before .before .before .before .before .before .before .before .kind .given .1) (c .before .before .before .before .before .before .before .before .before .before .before .before .before .look .ensures) in
     let w = done (c .before .r .given .1) (c .before .before .before .before .before .part .ensures) in
     omega (arith, tk .within, w .moved)
 
-pub loop-again : (t : ℕ) → lts.Need-loop-again (path-calls t) (path-at t) reads.Post Inv-loop μ-loop
+pub loop-again : (t : ℕ) → lts.Need-loop-again (calls t) (path-at t) reads.Post Inv-loop μ-loop
 loop-again t c = let g = c .before .before .before .before .before .before .before .before .before .before .before .before .before .before .loop .inv in
     let gr = g .run in
     let tk = taken (c .before .before .before .before .before .before .before .before .before .before .before .kind .given .1) (c .before .before .before .before .before .before .before .before .before .before .before .before .before .look .ensures) in
@@ -116,23 +124,23 @@ loop-again t c = let g = c .before .before .before .before .before .before .befo
       kept = omega (arith, g .kept, c .before .before .before .before .before .part .kept .1 .0);
     }
 
-pub same-length-2 : (t : ℕ) → lts.Need-same-length-2 (path-calls t) (path-at t) reads.Post Inv-loop μ-loop
+pub same-length-2 : (t : ℕ) → lts.Need-same-length-2 (calls t) (path-at t) reads.Post Inv-loop μ-loop
 same-length-2 t c = search needs
 
-pub returns-2 : (t : ℕ) → lts.Need-returns-2 (path-calls t) (path-at t) reads.Post Inv-loop μ-loop
+pub returns-2 : (t : ℕ) → lts.Need-returns-2 (calls t) (path-at t) reads.Post Inv-loop μ-loop
 returns-2 t c = let g = c .before .before .before .before .before .before .before .before .before .before .before .before .loop .inv in
     let gr = g .run in
     let tk = taken (c .before .before .before .before .before .before .before .before .before .kind .given .1) (c .before .before .before .before .before .before .before .before .before .before .before .look .ensures) in
     let on = link (gr .same) (way _ (path-more _ _ (gr .what) _ (g .fuel) _ (g .enough) tk (sym (c .before .before .before .before .before .before .before .continues .ensures) ∙ not-false _ (c .before .before .before .before .before .before .if1 .left)))) in
     did-not (fails _ on (undone (c .match2 .keys2) (c .before .before .before .part .ensures)) (prefix gr (omega (arith, c .before .before .before .before .before .before .before .before .before .before .before .before .before .before .before .pre))) (omega (arith, gr .moved, gr .room)))
 
-pub enum-known-s : (t : ℕ) → lts.Need-enum-known-s (path-calls t) (path-at t) reads.Post Inv-loop μ-loop
+pub enum-known-s : (t : ℕ) → lts.Need-enum-known-s (calls t) (path-at t) reads.Post Inv-loop μ-loop
 enum-known-s t c = search needs
 
-pub same-length-3 : (t : ℕ) → lts.Need-same-length-3 (path-calls t) (path-at t) reads.Post Inv-loop μ-loop
+pub same-length-3 : (t : ℕ) → lts.Need-same-length-3 (calls t) (path-at t) reads.Post Inv-loop μ-loop
 same-length-3 t c = search needs
 
-pub returns-3 : (t : ℕ) → lts.Need-returns-3 (path-calls t) (path-at t) reads.Post Inv-loop μ-loop
+pub returns-3 : (t : ℕ) → lts.Need-returns-3 (calls t) (path-at t) reads.Post Inv-loop μ-loop
 returns-3 t c = let g = c .before .before .before .before .loop .inv in
     let gr = g .run in
     did-not (blind (gr .same) (path-looks _ _ (gr .what) _ _ (g .fuel) _ (g .enough)) (not-taken (c .before .s .given .1) (c .before .before .before .look .ensures)) (prefix gr (omega (arith, c .before .before .before .before .before .before .before .pre))) (omega (arith, gr .moved)))

@@ -7,19 +7,24 @@ use Rattle.scan.proofs.Laws.{ends, taken, as-agrees}
 use Rattle.cycle.proofs.PathsExpr.{right-stops, right-step, left}
 use Rattle.cycle.proofs.rhs.Reads as reads
 use Rattle.cycle.proofs.+arm+atom+begin+binop+block+body+call+catch+cond+def+dest+dots+each+expr+fun+group+index+item+jump+key+label+lhs+list+loops+param+part+path+prim+rhs+sig+stmt+sync+table+tail+term+tuple+turn+unop+val+whiles.Lts-rhs as lts
-use Rattle.cycle.proofs.+arm+atom+begin+binop+block+body+call+catch+cond+def+dest+dots+each+expr+fun+group+index+item+jump+key+label+lhs+list+loops+param+part+path+prim+rhs+sig+stmt+sync+table+tail+term+tuple+turn+unop+val+whiles.Proof.Base.{rhs-calls, rhs-at}
+use Rattle.cycle.proofs.expr.Reads as expr-reads
+use Rattle.cycle.proofs.+arm+atom+begin+binop+block+body+call+catch+cond+def+dest+dots+each+expr+fun+group+index+item+jump+key+label+lhs+list+loops+param+part+path+prim+rhs+sig+stmt+sync+table+tail+term+tuple+turn+unop+val+whiles.Proof.Below.{rhs-at, expr-below}
 
-pub returns : (t : ℕ) → lts.Need-returns (rhs-calls t) (rhs-at t) reads.Post
+-- what is known of the functions that it calls
+abbrev pub calls : ℕ → lts.Claims
+calls t = (expr-below t, expr-reads.Post)
+
+pub returns : (t : ℕ) → lts.Need-returns (calls t) (rhs-at t) reads.Post
 returns t c = record { how = record { how = ends (right-stops _ _ _ (c .if1 .taken)) } }
 
-pub sub-expr : (t : ℕ) → lts.Need-sub-expr (rhs-calls t) (rhs-at t) reads.Post
+pub sub-expr : (t : ℕ) → lts.Need-sub-expr (calls t) (rhs-at t) reads.Post
 sub-expr t c = search needs
 
-pub expr-requires : (t : ℕ) → lts.Need-expr-requires (rhs-calls t) (rhs-at t) reads.Post
+pub expr-requires : (t : ℕ) → lts.Need-expr-requires (calls t) (rhs-at t) reads.Post
 expr-requires t c κs = omega arith
 
-pub same-length : (t : ℕ) → lts.Need-same-length (rhs-calls t) (rhs-at t) reads.Post
+pub same-length : (t : ℕ) → lts.Need-same-length (calls t) (rhs-at t) reads.Post
 same-length t c = search needs
 
-pub returns-2 : (t : ℕ) → lts.Need-returns-2 (rhs-calls t) (rhs-at t) reads.Post
+pub returns-2 : (t : ℕ) → lts.Need-returns-2 (calls t) (rhs-at t) reads.Post
 returns-2 t c = as-agrees (right-step _ _ _ (c .before .before .before .before .before .if1 .left)) (c .before .before .expr .ensures)

@@ -14,7 +14,15 @@ use Rattle.nodes.specs.Parameters.{name-bound, params-words, Fitting}
 use Rattle.cycle.proofs.PathsFunction.{params-looks, params-close, params-more, round, unjoined, one-param, no-params, none-fit, no-words-yet}
 use Rattle.cycle.proofs.sig.Reads as reads
 use Rattle.cycle.proofs.+arm+atom+begin+binop+block+body+call+catch+cond+def+dest+dots+each+expr+fun+group+index+item+jump+key+label+lhs+list+loops+param+part+path+prim+rhs+sig+stmt+sync+table+tail+term+tuple+turn+unop+val+whiles.Lts-sig as lts
-use Rattle.cycle.proofs.+arm+atom+begin+binop+block+body+call+catch+cond+def+dest+dots+each+expr+fun+group+index+item+jump+key+label+lhs+list+loops+param+part+path+prim+rhs+sig+stmt+sync+table+tail+term+tuple+turn+unop+val+whiles.Proof.Base.{sig-calls, sig-at}
+use Rattle.cycle.proofs.param.Reads as param-reads
+use Rattle.nodes.proofs.fields.joined.Reads as joined-reads
+use Rattle.nodes.proofs.fields.params_end.Reads as params-end-reads
+use Rattle.scan.proofs.tokens.look.Reads as look-reads
+use Rattle.cycle.proofs.+arm+atom+begin+binop+block+body+call+catch+cond+def+dest+dots+each+expr+fun+group+index+item+jump+key+label+lhs+list+loops+param+part+path+prim+rhs+sig+stmt+sync+table+tail+term+tuple+turn+unop+val+whiles.Proof.Below.{sig-at, param-below}
+
+-- what is known of the functions that it calls
+abbrev pub calls : ℕ → lts.Claims
+calls t = (look-reads.Asked, look-reads.Learnt, params-end-reads.Asked, params-end-reads.Learnt, param-below t, param-reads.Post, joined-reads.Asked, joined-reads.Learnt)
 
 -- where the loop stands
 pub record Going (T S₀ Q₀ : List ℕ) (depth pos at waiting : ℕ) (S Q : List ℕ) (p a w m n v : ℕ) : Type 0 where
@@ -32,49 +40,49 @@ Inv-loop tokens store₀ queue₀ depth pos at waiting p₀ a₀ w₀ required�
 abbrev pub μ-loop : lts.MeasureT-loop
 μ-loop tokens store₀ queue₀ depth pos at waiting p₀ a₀ w₀ required₀ default₀ variadic₀ store queue p a w required default variadic = length tokens - p
 
-pub loop-holds : (t : ℕ) → lts.Need-loop-holds (sig-calls t) (sig-at t) reads.Post Inv-loop μ-loop
+pub loop-holds : (t : ℕ) → lts.Need-loop-holds (calls t) (sig-at t) reads.Post Inv-loop μ-loop
 loop-holds t c = record { fuel = length (drop (c .before .before .args .pos) (c .before .before .args .tokens .now)); enough = rw length-drop (omega arith); run = record { what = no-params; same = here; moved = omega arith; room = omega arith; text = no-words-yet (take (c .before .before .args .at) (c .before .before .args .store .now)) }; fits = none-fit; few = omega arith; below = omega arith; kept = refl }
 
-pub look-requires : (t : ℕ) → lts.Need-look-requires (sig-calls t) (sig-at t) reads.Post Inv-loop μ-loop
+pub look-requires : (t : ℕ) → lts.Need-look-requires (calls t) (sig-at t) reads.Post Inv-loop μ-loop
 look-requires t c κs = let i = c .loop .inv in
     let g = i .run in
     g .moved .within
 
-pub enum-known-kind : (t : ℕ) → lts.Need-enum-known-kind (sig-calls t) (sig-at t) reads.Post Inv-loop μ-loop
+pub enum-known-kind : (t : ℕ) → lts.Need-enum-known-kind (calls t) (sig-at t) reads.Post Inv-loop μ-loop
 enum-known-kind t c = search needs
 
-pub params-end-requires : (t : ℕ) → lts.Need-params-end-requires (sig-calls t) (sig-at t) reads.Post Inv-loop μ-loop
+pub params-end-requires : (t : ℕ) → lts.Need-params-end-requires (calls t) (sig-at t) reads.Post Inv-loop μ-loop
 params-end-requires t c κs = let i = c .before .before .before .before .before .before .loop .inv in
     let g = i .run in
     let tk = taken (c .before .before .before .kind .given .1) (c .before .before .before .before .before .look .ensures) in
     (omega (arith, c .before .before .before .before .before .before .before .before .before .pre), omega (arith, c .before .before .before .before .before .before .before .before .before .pre), omega (arith, c .before .before .before .before .before .before .before .before .before .pre))
 
-pub same-length : (t : ℕ) → lts.Need-same-length (sig-calls t) (sig-at t) reads.Post Inv-loop μ-loop
+pub same-length : (t : ℕ) → lts.Need-same-length (calls t) (sig-at t) reads.Post Inv-loop μ-loop
 same-length t c = search needs
 
-pub returns : (t : ℕ) → lts.Need-returns (sig-calls t) (sig-at t) reads.Post Inv-loop μ-loop
+pub returns : (t : ℕ) → lts.Need-returns (calls t) (sig-at t) reads.Post Inv-loop μ-loop
 returns t c = let i = c .before .before .before .before .before .before .before .before .before .loop .inv in
     let g = i .run in
     let tk = taken (c .before .before .before .before .before .before .kind .given .1) (c .before .before .before .before .before .before .before .before .look .ensures) in
     let e = c .before .before .params-end .ensures in
     record { how = record { what = g .what; same = link (g .same) (way _ (params-close _ (g .what) _ (i .fuel) _ (i .enough) tk (c .before .before .before .before .if1 .taken))); moved = g .moved; room = omega (arith, c .before .before .before .before .before .before .before .before .before .before .before .before .pre, g .moved, g .room, e .up, e .far); text = e .text (take (c .before .before .before .before .before .before .before .before .before .before .before .before .args .at) (c .before .before .before .before .before .before .before .before .before .before .before .before .args .store .now)) (g .what) (i .fits) (g .text) } }
 
-pub param-requires : (t : ℕ) → lts.Need-param-requires (sig-calls t) (sig-at t) reads.Post Inv-loop μ-loop
+pub param-requires : (t : ℕ) → lts.Need-param-requires (calls t) (sig-at t) reads.Post Inv-loop μ-loop
 param-requires t c κs = let i = c .before .before .before .before .before .before .before .loop .inv in
     let g = i .run in
     let tk = taken (c .before .before .before .before .kind .given .1) (c .before .before .before .before .before .before .look .ensures) in
     (omega (arith, c .before .before .before .before .before .before .before .before .before .before .pre), omega (arith, c .before .before .before .before .before .before .before .before .before .before .pre))
 
-pub joined-requires : (t : ℕ) → lts.Need-joined-requires (sig-calls t) (sig-at t) reads.Post Inv-loop μ-loop
+pub joined-requires : (t : ℕ) → lts.Need-joined-requires (calls t) (sig-at t) reads.Post Inv-loop μ-loop
 joined-requires t c κs = let i = c .before .before .before .before .before .before .before .before .before .before .before .loop .inv in
     let g = i .run in
     let tk = taken (c .before .before .before .before .before .before .before .before .kind .given .1) (c .before .before .before .before .before .before .before .before .before .before .look .ensures) in
     (one-param (c .before .before .before .param .ensures) (omega (arith, c .before .before .before .before .before .before .before .before .before .before .before .before .before .before .pre)), omega (arith, c .before .before .before .before .before .before .before .before .before .before .before .before .before .before .pre), omega (arith, c .before .before .before .before .before .before .before .before .before .before .before .before .before .before .pre), i .below)
 
-pub enum-known-p2 : (t : ℕ) → lts.Need-enum-known-p2 (sig-calls t) (sig-at t) reads.Post Inv-loop μ-loop
+pub enum-known-p2 : (t : ℕ) → lts.Need-enum-known-p2 (calls t) (sig-at t) reads.Post Inv-loop μ-loop
 enum-known-p2 t c = search needs
 
-pub loop-less : (t : ℕ) → lts.Need-loop-less (sig-calls t) (sig-at t) reads.Post Inv-loop μ-loop
+pub loop-less : (t : ℕ) → lts.Need-loop-less (calls t) (sig-at t) reads.Post Inv-loop μ-loop
 loop-less t c = let i = c .before .before .before .before .before .before .before .before .before .before .before .before .before .before .before .before .before .loop .inv in
     let g = i .run in
     let tk = taken (c .before .before .before .before .before .before .before .before .before .before .before .before .before .before .kind .given .1) (c .before .before .before .before .before .before .before .before .before .before .before .before .before .before .before .before .look .ensures) in
@@ -82,7 +90,7 @@ loop-less t c = let i = c .before .before .before .before .before .before .befor
     let rd = round (at-depth (c .before .before .before .before .before .before .before .before .before .before .before .before .before .before .before .before .before .before .before .before .args .depth)) (i .fuel) g (i .fits) (i .few) on (omega (arith, c .before .before .before .before .before .before .before .before .before .before .before .before .before .before .before .before .before .before .before .before .pre)) (omega (arith, c .before .before .before .before .before .before .before .before .before .before .before .before .before .before .before .before .before .before .before .before .pre)) (omega (arith, c .before .before .before .before .before .before .before .before .before .before .before .before .before .before .before .before .before .before .before .before .pre)) (omega (arith, c .before .before .before .before .before .before .before .before .before .before .before .before .before .before .before .before .before .before .before .before .pre)) (omega (arith, c .before .before .before .before .before .before .before .before .before .before .before .before .before .before .before .before .before .before .before .before .pre)) (c .before .p2 .given .1) (c .before .before .before .before .before .before .before .before .before .param .ensures) (c .before .before .before .before .before .joined .ensures) in
     omega (arith, rd .far, rd .run .moved .within)
 
-pub loop-again : (t : ℕ) → lts.Need-loop-again (sig-calls t) (sig-at t) reads.Post Inv-loop μ-loop
+pub loop-again : (t : ℕ) → lts.Need-loop-again (calls t) (sig-at t) reads.Post Inv-loop μ-loop
 loop-again t c = let i = c .before .before .before .before .before .before .before .before .before .before .before .before .before .before .before .before .before .loop .inv in
     let g = i .run in
     let tk = taken (c .before .before .before .before .before .before .before .before .before .before .before .before .before .before .kind .given .1) (c .before .before .before .before .before .before .before .before .before .before .before .before .before .before .before .before .look .ensures) in
@@ -90,26 +98,26 @@ loop-again t c = let i = c .before .before .before .before .before .before .befo
     let rd = round (at-depth (c .before .before .before .before .before .before .before .before .before .before .before .before .before .before .before .before .before .before .before .before .args .depth)) (i .fuel) g (i .fits) (i .few) on (omega (arith, c .before .before .before .before .before .before .before .before .before .before .before .before .before .before .before .before .before .before .before .before .pre)) (omega (arith, c .before .before .before .before .before .before .before .before .before .before .before .before .before .before .before .before .before .before .before .before .pre)) (omega (arith, c .before .before .before .before .before .before .before .before .before .before .before .before .before .before .before .before .before .before .before .before .pre)) (omega (arith, c .before .before .before .before .before .before .before .before .before .before .before .before .before .before .before .before .before .before .before .before .pre)) (omega (arith, c .before .before .before .before .before .before .before .before .before .before .before .before .before .before .before .before .before .before .before .before .pre)) (c .before .p2 .given .1) (c .before .before .before .before .before .before .before .before .before .param .ensures) (c .before .before .before .before .before .joined .ensures) in
     record { fuel = i .fuel - 1; enough = omega (arith, i .enough, rd .far); run = rd .run; fits = rd .fits; few = rd .few; below = rd .below; kept = omega arith }
 
-pub enum-known-s : (t : ℕ) → lts.Need-enum-known-s (sig-calls t) (sig-at t) reads.Post Inv-loop μ-loop
+pub enum-known-s : (t : ℕ) → lts.Need-enum-known-s (calls t) (sig-at t) reads.Post Inv-loop μ-loop
 enum-known-s t c = search needs
 
-pub same-length-2 : (t : ℕ) → lts.Need-same-length-2 (sig-calls t) (sig-at t) reads.Post Inv-loop μ-loop
+pub same-length-2 : (t : ℕ) → lts.Need-same-length-2 (calls t) (sig-at t) reads.Post Inv-loop μ-loop
 same-length-2 t c = search needs
 
-pub returns-2 : (t : ℕ) → lts.Need-returns-2 (sig-calls t) (sig-at t) reads.Post Inv-loop μ-loop
+pub returns-2 : (t : ℕ) → lts.Need-returns-2 (calls t) (sig-at t) reads.Post Inv-loop μ-loop
 returns-2 t c = let i = c .before .before .before .before .before .before .before .before .before .before .before .before .before .before .before .before .before .loop .inv in
     let g = i .run in
     let tk = taken (c .before .before .before .before .before .before .before .before .before .before .before .before .before .before .kind .given .1) (c .before .before .before .before .before .before .before .before .before .before .before .before .before .before .before .before .look .ensures) in
     let on = link (g .same) (way _ (params-more _ (g .what) _ (i .fuel) _ (i .enough) tk (c .before .before .before .before .before .before .before .before .before .before .before .before .if1 .left))) in
     did-not (unjoined (at-depth (c .before .before .before .before .before .before .before .before .before .before .before .before .before .before .before .before .before .before .before .before .args .depth)) (i .fuel) g (i .fits) (i .few) on (omega (arith, c .before .before .before .before .before .before .before .before .before .before .before .before .before .before .before .before .before .before .before .before .pre)) (omega (arith, c .before .before .before .before .before .before .before .before .before .before .before .before .before .before .before .before .before .before .before .before .pre)) (omega (arith, c .before .before .before .before .before .before .before .before .before .before .before .before .before .before .before .before .before .before .before .before .pre)) (omega (arith, c .before .before .before .before .before .before .before .before .before .before .before .before .before .before .before .before .before .before .before .before .pre)) (omega (arith, c .before .before .before .before .before .before .before .before .before .before .before .before .before .before .before .before .before .before .before .before .pre)) (c .before .s .given .1) (c .before .before .before .before .before .before .before .before .before .param .ensures) (c .before .before .before .before .before .joined .ensures))
 
-pub enum-known-s-2 : (t : ℕ) → lts.Need-enum-known-s-2 (sig-calls t) (sig-at t) reads.Post Inv-loop μ-loop
+pub enum-known-s-2 : (t : ℕ) → lts.Need-enum-known-s-2 (calls t) (sig-at t) reads.Post Inv-loop μ-loop
 enum-known-s-2 t c = search needs
 
-pub same-length-3 : (t : ℕ) → lts.Need-same-length-3 (sig-calls t) (sig-at t) reads.Post Inv-loop μ-loop
+pub same-length-3 : (t : ℕ) → lts.Need-same-length-3 (calls t) (sig-at t) reads.Post Inv-loop μ-loop
 same-length-3 t c = search needs
 
-pub returns-3 : (t : ℕ) → lts.Need-returns-3 (sig-calls t) (sig-at t) reads.Post Inv-loop μ-loop
+pub returns-3 : (t : ℕ) → lts.Need-returns-3 (calls t) (sig-at t) reads.Post Inv-loop μ-loop
 returns-3 t c = let i = c .before .before .before .before .loop .inv in
     let g = i .run in
     did-not (blind (g .same) (params-looks _ (g .what) _ _ (i .fuel) _ (i .enough)) (not-taken (c .before .s2 .given .1) (c .before .before .before .look .ensures)) (prefix g (omega arith)) (omega arith))

@@ -14,7 +14,14 @@ use Rattle.grammar.specs.Reading.Stmt.{synchronize}
 use Rattle.cycle.proofs.PathsList.{sync-none, sync-skip, sync-halt, sync-try, sync-stop}
 use Rattle.cycle.proofs.sync.Reads as reads
 use Rattle.cycle.proofs.+arm+atom+begin+binop+block+body+call+catch+cond+def+dest+dots+each+expr+fun+group+index+item+jump+key+label+lhs+list+loops+param+part+path+prim+rhs+sig+stmt+sync+table+tail+term+tuple+turn+unop+val+whiles.Lts-sync as lts
-use Rattle.cycle.proofs.+arm+atom+begin+binop+block+body+call+catch+cond+def+dest+dots+each+expr+fun+group+index+item+jump+key+label+lhs+list+loops+param+part+path+prim+rhs+sig+stmt+sync+table+tail+term+tuple+turn+unop+val+whiles.Proof.Base.{sync-calls, sync-at}
+use Rattle.cycle.proofs.expr.Reads as expr-reads
+use Rattle.scan.proofs.tokens.halts.Reads as halts-reads
+use Rattle.scan.proofs.tokens.look.Reads as look-reads
+use Rattle.cycle.proofs.+arm+atom+begin+binop+block+body+call+catch+cond+def+dest+dots+each+expr+fun+group+index+item+jump+key+label+lhs+list+loops+param+part+path+prim+rhs+sig+stmt+sync+table+tail+term+tuple+turn+unop+val+whiles.Proof.Below.{sync-at, expr-below}
+
+-- what is known of the functions that it calls
+abbrev pub calls : ℕ → lts.Claims
+calls t = (look-reads.Asked, look-reads.Learnt, halts-reads.Asked, halts-reads.Learnt, expr-below t, expr-reads.Post)
 
 -- where the loop stands: the whole is what resynchronizing from here makes
 pub record Going (T S₀ Q₀ : List ℕ) (depth pos at waiting : ℕ) (inside : Bool) (S Q : List ℕ) (p w : ℕ) : Type 0 where
@@ -31,38 +38,38 @@ Inv-loop tokens store₀ queue₀ depth inside pos at waiting p₀ w₀ store qu
 abbrev pub μ-loop : lts.MeasureT-loop
 μ-loop tokens store₀ queue₀ depth inside pos at waiting p₀ w₀ store queue p w = length tokens - p
 
-pub loop-holds : (t : ℕ) → lts.Need-loop-holds (sync-calls t) (sync-at t) reads.Post Inv-loop μ-loop
+pub loop-holds : (t : ℕ) → lts.Need-loop-holds (calls t) (sync-at t) reads.Post Inv-loop μ-loop
 loop-holds t c = record { fuel = length (drop (c .before .before .args .pos) (c .before .before .args .tokens .now)); enough = rw length-drop (omega arith); same = here; moved = omega arith; text = refl; kept = refl }
 
-pub look-requires : (t : ℕ) → lts.Need-look-requires (sync-calls t) (sync-at t) reads.Post Inv-loop μ-loop
+pub look-requires : (t : ℕ) → lts.Need-look-requires (calls t) (sync-at t) reads.Post Inv-loop μ-loop
 look-requires t c κs = c .loop .inv .moved .within
 
-pub enum-known-kind : (t : ℕ) → lts.Need-enum-known-kind (sync-calls t) (sync-at t) reads.Post Inv-loop μ-loop
+pub enum-known-kind : (t : ℕ) → lts.Need-enum-known-kind (calls t) (sync-at t) reads.Post Inv-loop μ-loop
 enum-known-kind t c = search needs
 
-pub halts-requires : (t : ℕ) → lts.Need-halts-requires (sync-calls t) (sync-at t) reads.Post Inv-loop μ-loop
+pub halts-requires : (t : ℕ) → lts.Need-halts-requires (calls t) (sync-at t) reads.Post Inv-loop μ-loop
 halts-requires t c κs = search needs
 
-pub same-length : (t : ℕ) → lts.Need-same-length (sync-calls t) (sync-at t) reads.Post Inv-loop μ-loop
+pub same-length : (t : ℕ) → lts.Need-same-length (calls t) (sync-at t) reads.Post Inv-loop μ-loop
 same-length t c = search needs
 
-pub returns : (t : ℕ) → lts.Need-returns (sync-calls t) (sync-at t) reads.Post Inv-loop μ-loop
+pub returns : (t : ℕ) → lts.Need-returns (calls t) (sync-at t) reads.Post Inv-loop μ-loop
 returns t c = let g = c .before .before .before .before .before .before .loop .inv in
     let tk = taken (c .before .before .before .kind .given .1) (c .before .before .before .before .before .look .ensures) in
     record { how = record { what = tt; same = link (g .same) (way _ (sync-halt _ _ _ (g .fuel) _ (g .enough) tk (sym (c .before .halts .ensures) ∙ c .if1 .taken))); moved = g .moved; room = omega arith; text = g .text ∙ sym (append-nil (take (c .before .before .before .before .before .before .before .before .before .args .at) (c .before .before .before .before .before .before .before .before .before .args .store .now))) } }
 
-pub expr-requires : (t : ℕ) → lts.Need-expr-requires (sync-calls t) (sync-at t) reads.Post Inv-loop μ-loop
+pub expr-requires : (t : ℕ) → lts.Need-expr-requires (calls t) (sync-at t) reads.Post Inv-loop μ-loop
 expr-requires t c κs = let g = c .before .before .before .before .before .before .before .before .loop .inv in
     let tk = taken (c .before .before .before .before .before .kind .given .1) (c .before .before .before .before .before .before .before .look .ensures) in
     omega (arith, c .before .before .before .before .before .before .before .before .before .before .before .pre)
 
-pub enum-known-r : (t : ℕ) → lts.Need-enum-known-r (sync-calls t) (sync-at t) reads.Post Inv-loop μ-loop
+pub enum-known-r : (t : ℕ) → lts.Need-enum-known-r (calls t) (sync-at t) reads.Post Inv-loop μ-loop
 enum-known-r t c = search needs
 
-pub same-length-2 : (t : ℕ) → lts.Need-same-length-2 (sync-calls t) (sync-at t) reads.Post Inv-loop μ-loop
+pub same-length-2 : (t : ℕ) → lts.Need-same-length-2 (calls t) (sync-at t) reads.Post Inv-loop μ-loop
 same-length-2 t c = search needs
 
-pub returns-2 : (t : ℕ) → lts.Need-returns-2 (sync-calls t) (sync-at t) reads.Post Inv-loop μ-loop
+pub returns-2 : (t : ℕ) → lts.Need-returns-2 (calls t) (sync-at t) reads.Post Inv-loop μ-loop
 returns-2 t c = let g = c .before .before .before .before .before .before .before .before .before .before .before .before .before .before .loop .inv in
     let tk = taken (c .before .before .before .before .before .before .before .before .before .before .before .kind .given .1) (c .before .before .before .before .before .before .before .before .before .before .before .before .before .look .ensures) in
     let try = link (g .same) (way _ (sync-try _ _ _ (g .fuel) _ (g .enough) tk (sym (c .before .before .before .before .before .before .before .before .before .halts .ensures) ∙ c .before .before .before .before .before .before .before .before .if1 .left))) in
@@ -70,17 +77,17 @@ returns-2 t c = let g = c .before .before .before .before .before .before .befor
     let gm = g .moved in
     record { how = record { what = tt; same = wins _ _ try (w .same); moved = omega arith; room = omega arith; text = prefix w (omega (arith, c .before .before .before .before .before .before .before .before .before .before .before .before .before .before .before .before .before .pre)) ∙ g .text ∙ sym (append-nil (take (c .before .before .before .before .before .before .before .before .before .before .before .before .before .before .before .before .before .args .at) (c .before .before .before .before .before .before .before .before .before .before .before .before .before .before .before .before .before .args .store .now))) } }
 
-pub enum-known-r-2 : (t : ℕ) → lts.Need-enum-known-r-2 (sync-calls t) (sync-at t) reads.Post Inv-loop μ-loop
+pub enum-known-r-2 : (t : ℕ) → lts.Need-enum-known-r-2 (calls t) (sync-at t) reads.Post Inv-loop μ-loop
 enum-known-r-2 t c = search needs
 
-pub loop-less : (t : ℕ) → lts.Need-loop-less (sync-calls t) (sync-at t) reads.Post Inv-loop μ-loop
+pub loop-less : (t : ℕ) → lts.Need-loop-less (calls t) (sync-at t) reads.Post Inv-loop μ-loop
 loop-less t c = let g = c .before .before .before .before .before .before .before .before .before .before .before .before .before .before .loop .inv in
     let tk = taken (c .before .before .before .before .before .before .before .before .before .before .before .kind .given .1) (c .before .before .before .before .before .before .before .before .before .before .before .before .before .look .ensures) in
     let m = missed (c .before .r2 .given .1) (c .before .before .before .before .before .expr .ensures) in
     let far = m .far in
     omega arith
 
-pub loop-again : (t : ℕ) → lts.Need-loop-again (sync-calls t) (sync-at t) reads.Post Inv-loop μ-loop
+pub loop-again : (t : ℕ) → lts.Need-loop-again (calls t) (sync-at t) reads.Post Inv-loop μ-loop
 loop-again t c = let g = c .before .before .before .before .before .before .before .before .before .before .before .before .before .before .loop .inv in
     let tk = taken (c .before .before .before .before .before .before .before .before .before .before .before .kind .given .1) (c .before .before .before .before .before .before .before .before .before .before .before .before .before .look .ensures) in
     let try = link (g .same) (way _ (sync-try _ _ _ (g .fuel) _ (g .enough) tk (sym (c .before .before .before .before .before .before .before .before .before .halts .ensures) ∙ c .before .before .before .before .before .before .before .before .if1 .left))) in
@@ -89,40 +96,40 @@ loop-again t c = let g = c .before .before .before .before .before .before .befo
     let far = m .far in
     record { fuel = g .fuel - 1; enough = omega arith; same = loses _ _ try (m .same); moved = omega arith; text = m .text ∙ g .text; kept = omega arith }
 
-pub enum-told : (t : ℕ) → lts.Need-enum-told (sync-calls t) (sync-at t) reads.Post Inv-loop μ-loop
+pub enum-told : (t : ℕ) → lts.Need-enum-told (calls t) (sync-at t) reads.Post Inv-loop μ-loop
 enum-told t c = search needs
 
-pub same-length-3 : (t : ℕ) → lts.Need-same-length-3 (sync-calls t) (sync-at t) reads.Post Inv-loop μ-loop
+pub same-length-3 : (t : ℕ) → lts.Need-same-length-3 (calls t) (sync-at t) reads.Post Inv-loop μ-loop
 same-length-3 t c = search needs
 
-pub returns-3 : (t : ℕ) → lts.Need-returns-3 (sync-calls t) (sync-at t) reads.Post Inv-loop μ-loop
+pub returns-3 : (t : ℕ) → lts.Need-returns-3 (calls t) (sync-at t) reads.Post Inv-loop μ-loop
 returns-3 t c = let g = c .before .before .before .before .before .before .before .before .before .before .before .before .before .loop .inv in
     let tk = taken (c .before .before .before .before .before .before .before .before .before .before .kind .given .1) (c .before .before .before .before .before .before .before .before .before .before .before .before .look .ensures) in
     let try = link (g .same) (way _ (sync-try _ _ _ (g .fuel) _ (g .enough) tk (sym (c .before .before .before .before .before .before .before .before .halts .ensures) ∙ c .before .before .before .before .before .before .before .if1 .left))) in
     did-not (stops _ _ try (c .before .match2 .keys3) (c .before .before .before .before .expr .ensures))
 
-pub enum-known-s : (t : ℕ) → lts.Need-enum-known-s (sync-calls t) (sync-at t) reads.Post Inv-loop μ-loop
+pub enum-known-s : (t : ℕ) → lts.Need-enum-known-s (calls t) (sync-at t) reads.Post Inv-loop μ-loop
 enum-known-s t c = search needs
 
-pub enum-known-s-2 : (t : ℕ) → lts.Need-enum-known-s-2 (sync-calls t) (sync-at t) reads.Post Inv-loop μ-loop
+pub enum-known-s-2 : (t : ℕ) → lts.Need-enum-known-s-2 (calls t) (sync-at t) reads.Post Inv-loop μ-loop
 enum-known-s-2 t c = search needs
 
-pub same-length-4 : (t : ℕ) → lts.Need-same-length-4 (sync-calls t) (sync-at t) reads.Post Inv-loop μ-loop
+pub same-length-4 : (t : ℕ) → lts.Need-same-length-4 (calls t) (sync-at t) reads.Post Inv-loop μ-loop
 same-length-4 t c = search needs
 
-pub returns-4 : (t : ℕ) → lts.Need-returns-4 (sync-calls t) (sync-at t) reads.Post Inv-loop μ-loop
+pub returns-4 : (t : ℕ) → lts.Need-returns-4 (calls t) (sync-at t) reads.Post Inv-loop μ-loop
 returns-4 t c = let g = c .before .before .before .before .before .before .before .before .loop .inv in
     let ms = unseen (c .before .before .s2 .given .1) (not-taken (c .before .before .before .before .before .s .given .1) (c .before .before .before .before .before .before .before .look .ensures)) in
     record { how = record { what = tt; same = link (g .same) (sync-none _ _ _ (g .fuel) _ (g .enough) ms (c .if2 .taken)); moved = g .moved; room = omega arith; text = g .text ∙ sym (append-nil (take (c .before .before .before .before .before .before .before .before .before .before .before .args .at) (c .before .before .before .before .before .before .before .before .before .before .before .args .store .now))) } }
 
-pub loop-less-2 : (t : ℕ) → lts.Need-loop-less-2 (sync-calls t) (sync-at t) reads.Post Inv-loop μ-loop
+pub loop-less-2 : (t : ℕ) → lts.Need-loop-less-2 (calls t) (sync-at t) reads.Post Inv-loop μ-loop
 loop-less-2 t c = let g = c .before .before .before .before .before .before .before .before .loop .inv in
     let ms = unseen (c .before .before .s2 .given .1) (not-taken (c .before .before .before .before .before .s .given .1) (c .before .before .before .before .before .before .before .look .ensures)) in
     let past = ms .past (c .if2 .left) in
     let within = ms .lacks .within in
     omega arith
 
-pub loop-again-2 : (t : ℕ) → lts.Need-loop-again-2 (sync-calls t) (sync-at t) reads.Post Inv-loop μ-loop
+pub loop-again-2 : (t : ℕ) → lts.Need-loop-again-2 (calls t) (sync-at t) reads.Post Inv-loop μ-loop
 loop-again-2 t c = let g = c .before .before .before .before .before .before .before .before .loop .inv in
     let ms = unseen (c .before .before .s2 .given .1) (not-taken (c .before .before .before .before .before .s .given .1) (c .before .before .before .before .before .before .before .look .ensures)) in
     let past = ms .past (c .if2 .left) in
@@ -130,9 +137,9 @@ loop-again-2 t c = let g = c .before .before .before .before .before .before .be
     let gm = g .moved in
     record { fuel = g .fuel - 1; enough = omega arith; same = link (g .same) (sync-skip _ _ _ (g .fuel) _ (g .enough) ms (c .if2 .left)); moved = omega arith; text = g .text; kept = g .kept }
 
-pub same-length-5 : (t : ℕ) → lts.Need-same-length-5 (sync-calls t) (sync-at t) reads.Post Inv-loop μ-loop
+pub same-length-5 : (t : ℕ) → lts.Need-same-length-5 (calls t) (sync-at t) reads.Post Inv-loop μ-loop
 same-length-5 t c = search needs
 
-pub returns-5 : (t : ℕ) → lts.Need-returns-5 (sync-calls t) (sync-at t) reads.Post Inv-loop μ-loop
+pub returns-5 : (t : ℕ) → lts.Need-returns-5 (calls t) (sync-at t) reads.Post Inv-loop μ-loop
 returns-5 t c = let g = c .before .before .before .before .before .loop .inv in
     did-not (blinded (c .match3 .keys2) (not-taken (c .before .before .s .given .1) (c .before .before .before .before .look .ensures)) (g .same) (sync-stop _ _ _ _ (g .fuel) _ (g .enough)))

@@ -15,7 +15,15 @@ use Rattle.grammar.specs.Reading.Primary.{table-items, table-literal}
 use Rattle.cycle.proofs.PathsPrimary.{items-looks, items-end, items-more, items-closed, items-on}
 use Rattle.cycle.proofs.table.Reads as reads
 use Rattle.cycle.proofs.+arm+atom+begin+binop+block+body+call+catch+cond+def+dest+dots+each+expr+fun+group+index+item+jump+key+label+lhs+list+loops+param+part+path+prim+rhs+sig+stmt+sync+table+tail+term+tuple+turn+unop+val+whiles.Lts-table as lts
-use Rattle.cycle.proofs.+arm+atom+begin+binop+block+body+call+catch+cond+def+dest+dots+each+expr+fun+group+index+item+jump+key+label+lhs+list+loops+param+part+path+prim+rhs+sig+stmt+sync+table+tail+term+tuple+turn+unop+val+whiles.Proof.Base.{table-calls, table-at}
+use Rattle.cycle.proofs.item.Reads as item-reads
+use Rattle.nodes.proofs.fields.item_end.Reads as item-end-reads
+use Rattle.nodes.proofs.records.list_end.Reads as list-end-reads
+use Rattle.scan.proofs.tokens.look.Reads as look-reads
+use Rattle.cycle.proofs.+arm+atom+begin+binop+block+body+call+catch+cond+def+dest+dots+each+expr+fun+group+index+item+jump+key+label+lhs+list+loops+param+part+path+prim+rhs+sig+stmt+sync+table+tail+term+tuple+turn+unop+val+whiles.Proof.Below.{table-at, item-below}
+
+-- what is known of the functions that it calls
+abbrev pub calls : ℕ → lts.Claims
+calls t = (look-reads.Asked, look-reads.Learnt, list-end-reads.Asked, list-end-reads.Learnt, item-below t, item-reads.Post, item-end-reads.Asked, item-end-reads.Learnt)
 
 -- where the loop stands: the whole is what `table-items` makes of the n items that are written so far
 pub record Going (T S₀ Q₀ : List ℕ) (depth pos at waiting : ℕ) (S Q : List ℕ) (p a w n : ℕ) : Type 0 where
@@ -32,7 +40,7 @@ Inv-loop tokens store₀ queue₀ depth pos at waiting p₀ a₀ w₀ n₀ store
 abbrev pub μ-loop : lts.MeasureT-loop
 μ-loop tokens store₀ queue₀ depth pos at waiting p₀ a₀ w₀ n₀ store queue p a w n = length tokens - p
 
-pub loop-holds : (t : ℕ) → lts.Need-loop-holds (table-calls t) (table-at t) reads.Post Inv-loop μ-loop
+pub loop-holds : (t : ℕ) → lts.Need-loop-holds (calls t) (table-at t) reads.Post Inv-loop μ-loop
 unfolding records count
 loop-holds t c = record {
   fuel = length (drop (c .before .before .args .pos) (c .before .before .args .tokens .now));
@@ -43,26 +51,26 @@ loop-holds t c = record {
   kept = refl;
 }
 
-pub look-requires : (t : ℕ) → lts.Need-look-requires (table-calls t) (table-at t) reads.Post Inv-loop μ-loop
+pub look-requires : (t : ℕ) → lts.Need-look-requires (calls t) (table-at t) reads.Post Inv-loop μ-loop
 look-requires t c κs = c .loop .inv .run .moved .within
 
-pub enum-known-kind : (t : ℕ) → lts.Need-enum-known-kind (table-calls t) (table-at t) reads.Post Inv-loop μ-loop
+pub enum-known-kind : (t : ℕ) → lts.Need-enum-known-kind (calls t) (table-at t) reads.Post Inv-loop μ-loop
 enum-known-kind t c = search needs
 
-pub add-t23 : (t : ℕ) → lts.Need-add-t23 (table-calls t) (table-at t) reads.Post Inv-loop μ-loop
+pub add-t23 : (t : ℕ) → lts.Need-add-t23 (calls t) (table-at t) reads.Post Inv-loop μ-loop
 add-t23 t c = let tk = taken (c .before .before .kind .given .1) (c .before .before .before .before .look .ensures) in
     omega arith
 
-pub list-end-requires : (t : ℕ) → lts.Need-list-end-requires (table-calls t) (table-at t) reads.Post Inv-loop μ-loop
+pub list-end-requires : (t : ℕ) → lts.Need-list-end-requires (calls t) (table-at t) reads.Post Inv-loop μ-loop
 list-end-requires t c κs = let g = c .before .before .before .before .before .before .loop .inv in
     let gr = g .run in
     let tk = taken (c .before .before .before .kind .given .1) (c .before .before .before .before .before .look .ensures) in
     (omega (arith, c .before .before .before .before .before .before .before .before .before .pre, g .kept, gr .moved, gr .room, tk .within), omega (arith, c .before .before .before .before .before .before .before .before .before .pre, g .short, tk .within))
 
-pub same-length : (t : ℕ) → lts.Need-same-length (table-calls t) (table-at t) reads.Post Inv-loop μ-loop
+pub same-length : (t : ℕ) → lts.Need-same-length (calls t) (table-at t) reads.Post Inv-loop μ-loop
 same-length t c = search needs
 
-pub returns : (t : ℕ) → lts.Need-returns (table-calls t) (table-at t) reads.Post Inv-loop μ-loop
+pub returns : (t : ℕ) → lts.Need-returns (calls t) (table-at t) reads.Post Inv-loop μ-loop
 returns t c = let g = c .before .before .before .before .before .before .before .before .before .loop .inv in
     let gr = g .run in
     let tk = taken (c .before .before .before .before .before .before .kind .given .1) (c .before .before .before .before .before .before .before .before .look .ensures) in
@@ -70,49 +78,49 @@ returns t c = let g = c .before .before .before .before .before .before .before 
     let e = c .before .before .list-end .ensures in
     record { how = record { what = gr .what; same = out; moved = omega (arith, c .before .before .before .before .before .before .before .before .before .before .before .before .pre, gr .moved, tk .within); room = omega (arith, gr .room, e .next); text = put 1 (gr .what) (take (c .before .before .before .before .before .before .before .before .before .before .before .before .args .at) (c .before .before .before .before .before .before .before .before .before .before .before .before .args .store .now)) e (gr .text) (ap (λ (i : ℕ). 1 + 256 * i) (sym (g .many))) } }
 
-pub item-requires : (t : ℕ) → lts.Need-item-requires (table-calls t) (table-at t) reads.Post Inv-loop μ-loop
+pub item-requires : (t : ℕ) → lts.Need-item-requires (calls t) (table-at t) reads.Post Inv-loop μ-loop
 item-requires t c κs = let g = c .before .before .before .before .before .before .before .loop .inv in
     let gr = g .run in
     let tk = taken (c .before .before .before .before .kind .given .1) (c .before .before .before .before .before .before .look .ensures) in
     omega (arith, c .before .before .before .before .before .before .before .before .before .before .pre, g .kept, gr .moved, gr .room, tk .within)
 
-pub enum-known-r : (t : ℕ) → lts.Need-enum-known-r (table-calls t) (table-at t) reads.Post Inv-loop μ-loop
+pub enum-known-r : (t : ℕ) → lts.Need-enum-known-r (calls t) (table-at t) reads.Post Inv-loop μ-loop
 enum-known-r t c = search needs
 
-pub same-length-2 : (t : ℕ) → lts.Need-same-length-2 (table-calls t) (table-at t) reads.Post Inv-loop μ-loop
+pub same-length-2 : (t : ℕ) → lts.Need-same-length-2 (calls t) (table-at t) reads.Post Inv-loop μ-loop
 same-length-2 t c = search needs
 
-pub returns-2 : (t : ℕ) → lts.Need-returns-2 (table-calls t) (table-at t) reads.Post Inv-loop μ-loop
+pub returns-2 : (t : ℕ) → lts.Need-returns-2 (calls t) (table-at t) reads.Post Inv-loop μ-loop
 returns-2 t c = let g = c .before .before .before .before .before .before .before .before .before .before .before .loop .inv in
     let gr = g .run in
     let tk = taken (c .before .before .before .before .before .before .before .before .kind .given .1) (c .before .before .before .before .before .before .before .before .before .before .look .ensures) in
     let on = link (gr .same) (way _ (items-more _ (gr .what) _ (g .fuel) _ (g .enough) tk (c .before .before .before .before .before .before .if1 .left))) in
     did-not (fails _ on (undone (c .match2 .keys2) (c .before .before .before .item .ensures)) (prefix gr (omega (arith, c .before .before .before .before .before .before .before .before .before .before .before .before .before .before .pre))) (omega (arith, gr .moved, gr .room)))
 
-pub item-end-requires : (t : ℕ) → lts.Need-item-end-requires (table-calls t) (table-at t) reads.Post Inv-loop μ-loop
+pub item-end-requires : (t : ℕ) → lts.Need-item-end-requires (calls t) (table-at t) reads.Post Inv-loop μ-loop
 item-end-requires t c κs = let w = done (c .before .r .given .1) (c .before .before .before .before .before .item .ensures) in
     w .moved .within
 
-pub enum-known-p2 : (t : ℕ) → lts.Need-enum-known-p2 (table-calls t) (table-at t) reads.Post Inv-loop μ-loop
+pub enum-known-p2 : (t : ℕ) → lts.Need-enum-known-p2 (calls t) (table-at t) reads.Post Inv-loop μ-loop
 enum-known-p2 t c = search needs
 
-pub add-list-end : (t : ℕ) → lts.Need-add-list-end (table-calls t) (table-at t) reads.Post Inv-loop μ-loop
+pub add-list-end : (t : ℕ) → lts.Need-add-list-end (calls t) (table-at t) reads.Post Inv-loop μ-loop
 add-list-end t c = let g = c .before .before .before .before .before .before .before .before .before .before .before .before .before .before .before .before .before .before .before .loop .inv in
     let ie = found (c .before .before .before .p2 .given .1) (c .before .before .before .before .before .item-end .ensures) in
     let w = done (c .before .before .before .before .before .before .before .r .given .1) (c .before .before .before .before .before .before .before .before .before .before .before .item .ensures) in
     omega (arith, c .before .before .before .before .before .before .before .before .before .before .before .before .before .before .before .before .before .before .before .before .before .before .pre, g .short, w .moved, ie .got .on, ie .got .within)
 
-pub list-end-requires-2 : (t : ℕ) → lts.Need-list-end-requires-2 (table-calls t) (table-at t) reads.Post Inv-loop μ-loop
+pub list-end-requires-2 : (t : ℕ) → lts.Need-list-end-requires-2 (calls t) (table-at t) reads.Post Inv-loop μ-loop
 list-end-requires-2 t c κs = let g = c .before .before .before .before .before .before .before .before .before .before .before .before .before .before .before .before .before .before .before .loop .inv in
     let gr = g .run in
     let w = done (c .before .before .before .before .before .before .before .r .given .1) (c .before .before .before .before .before .before .before .before .before .before .before .item .ensures) in
     let ie = found (c .before .before .before .p2 .given .1) (c .before .before .before .before .before .item-end .ensures) in
     (omega (arith, c .before .before .before .before .before .before .before .before .before .before .before .before .before .before .before .before .before .before .before .before .before .before .pre, g .kept, gr .moved, gr .room, w .moved, w .room, ie .got .on, ie .got .within, c .before .before .before .before .before .before .before .before .before .before .before .item .kept .1 .0), omega (arith, c .before .before .before .before .before .before .before .before .before .before .before .before .before .before .before .before .before .before .before .before .before .before .pre, g .short, w .moved, ie .got .on, ie .got .within))
 
-pub same-length-3 : (t : ℕ) → lts.Need-same-length-3 (table-calls t) (table-at t) reads.Post Inv-loop μ-loop
+pub same-length-3 : (t : ℕ) → lts.Need-same-length-3 (calls t) (table-at t) reads.Post Inv-loop μ-loop
 same-length-3 t c = search needs
 
-pub returns-3 : (t : ℕ) → lts.Need-returns-3 (table-calls t) (table-at t) reads.Post Inv-loop μ-loop
+pub returns-3 : (t : ℕ) → lts.Need-returns-3 (calls t) (table-at t) reads.Post Inv-loop μ-loop
 returns-3 t c = let g = c .before .before .before .before .before .before .before .before .before .before .before .before .before .before .before .before .before .before .before .before .before .before .loop .inv in
     let gr = g .run in
     let tk = taken (c .before .before .before .before .before .before .before .before .before .before .before .before .before .before .before .before .before .before .before .kind .given .1) (c .before .before .before .before .before .before .before .before .before .before .before .before .before .before .before .before .before .before .before .before .before .look .ensures) in
@@ -133,18 +141,18 @@ returns-3 t c = let g = c .before .before .before .before .before .before .befor
       };
     }
 
-pub add-n : (t : ℕ) → lts.Need-add-n (table-calls t) (table-at t) reads.Post Inv-loop μ-loop
+pub add-n : (t : ℕ) → lts.Need-add-n (calls t) (table-at t) reads.Post Inv-loop μ-loop
 add-n t c = let g = c .before .before .before .before .before .before .before .before .before .before .before .before .before .before .before .before .before .before .loop .inv in
     let ie = found (c .before .before .p2 .given .1) (c .before .before .before .before .item-end .ensures) in
     let w = done (c .before .before .before .before .before .before .r .given .1) (c .before .before .before .before .before .before .before .before .before .before .item .ensures) in
     omega (arith, c .before .before .before .before .before .before .before .before .before .before .before .before .before .before .before .before .before .before .before .before .before .pre, g .short, w .moved, ie .got .on, ie .got .within)
 
-pub loop-less : (t : ℕ) → lts.Need-loop-less (table-calls t) (table-at t) reads.Post Inv-loop μ-loop
+pub loop-less : (t : ℕ) → lts.Need-loop-less (calls t) (table-at t) reads.Post Inv-loop μ-loop
 loop-less t c = let w = done (c .before .before .before .before .before .before .r .given .1) (c .before .before .before .before .before .before .before .before .before .before .item .ensures) in
     let ie = found (c .before .before .p2 .given .1) (c .before .before .before .before .item-end .ensures) in
     omega (arith, w .moved, ie .got .on, ie .got .within)
 
-pub loop-again : (t : ℕ) → lts.Need-loop-again (table-calls t) (table-at t) reads.Post Inv-loop μ-loop
+pub loop-again : (t : ℕ) → lts.Need-loop-again (calls t) (table-at t) reads.Post Inv-loop μ-loop
 loop-again t c = let g = c .before .before .before .before .before .before .before .before .before .before .before .before .before .before .before .before .before .before .loop .inv in
     let gr = g .run in
     let tk = taken (c .before .before .before .before .before .before .before .before .before .before .before .before .before .before .before .kind .given .1) (c .before .before .before .before .before .before .before .before .before .before .before .before .before .before .before .before .before .look .ensures) in
@@ -162,13 +170,13 @@ loop-again t c = let g = c .before .before .before .before .before .before .befo
       kept = omega (arith, g .kept, c .before .before .before .before .before .before .before .before .before .before .item .kept .1 .0);
     }
 
-pub enum-known-s : (t : ℕ) → lts.Need-enum-known-s (table-calls t) (table-at t) reads.Post Inv-loop μ-loop
+pub enum-known-s : (t : ℕ) → lts.Need-enum-known-s (calls t) (table-at t) reads.Post Inv-loop μ-loop
 enum-known-s t c = search needs
 
-pub same-length-4 : (t : ℕ) → lts.Need-same-length-4 (table-calls t) (table-at t) reads.Post Inv-loop μ-loop
+pub same-length-4 : (t : ℕ) → lts.Need-same-length-4 (calls t) (table-at t) reads.Post Inv-loop μ-loop
 same-length-4 t c = search needs
 
-pub returns-4 : (t : ℕ) → lts.Need-returns-4 (table-calls t) (table-at t) reads.Post Inv-loop μ-loop
+pub returns-4 : (t : ℕ) → lts.Need-returns-4 (calls t) (table-at t) reads.Post Inv-loop μ-loop
 returns-4 t c = let g = c .before .before .before .before .before .before .before .before .before .before .before .before .before .before .before .before .before .loop .inv in
     let gr = g .run in
     let tk = taken (c .before .before .before .before .before .before .before .before .before .before .before .before .before .before .kind .given .1) (c .before .before .before .before .before .before .before .before .before .before .before .before .before .before .before .before .look .ensures) in
@@ -177,13 +185,13 @@ returns-4 t c = let g = c .before .before .before .before .before .before .befor
     let next = goes _ on (w .same) in
     did-not (lacks _ (unfound (c .before .s .given .1) (c .before .before .before .item-end .ensures)) next (shorter _ _ _ _ (gr .room .up) (prefix w (omega (arith, c .before .before .before .before .before .before .before .before .before .before .before .before .before .before .before .before .before .before .before .before .pre, g .kept, gr .moved, gr .room))) ∙ prefix gr (omega (arith, c .before .before .before .before .before .before .before .before .before .before .before .before .before .before .before .before .before .before .before .before .pre))) (omega (arith, gr .moved, w .moved)))
 
-pub enum-known-s-2 : (t : ℕ) → lts.Need-enum-known-s-2 (table-calls t) (table-at t) reads.Post Inv-loop μ-loop
+pub enum-known-s-2 : (t : ℕ) → lts.Need-enum-known-s-2 (calls t) (table-at t) reads.Post Inv-loop μ-loop
 enum-known-s-2 t c = search needs
 
-pub same-length-5 : (t : ℕ) → lts.Need-same-length-5 (table-calls t) (table-at t) reads.Post Inv-loop μ-loop
+pub same-length-5 : (t : ℕ) → lts.Need-same-length-5 (calls t) (table-at t) reads.Post Inv-loop μ-loop
 same-length-5 t c = search needs
 
-pub returns-5 : (t : ℕ) → lts.Need-returns-5 (table-calls t) (table-at t) reads.Post Inv-loop μ-loop
+pub returns-5 : (t : ℕ) → lts.Need-returns-5 (calls t) (table-at t) reads.Post Inv-loop μ-loop
 returns-5 t c = let g = c .before .before .before .before .loop .inv in
     let gr = g .run in
     did-not (blind (gr .same) (items-looks _ (gr .what) _ _ (g .fuel) _ (g .enough)) (not-taken (c .before .s2 .given .1) (c .before .before .before .look .ensures)) (prefix gr (omega (arith, c .before .before .before .before .before .before .before .pre))) (omega (arith, gr .moved)))

@@ -14,7 +14,14 @@ use Rattle.nodes.proofs.Made.{joined, remade, count-snoc}
 use Rattle.cycle.proofs.PathsExpr.{left, commas-looks, commas-end, commas-last, commas-more, commas-comma}
 use Rattle.cycle.proofs.tail.Reads as reads
 use Rattle.cycle.proofs.+arm+atom+begin+binop+block+body+call+catch+cond+def+dest+dots+each+expr+fun+group+index+item+jump+key+label+lhs+list+loops+param+part+path+prim+rhs+sig+stmt+sync+table+tail+term+tuple+turn+unop+val+whiles.Lts-tail as lts
-use Rattle.cycle.proofs.+arm+atom+begin+binop+block+body+call+catch+cond+def+dest+dots+each+expr+fun+group+index+item+jump+key+label+lhs+list+loops+param+part+path+prim+rhs+sig+stmt+sync+table+tail+term+tuple+turn+unop+val+whiles.Proof.Base.{tail-calls, tail-at}
+use Rattle.cycle.proofs.binop.Reads as binop-reads
+use Rattle.nodes.proofs.records.tuple_end.Reads as tuple-end-reads
+use Rattle.scan.proofs.tokens.look.Reads as look-reads
+use Rattle.cycle.proofs.+arm+atom+begin+binop+block+body+call+catch+cond+def+dest+dots+each+expr+fun+group+index+item+jump+key+label+lhs+list+loops+param+part+path+prim+rhs+sig+stmt+sync+table+tail+term+tuple+turn+unop+val+whiles.Proof.Below.{tail-at, binop-below}
+
+-- what is known of the functions that it calls
+abbrev pub calls : ℕ → lts.Claims
+calls t = (look-reads.Asked, look-reads.Learnt, tuple-end-reads.Asked, tuple-end-reads.Learnt, binop-below t, binop-reads.Post)
 
 -- where the loop stands
 pub record Going (T S₀ Q₀ : List ℕ) (depth pos at waiting : ℕ) (S Q : List ℕ) (p a w n : ℕ) : Type 0 where
@@ -31,7 +38,7 @@ Inv-loop tokens store₀ queue₀ depth pos at waiting p₀ a₀ w₀ n₀ store
 abbrev pub μ-loop : lts.MeasureT-loop
 μ-loop tokens store₀ queue₀ depth pos at waiting p₀ a₀ w₀ n₀ store queue p a w n = length tokens - p
 
-pub loop-holds : (t : ℕ) → lts.Need-loop-holds (tail-calls t) (tail-at t) reads.Post Inv-loop μ-loop
+pub loop-holds : (t : ℕ) → lts.Need-loop-holds (calls t) (tail-at t) reads.Post Inv-loop μ-loop
 unfolding records count
 loop-holds t c = record {
   fuel = length (drop (c .before .before .args .pos) (c .before .before .args .tokens .now));
@@ -42,55 +49,55 @@ loop-holds t c = record {
   kept = refl;
 }
 
-pub look-requires : (t : ℕ) → lts.Need-look-requires (tail-calls t) (tail-at t) reads.Post Inv-loop μ-loop
+pub look-requires : (t : ℕ) → lts.Need-look-requires (calls t) (tail-at t) reads.Post Inv-loop μ-loop
 look-requires t c κs = let i = c .loop .inv in
     let g = i .run in
     g .moved .within
 
-pub enum-known-kind : (t : ℕ) → lts.Need-enum-known-kind (tail-calls t) (tail-at t) reads.Post Inv-loop μ-loop
+pub enum-known-kind : (t : ℕ) → lts.Need-enum-known-kind (calls t) (tail-at t) reads.Post Inv-loop μ-loop
 enum-known-kind t c = search needs
 
-pub tuple-end-requires : (t : ℕ) → lts.Need-tuple-end-requires (tail-calls t) (tail-at t) reads.Post Inv-loop μ-loop
+pub tuple-end-requires : (t : ℕ) → lts.Need-tuple-end-requires (calls t) (tail-at t) reads.Post Inv-loop μ-loop
 tuple-end-requires t c κs = let i = c .before .before .before .before .before .before .loop .inv in
     let g = i .run in
     let tk = taken (c .before .before .before .kind .given .1) (c .before .before .before .before .before .look .ensures) in
     omega (arith, c .before .before .before .before .before .before .before .before .before .pre)
 
-pub same-length : (t : ℕ) → lts.Need-same-length (tail-calls t) (tail-at t) reads.Post Inv-loop μ-loop
+pub same-length : (t : ℕ) → lts.Need-same-length (calls t) (tail-at t) reads.Post Inv-loop μ-loop
 same-length t c = search needs
 
-pub returns : (t : ℕ) → lts.Need-returns (tail-calls t) (tail-at t) reads.Post Inv-loop μ-loop
+pub returns : (t : ℕ) → lts.Need-returns (calls t) (tail-at t) reads.Post Inv-loop μ-loop
 returns t c = let i = c .before .before .before .before .before .before .before .before .before .loop .inv in
     let g = i .run in
     let tk = taken (c .before .before .before .before .before .before .kind .given .1) (c .before .before .before .before .before .before .before .before .look .ensures) in
     let e = c .before .before .tuple-end .ensures in
     record { how = remade g e (i .many) (link (g .same) (way _ (commas-end _ (g .what) _ (i .fuel) _ (i .enough) tk (c .before .before .before .before .if1 .taken)))) (g .moved) (omega (arith, c .before .before .before .before .before .before .before .before .before .before .before .before .pre, g .moved, g .room, e .up, e .far)) }
 
-pub add-look : (t : ℕ) → lts.Need-add-look (tail-calls t) (tail-at t) reads.Post Inv-loop μ-loop
+pub add-look : (t : ℕ) → lts.Need-add-look (calls t) (tail-at t) reads.Post Inv-loop μ-loop
 add-look t c = let tk = taken (c .before .before .kind .given .1) (c .before .before .before .before .look .ensures) in
     omega arith
 
-pub look-requires-2 : (t : ℕ) → lts.Need-look-requires-2 (tail-calls t) (tail-at t) reads.Post Inv-loop μ-loop
+pub look-requires-2 : (t : ℕ) → lts.Need-look-requires-2 (calls t) (tail-at t) reads.Post Inv-loop μ-loop
 look-requires-2 t c κs = let tk = taken (c .before .before .kind .given .1) (c .before .before .before .before .look .ensures) in
     tk .within
 
-pub enum-known-next : (t : ℕ) → lts.Need-enum-known-next (tail-calls t) (tail-at t) reads.Post Inv-loop μ-loop
+pub enum-known-next : (t : ℕ) → lts.Need-enum-known-next (calls t) (tail-at t) reads.Post Inv-loop μ-loop
 enum-known-next t c = search needs
 
-pub add-t28 : (t : ℕ) → lts.Need-add-t28 (tail-calls t) (tail-at t) reads.Post Inv-loop μ-loop
+pub add-t28 : (t : ℕ) → lts.Need-add-t28 (calls t) (tail-at t) reads.Post Inv-loop μ-loop
 add-t28 t c = let tk = taken (c .before .before .before .before .before .before .before .kind .given .1) (c .before .before .before .before .before .before .before .before .before .look .ensures) in
     omega arith
 
-pub tuple-end-requires-2 : (t : ℕ) → lts.Need-tuple-end-requires-2 (tail-calls t) (tail-at t) reads.Post Inv-loop μ-loop
+pub tuple-end-requires-2 : (t : ℕ) → lts.Need-tuple-end-requires-2 (calls t) (tail-at t) reads.Post Inv-loop μ-loop
 tuple-end-requires-2 t c κs = let i = c .before .before .before .before .before .before .before .before .before .before .before .loop .inv in
     let g = i .run in
     let tk = taken (c .before .before .before .before .before .before .before .before .kind .given .1) (c .before .before .before .before .before .before .before .before .before .before .look .ensures) in
     omega (arith, c .before .before .before .before .before .before .before .before .before .before .before .before .before .before .pre)
 
-pub same-length-2 : (t : ℕ) → lts.Need-same-length-2 (tail-calls t) (tail-at t) reads.Post Inv-loop μ-loop
+pub same-length-2 : (t : ℕ) → lts.Need-same-length-2 (calls t) (tail-at t) reads.Post Inv-loop μ-loop
 same-length-2 t c = search needs
 
-pub returns-2 : (t : ℕ) → lts.Need-returns-2 (tail-calls t) (tail-at t) reads.Post Inv-loop μ-loop
+pub returns-2 : (t : ℕ) → lts.Need-returns-2 (calls t) (tail-at t) reads.Post Inv-loop μ-loop
 returns-2 t c = let i = c .before .before .before .before .before .before .before .before .before .before .before .before .before .before .loop .inv in
     let g = i .run in
     let tk = taken (c .before .before .before .before .before .before .before .before .before .before .before .kind .given .1) (c .before .before .before .before .before .before .before .before .before .before .before .before .before .look .ensures) in
@@ -98,41 +105,41 @@ returns-2 t c = let i = c .before .before .before .before .before .before .befor
     let e = c .before .before .tuple-end2 .ensures in
     record { how = remade g e (i .many) (link (g .same) (way _ (commas-last _ (g .what) _ (i .fuel) _ (i .enough) tk (c .before .before .before .before .before .before .before .before .before .if1 .left) tn (c .before .before .before .before .if2 .taken)))) (omega (arith, c .before .before .before .before .before .before .before .before .before .before .before .before .before .before .before .before .before .pre, g .moved, tk .within)) (omega (arith, c .before .before .before .before .before .before .before .before .before .before .before .before .before .before .before .before .before .pre, g .moved, g .room, e .up, e .far)) }
 
-pub add-binop : (t : ℕ) → lts.Need-add-binop (tail-calls t) (tail-at t) reads.Post Inv-loop μ-loop
+pub add-binop : (t : ℕ) → lts.Need-add-binop (calls t) (tail-at t) reads.Post Inv-loop μ-loop
 add-binop t c = let tk = taken (c .before .before .before .before .before .before .before .before .before .kind .given .1) (c .before .before .before .before .before .before .before .before .before .before .before .look .ensures) in
     omega arith
 
-pub binop-requires : (t : ℕ) → lts.Need-binop-requires (tail-calls t) (tail-at t) reads.Post Inv-loop μ-loop
+pub binop-requires : (t : ℕ) → lts.Need-binop-requires (calls t) (tail-at t) reads.Post Inv-loop μ-loop
 binop-requires t c κs = let i = c .before .before .before .before .before .before .before .before .before .before .before .before .loop .inv in
     let g = i .run in
     let tk = taken (c .before .before .before .before .before .before .before .before .before .kind .given .1) (c .before .before .before .before .before .before .before .before .before .before .before .look .ensures) in
     omega (arith, c .before .before .before .before .before .before .before .before .before .before .before .before .before .before .before .pre)
 
-pub enum-known-r : (t : ℕ) → lts.Need-enum-known-r (tail-calls t) (tail-at t) reads.Post Inv-loop μ-loop
+pub enum-known-r : (t : ℕ) → lts.Need-enum-known-r (calls t) (tail-at t) reads.Post Inv-loop μ-loop
 enum-known-r t c = search needs
 
-pub same-length-3 : (t : ℕ) → lts.Need-same-length-3 (tail-calls t) (tail-at t) reads.Post Inv-loop μ-loop
+pub same-length-3 : (t : ℕ) → lts.Need-same-length-3 (calls t) (tail-at t) reads.Post Inv-loop μ-loop
 same-length-3 t c = search needs
 
-pub returns-3 : (t : ℕ) → lts.Need-returns-3 (tail-calls t) (tail-at t) reads.Post Inv-loop μ-loop
+pub returns-3 : (t : ℕ) → lts.Need-returns-3 (calls t) (tail-at t) reads.Post Inv-loop μ-loop
 returns-3 t c = let i = c .before .before .before .before .before .before .before .before .before .before .before .before .before .before .before .before .loop .inv in
     let g = i .run in
     let tk = taken (c .before .before .before .before .before .before .before .before .before .before .before .before .before .kind .given .1) (c .before .before .before .before .before .before .before .before .before .before .before .before .before .before .before .look .ensures) in
     let tn = taken (c .before .before .before .before .before .before .before .before .next .given .1) (c .before .before .before .before .before .before .before .before .before .before .look2 .ensures) in
     did-not (fails _ (link (g .same) (way _ (commas-more _ (g .what) _ (i .fuel) _ (i .enough) tk (c .before .before .before .before .before .before .before .before .before .before .before .if1 .left) tn (c .before .before .before .before .before .before .if2 .left)))) (undone (c .match3 .keys2) (c .before .before .before .binop .ensures)) (prefix g (omega (arith, c .before .before .before .before .before .before .before .before .before .before .before .before .before .before .before .before .before .before .before .pre))) (omega (arith, c .before .before .before .before .before .before .before .before .before .before .before .before .before .before .before .before .before .before .before .pre, g .moved, g .room, tk .within)))
 
-pub add-n : (t : ℕ) → lts.Need-add-n (tail-calls t) (tail-at t) reads.Post Inv-loop μ-loop
+pub add-n : (t : ℕ) → lts.Need-add-n (calls t) (tail-at t) reads.Post Inv-loop μ-loop
 add-n t c = let i = c .before .before .before .before .before .before .before .before .before .before .before .before .before .before .before .before .before .before .loop .inv in
     let g = i .run in
     let tk = taken (c .before .before .before .before .before .before .before .before .before .before .before .before .before .before .before .kind .given .1) (c .before .before .before .before .before .before .before .before .before .before .before .before .before .before .before .before .before .look .ensures) in
     omega (arith, c .before .before .before .before .before .before .before .before .before .before .before .before .before .before .before .before .before .before .before .before .before .pre)
 
-pub loop-less : (t : ℕ) → lts.Need-loop-less (tail-calls t) (tail-at t) reads.Post Inv-loop μ-loop
+pub loop-less : (t : ℕ) → lts.Need-loop-less (calls t) (tail-at t) reads.Post Inv-loop μ-loop
 loop-less t c = let tk = taken (c .before .before .before .before .before .before .before .before .before .before .before .before .before .before .before .kind .given .1) (c .before .before .before .before .before .before .before .before .before .before .before .before .before .before .before .before .before .look .ensures) in
     let w = done (c .before .r .given .1) (c .before .before .before .before .before .binop .ensures) in
     omega arith
 
-pub loop-again : (t : ℕ) → lts.Need-loop-again (tail-calls t) (tail-at t) reads.Post Inv-loop μ-loop
+pub loop-again : (t : ℕ) → lts.Need-loop-again (calls t) (tail-at t) reads.Post Inv-loop μ-loop
 loop-again t c = let i = c .before .before .before .before .before .before .before .before .before .before .before .before .before .before .before .before .before .before .loop .inv in
     let g = i .run in
     let tk = taken (c .before .before .before .before .before .before .before .before .before .before .before .before .before .before .before .kind .given .1) (c .before .before .before .before .before .before .before .before .before .before .before .before .before .before .before .before .before .look .ensures) in
@@ -147,25 +154,25 @@ loop-again t c = let i = c .before .before .before .before .before .before .befo
       kept = omega arith;
     }
 
-pub enum-known-s : (t : ℕ) → lts.Need-enum-known-s (tail-calls t) (tail-at t) reads.Post Inv-loop μ-loop
+pub enum-known-s : (t : ℕ) → lts.Need-enum-known-s (calls t) (tail-at t) reads.Post Inv-loop μ-loop
 enum-known-s t c = search needs
 
-pub same-length-4 : (t : ℕ) → lts.Need-same-length-4 (tail-calls t) (tail-at t) reads.Post Inv-loop μ-loop
+pub same-length-4 : (t : ℕ) → lts.Need-same-length-4 (calls t) (tail-at t) reads.Post Inv-loop μ-loop
 same-length-4 t c = search needs
 
-pub returns-4 : (t : ℕ) → lts.Need-returns-4 (tail-calls t) (tail-at t) reads.Post Inv-loop μ-loop
+pub returns-4 : (t : ℕ) → lts.Need-returns-4 (calls t) (tail-at t) reads.Post Inv-loop μ-loop
 returns-4 t c = let i = c .before .before .before .before .before .before .before .before .before .loop .inv in
     let g = i .run in
     let tk = taken (c .before .before .before .before .before .before .kind .given .1) (c .before .before .before .before .before .before .before .before .look .ensures) in
     did-not (blind (link (g .same) (way _ (commas-comma _ (g .what) _ (i .fuel) _ (i .enough) tk (c .before .before .before .before .if1 .left)))) (record { go = _; is = refl }) (not-taken (c .before .s .given .1) (c .before .before .before .look2 .ensures)) (prefix g (omega arith)) (omega arith))
 
-pub enum-known-s-2 : (t : ℕ) → lts.Need-enum-known-s-2 (tail-calls t) (tail-at t) reads.Post Inv-loop μ-loop
+pub enum-known-s-2 : (t : ℕ) → lts.Need-enum-known-s-2 (calls t) (tail-at t) reads.Post Inv-loop μ-loop
 enum-known-s-2 t c = search needs
 
-pub same-length-5 : (t : ℕ) → lts.Need-same-length-5 (tail-calls t) (tail-at t) reads.Post Inv-loop μ-loop
+pub same-length-5 : (t : ℕ) → lts.Need-same-length-5 (calls t) (tail-at t) reads.Post Inv-loop μ-loop
 same-length-5 t c = search needs
 
-pub returns-5 : (t : ℕ) → lts.Need-returns-5 (tail-calls t) (tail-at t) reads.Post Inv-loop μ-loop
+pub returns-5 : (t : ℕ) → lts.Need-returns-5 (calls t) (tail-at t) reads.Post Inv-loop μ-loop
 returns-5 t c = let i = c .before .before .before .before .loop .inv in
     let g = i .run in
     did-not (blind (g .same) (commas-looks _ (g .what) _ _ (i .fuel) _ (i .enough)) (not-taken (c .before .s2 .given .1) (c .before .before .before .look .ensures)) (prefix g (omega arith)) (omega arith))

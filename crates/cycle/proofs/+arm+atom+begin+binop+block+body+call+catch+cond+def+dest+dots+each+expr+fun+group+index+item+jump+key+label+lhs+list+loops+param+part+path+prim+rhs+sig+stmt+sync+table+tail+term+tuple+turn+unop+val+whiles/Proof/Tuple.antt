@@ -9,60 +9,68 @@ use Rattle.cycle.proofs.PathsExpr.{left, tuple-step, tuple-looks, tuple
 use Rattle.cycle.proofs.Trees.{tuple-text}
 use Rattle.cycle.proofs.tuple.Reads as reads
 use Rattle.cycle.proofs.+arm+atom+begin+binop+block+body+call+catch+cond+def+dest+dots+each+expr+fun+group+index+item+jump+key+label+lhs+list+loops+param+part+path+prim+rhs+sig+stmt+sync+table+tail+term+tuple+turn+unop+val+whiles.Lts-tuple as lts
-use Rattle.cycle.proofs.+arm+atom+begin+binop+block+body+call+catch+cond+def+dest+dots+each+expr+fun+group+index+item+jump+key+label+lhs+list+loops+param+part+path+prim+rhs+sig+stmt+sync+table+tail+term+tuple+turn+unop+val+whiles.Proof.Base.{tuple-calls, tuple-at}
+use Rattle.cycle.proofs.binop.Reads as binop-reads
+use Rattle.cycle.proofs.tail.Reads as tail-reads
+use Rattle.scan.proofs.again.Reads as again-reads
+use Rattle.scan.proofs.tokens.look.Reads as look-reads
+use Rattle.cycle.proofs.+arm+atom+begin+binop+block+body+call+catch+cond+def+dest+dots+each+expr+fun+group+index+item+jump+key+label+lhs+list+loops+param+part+path+prim+rhs+sig+stmt+sync+table+tail+term+tuple+turn+unop+val+whiles.Proof.Below.{tuple-at, binop-below, tail-below}
 
-pub binop-requires : (t : ℕ) → lts.Need-binop-requires (tuple-calls t) (tuple-at t) reads.Post
+-- what is known of the functions that it calls
+abbrev pub calls : ℕ → lts.Claims
+calls t = (binop-below t, binop-reads.Post, again-reads.Asked, again-reads.Learnt, look-reads.Asked, look-reads.Learnt, tail-below t, tail-reads.Post)
+
+pub binop-requires : (t : ℕ) → lts.Need-binop-requires (calls t) (tuple-at t) reads.Post
 binop-requires t c κs = omega arith
 
-pub enum-known-r : (t : ℕ) → lts.Need-enum-known-r (tuple-calls t) (tuple-at t) reads.Post
+pub enum-known-r : (t : ℕ) → lts.Need-enum-known-r (calls t) (tuple-at t) reads.Post
 enum-known-r t c = search needs
 
-pub again-requires : (t : ℕ) → lts.Need-again-requires (tuple-calls t) (tuple-at t) reads.Post
+pub again-requires : (t : ℕ) → lts.Need-again-requires (calls t) (tuple-at t) reads.Post
 again-requires t c κs = search needs
 
-pub same-length : (t : ℕ) → lts.Need-same-length (tuple-calls t) (tuple-at t) reads.Post
+pub same-length : (t : ℕ) → lts.Need-same-length (calls t) (tuple-at t) reads.Post
 same-length t c = search needs
 
-pub returns : (t : ℕ) → lts.Need-returns (tuple-calls t) (tuple-at t) reads.Post
+pub returns : (t : ℕ) → lts.Need-returns (calls t) (tuple-at t) reads.Post
 returns t c = anew (c .again .ensures) (did-not (fails _ (way _ (tuple-step _ _ _)) (undone (c .before .match .keys2) (c .before .before .before .before .binop .ensures)) refl (omega arith)))
 
-pub look-requires : (t : ℕ) → lts.Need-look-requires (tuple-calls t) (tuple-at t) reads.Post
+pub look-requires : (t : ℕ) → lts.Need-look-requires (calls t) (tuple-at t) reads.Post
 look-requires t c κs = let w = done (c .before .r .given .1) (c .before .before .before .before .before .binop .ensures) in
     w .moved .within
 
-pub enum-known-kind : (t : ℕ) → lts.Need-enum-known-kind (tuple-calls t) (tuple-at t) reads.Post
+pub enum-known-kind : (t : ℕ) → lts.Need-enum-known-kind (calls t) (tuple-at t) reads.Post
 enum-known-kind t c = search needs
 
-pub tail-requires : (t : ℕ) → lts.Need-tail-requires (tuple-calls t) (tuple-at t) reads.Post
+pub tail-requires : (t : ℕ) → lts.Need-tail-requires (calls t) (tuple-at t) reads.Post
 tail-requires t c κs = let w = done (c .before .before .before .before .before .before .before .before .r .given .1) (c .before .before .before .before .before .before .before .before .before .before .before .before .binop .ensures) in
     let tk = taken (c .before .before .before .before .kind .given .1) (c .before .before .before .before .before .before .look .ensures) in
     omega arith
 
-pub same-length-2 : (t : ℕ) → lts.Need-same-length-2 (tuple-calls t) (tuple-at t) reads.Post
+pub same-length-2 : (t : ℕ) → lts.Need-same-length-2 (calls t) (tuple-at t) reads.Post
 same-length-2 t c = search needs
 
-pub returns-2 : (t : ℕ) → lts.Need-returns-2 (tuple-calls t) (tuple-at t) reads.Post
+pub returns-2 : (t : ℕ) → lts.Need-returns-2 (calls t) (tuple-at t) reads.Post
 returns-2 t c = let w = done (c .before .before .before .before .before .before .before .before .before .before .before .r .given .1) (c .before .before .before .before .before .before .before .before .before .before .before .before .before .before .before .binop .ensures) in
     let on = goes _ (way _ (tuple-step _ _ _)) (w .same) in
     let tk = taken (c .before .before .before .before .before .before .before .kind .given .1) (c .before .before .before .before .before .before .before .before .before .look .ensures) in
     continued w (omega (arith, c .before .before .before .before .before .before .before .before .before .before .before .before .before .before .before .before .before .before .before .before .pre)) _ (tuple-text (w .what)) (link on (way _ (tuple-more _ _ _ tk (c .before .before .before .before .before .if1 .taken)))) (c .before .before .tail .ensures) (omega (arith, c .before .before .before .before .before .before .before .before .before .before .before .before .before .before .before .before .before .before .before .before .pre, w .moved, w .room))
 
-pub enum-known-s : (t : ℕ) → lts.Need-enum-known-s (tuple-calls t) (tuple-at t) reads.Post
+pub enum-known-s : (t : ℕ) → lts.Need-enum-known-s (calls t) (tuple-at t) reads.Post
 enum-known-s t c = search needs
 
-pub same-length-3 : (t : ℕ) → lts.Need-same-length-3 (tuple-calls t) (tuple-at t) reads.Post
+pub same-length-3 : (t : ℕ) → lts.Need-same-length-3 (calls t) (tuple-at t) reads.Post
 same-length-3 t c = search needs
 
-pub returns-3 : (t : ℕ) → lts.Need-returns-3 (tuple-calls t) (tuple-at t) reads.Post
+pub returns-3 : (t : ℕ) → lts.Need-returns-3 (calls t) (tuple-at t) reads.Post
 returns-3 t c = let w = done (c .before .before .before .before .before .before .r .given .1) (c .before .before .before .before .before .before .before .before .before .before .binop .ensures) in
     let on = goes _ (way _ (tuple-step _ _ _)) (w .same) in
     let tk = taken (c .before .before .kind .given .1) (c .before .before .before .before .look .ensures) in
     record { how = relabel w (w .what) refl (link on (way _ (tuple-one _ _ _ tk (c .if1 .left)))) (w .moved) (omega (arith, w .room)) }
 
-pub same-length-4 : (t : ℕ) → lts.Need-same-length-4 (tuple-calls t) (tuple-at t) reads.Post
+pub same-length-4 : (t : ℕ) → lts.Need-same-length-4 (calls t) (tuple-at t) reads.Post
 same-length-4 t c = search needs
 
-pub returns-4 : (t : ℕ) → lts.Need-returns-4 (tuple-calls t) (tuple-at t) reads.Post
+pub returns-4 : (t : ℕ) → lts.Need-returns-4 (calls t) (tuple-at t) reads.Post
 returns-4 t c = let w = done (c .before .before .before .before .before .r .given .1) (c .before .before .before .before .before .before .before .before .before .binop .ensures) in
     let on = goes _ (way _ (tuple-step _ _ _)) (w .same) in
     did-not (blind on (tuple-looks _ _ _ _) (not-taken (c .before .s .given .1) (c .before .before .before .look .ensures)) (prefix w (omega arith)) (omega arith))

@@ -9,40 +9,48 @@ use Rattle.nodes.proofs.Made.{made-none}
 use Rattle.cycle.proofs.PathsList.{value-looks, value-none, value-some}
 use Rattle.cycle.proofs.val.Reads as reads
 use Rattle.cycle.proofs.+arm+atom+begin+binop+block+body+call+catch+cond+def+dest+dots+each+expr+fun+group+index+item+jump+key+label+lhs+list+loops+param+part+path+prim+rhs+sig+stmt+sync+table+tail+term+tuple+turn+unop+val+whiles.Lts-val as lts
-use Rattle.cycle.proofs.+arm+atom+begin+binop+block+body+call+catch+cond+def+dest+dots+each+expr+fun+group+index+item+jump+key+label+lhs+list+loops+param+part+path+prim+rhs+sig+stmt+sync+table+tail+term+tuple+turn+unop+val+whiles.Proof.Base.{val-calls, val-at}
+use Rattle.cycle.proofs.expr.Reads as expr-reads
+use Rattle.scan.proofs.tokens.ends_control.Reads as ends-control-reads
+use Rattle.scan.proofs.tokens.look.Reads as look-reads
+use Rattle.tree.proofs.emit.Reads as emit-reads
+use Rattle.cycle.proofs.+arm+atom+begin+binop+block+body+call+catch+cond+def+dest+dots+each+expr+fun+group+index+item+jump+key+label+lhs+list+loops+param+part+path+prim+rhs+sig+stmt+sync+table+tail+term+tuple+turn+unop+val+whiles.Proof.Below.{val-at, expr-below}
 
-pub look-requires : (t : ℕ) → lts.Need-look-requires (val-calls t) (val-at t) reads.Post
+-- what is known of the functions that it calls
+abbrev pub calls : ℕ → lts.Claims
+calls t = (look-reads.Asked, look-reads.Learnt, ends-control-reads.Asked, ends-control-reads.Learnt, emit-reads.Asked, emit-reads.Learnt, expr-below t, expr-reads.Post)
+
+pub look-requires : (t : ℕ) → lts.Need-look-requires (calls t) (val-at t) reads.Post
 look-requires t c κs = search needs
 
-pub enum-known-kind : (t : ℕ) → lts.Need-enum-known-kind (val-calls t) (val-at t) reads.Post
+pub enum-known-kind : (t : ℕ) → lts.Need-enum-known-kind (calls t) (val-at t) reads.Post
 enum-known-kind t c = search needs
 
-pub ends-control-requires : (t : ℕ) → lts.Need-ends-control-requires (val-calls t) (val-at t) reads.Post
+pub ends-control-requires : (t : ℕ) → lts.Need-ends-control-requires (calls t) (val-at t) reads.Post
 ends-control-requires t c κs = search needs
 
-pub emit-requires : (t : ℕ) → lts.Need-emit-requires (val-calls t) (val-at t) reads.Post
+pub emit-requires : (t : ℕ) → lts.Need-emit-requires (calls t) (val-at t) reads.Post
 emit-requires t c κs = let tk = taken (c .before .before .before .before .kind .given .1) (c .before .before .before .before .before .before .look .ensures) in
     omega (arith, c .before .before .before .before .before .before .before .before .before .pre, tk)
 
-pub same-length : (t : ℕ) → lts.Need-same-length (val-calls t) (val-at t) reads.Post
+pub same-length : (t : ℕ) → lts.Need-same-length (calls t) (val-at t) reads.Post
 same-length t c = search needs
 
-pub returns : (t : ℕ) → lts.Need-returns (val-calls t) (val-at t) reads.Post
+pub returns : (t : ℕ) → lts.Need-returns (calls t) (val-at t) reads.Post
 returns t c = let tk = taken (c .before .before .before .before .before .before .before .kind .given .1) (c .before .before .before .before .before .before .before .before .before .look .ensures) in
     record { how = made-none 0 (c .before .before .emit .ensures) (way _ (value-none _ _ tk (sym (c .before .before .before .before .before .ends-control .ensures) ∙ c .before .before .before .before .if1 .taken))) (omega arith) (omega arith) refl }
 
-pub expr-requires : (t : ℕ) → lts.Need-expr-requires (val-calls t) (val-at t) reads.Post
+pub expr-requires : (t : ℕ) → lts.Need-expr-requires (calls t) (val-at t) reads.Post
 expr-requires t c κs = omega arith
 
-pub enum-known-s : (t : ℕ) → lts.Need-enum-known-s (val-calls t) (val-at t) reads.Post
+pub enum-known-s : (t : ℕ) → lts.Need-enum-known-s (calls t) (val-at t) reads.Post
 enum-known-s t c = search needs
 
-pub same-length-2 : (t : ℕ) → lts.Need-same-length-2 (val-calls t) (val-at t) reads.Post
+pub same-length-2 : (t : ℕ) → lts.Need-same-length-2 (calls t) (val-at t) reads.Post
 same-length-2 t c = search needs
 
-pub returns-2 : (t : ℕ) → lts.Need-returns-2 (val-calls t) (val-at t) reads.Post
+pub returns-2 : (t : ℕ) → lts.Need-returns-2 (calls t) (val-at t) reads.Post
 returns-2 t c = let tk = taken (c .before .before .before .before .before .before .before .before .kind .given .1) (c .before .before .before .before .before .before .before .before .before .before .look .ensures) in
     later (value-some _ _ tk (sym (c .before .before .before .before .before .before .ends-control .ensures) ∙ c .before .before .before .before .before .if1 .left)) (c .before .before .expr .ensures) (omega arith) (omega arith) (omega arith)
 
-pub returns-3 : (t : ℕ) → lts.Need-returns-3 (val-calls t) (val-at t) reads.Post
+pub returns-3 : (t : ℕ) → lts.Need-returns-3 (calls t) (val-at t) reads.Post
 returns-3 t c = did-not (blind here (value-looks _ _ _) (not-taken (c .before .s .given .1) (c .before .before .before .look .ensures)) refl (omega arith))

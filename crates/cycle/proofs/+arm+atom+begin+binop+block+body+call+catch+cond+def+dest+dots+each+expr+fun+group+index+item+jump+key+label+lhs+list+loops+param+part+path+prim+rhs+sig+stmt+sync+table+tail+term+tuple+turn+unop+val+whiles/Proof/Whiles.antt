@@ -9,38 +9,46 @@ use Rattle.scan.proofs.Laws.{way, goes, done, undone, did-not, fails, lacks, pa
 use Rattle.cycle.proofs.PathsStmt.{closable, under, turning-step}
 use Rattle.cycle.proofs.whiles.Reads as reads
 use Rattle.cycle.proofs.+arm+atom+begin+binop+block+body+call+catch+cond+def+dest+dots+each+expr+fun+group+index+item+jump+key+label+lhs+list+loops+param+part+path+prim+rhs+sig+stmt+sync+table+tail+term+tuple+turn+unop+val+whiles.Lts-whiles as lts
-use Rattle.cycle.proofs.+arm+atom+begin+binop+block+body+call+catch+cond+def+dest+dots+each+expr+fun+group+index+item+jump+key+label+lhs+list+loops+param+part+path+prim+rhs+sig+stmt+sync+table+tail+term+tuple+turn+unop+val+whiles.Proof.Base.{whiles-calls, whiles-at}
+use Rattle.cycle.proofs.body.Reads as body-reads
+use Rattle.cycle.proofs.expr.Reads as expr-reads
+use Rattle.nodes.proofs.records.list_under.Reads as list-under-reads
+use Rattle.scan.proofs.tokens.expect.Reads as expect-reads
+use Rattle.cycle.proofs.+arm+atom+begin+binop+block+body+call+catch+cond+def+dest+dots+each+expr+fun+group+index+item+jump+key+label+lhs+list+loops+param+part+path+prim+rhs+sig+stmt+sync+table+tail+term+tuple+turn+unop+val+whiles.Proof.Below.{whiles-at, expr-below, body-below}
 
-pub expr-requires : (t : ℕ) → lts.Need-expr-requires (whiles-calls t) (whiles-at t) reads.Post
+-- what is known of the functions that it calls
+abbrev pub calls : ℕ → lts.Claims
+calls t = (expr-below t, expr-reads.Post, expect-reads.Asked, expect-reads.Learnt, body-below t, body-reads.Post, list-under-reads.Asked, list-under-reads.Learnt)
+
+pub expr-requires : (t : ℕ) → lts.Need-expr-requires (calls t) (whiles-at t) reads.Post
 expr-requires t c κs = omega arith
 
-pub enum-known-r : (t : ℕ) → lts.Need-enum-known-r (whiles-calls t) (whiles-at t) reads.Post
+pub enum-known-r : (t : ℕ) → lts.Need-enum-known-r (calls t) (whiles-at t) reads.Post
 enum-known-r t c = search needs
 
-pub same-length : (t : ℕ) → lts.Need-same-length (whiles-calls t) (whiles-at t) reads.Post
+pub same-length : (t : ℕ) → lts.Need-same-length (calls t) (whiles-at t) reads.Post
 same-length t c = search needs
 
-pub returns : (t : ℕ) → lts.Need-returns (whiles-calls t) (whiles-at t) reads.Post
+pub returns : (t : ℕ) → lts.Need-returns (calls t) (whiles-at t) reads.Post
 returns t c = let path = way _ (turning-step _ _ _) in
     did-not (fails _ path (undone (c .match .keys2) (c .before .before .before .expr .ensures)) refl (omega arith))
 
-pub expect-requires : (t : ℕ) → lts.Need-expect-requires (whiles-calls t) (whiles-at t) reads.Post
+pub expect-requires : (t : ℕ) → lts.Need-expect-requires (calls t) (whiles-at t) reads.Post
 expect-requires t c κs = let w = done (c .before .r .given .1) (c .before .before .before .before .before .expr .ensures) in
     w .moved .within
 
-pub enum-known-s : (t : ℕ) → lts.Need-enum-known-s (whiles-calls t) (whiles-at t) reads.Post
+pub enum-known-s : (t : ℕ) → lts.Need-enum-known-s (calls t) (whiles-at t) reads.Post
 enum-known-s t c = search needs
 
-pub same-length-2 : (t : ℕ) → lts.Need-same-length-2 (whiles-calls t) (whiles-at t) reads.Post
+pub same-length-2 : (t : ℕ) → lts.Need-same-length-2 (calls t) (whiles-at t) reads.Post
 same-length-2 t c = search needs
 
-pub returns-2 : (t : ℕ) → lts.Need-returns-2 (whiles-calls t) (whiles-at t) reads.Post
+pub returns-2 : (t : ℕ) → lts.Need-returns-2 (calls t) (whiles-at t) reads.Post
 returns-2 t c = let w = done (c .before .before .before .r .given .1) (c .before .before .before .before .before .before .before .expr .ensures) in
     let path = way _ (turning-step _ _ _) in
     let on = goes _ path (w .same) in
     did-not (lacks _ (unpassed (c .match2 .keys2) (c .before .expect .ensures)) on (prefix w (omega arith)) (omega arith))
 
-pub body-requires : (t : ℕ) → lts.Need-body-requires (whiles-calls t) (whiles-at t) reads.Post
+pub body-requires : (t : ℕ) → lts.Need-body-requires (calls t) (whiles-at t) reads.Post
 body-requires t c κs = let w = done (c .before .before .before .before .before .before .before .r .given .1) (c .before .before .before .before .before .before .before .before .before .before .before .expr .ensures) in
     let ps = passed (c .before .before .before .s .given .1) (c .before .before .before .before .before .expect .ensures) in
     let g = ps .got in
@@ -48,7 +56,7 @@ body-requires t c κs = let w = done (c .before .before .before .before .before 
     let gwithin = g .within in
     omega arith
 
-pub list-under-requires : (t : ℕ) → lts.Need-list-under-requires (whiles-calls t) (whiles-at t) reads.Post
+pub list-under-requires : (t : ℕ) → lts.Need-list-under-requires (calls t) (whiles-at t) reads.Post
 list-under-requires t c κs = let w = done (c .before .before .before .before .before .before .before .before .before .before .before .r .given .1) (c .before .before .before .before .before .before .before .before .before .before .before .before .before .before .before .expr .ensures) in
     let ps = passed (c .before .before .before .before .before .before .before .s .given .1) (c .before .before .before .before .before .before .before .before .before .expect .ensures) in
     let g = ps .got in
@@ -56,10 +64,10 @@ list-under-requires t c κs = let w = done (c .before .before .before .before .b
     let gwithin = g .within in
     closable _ (c .before .before .before .body .ensures) (omega (arith, c .before .before .before .before .before .before .before .before .before .before .before .before .before .before .before .before .before .before .before .before .pre, w .moved, w .room, gon, gwithin, c .before .before .before .before .before .before .before .before .before .before .before .before .before .before .before .expr .kept .1 .0, c .before .before .before .body .kept .1 .0))
 
-pub same-length-3 : (t : ℕ) → lts.Need-same-length-3 (whiles-calls t) (whiles-at t) reads.Post
+pub same-length-3 : (t : ℕ) → lts.Need-same-length-3 (calls t) (whiles-at t) reads.Post
 same-length-3 t c = search needs
 
-pub returns-3 : (t : ℕ) → lts.Need-returns-3 (whiles-calls t) (whiles-at t) reads.Post
+pub returns-3 : (t : ℕ) → lts.Need-returns-3 (calls t) (whiles-at t) reads.Post
 returns-3 t c = let w = done (c .before .before .before .before .before .before .before .before .before .before .before .before .before .before .r .given .1) (c .before .before .before .before .before .before .before .before .before .before .before .before .before .before .before .before .before .before .expr .ensures) in
     let path = way _ (turning-step _ _ _) in
     let on = goes _ path (w .same) in
