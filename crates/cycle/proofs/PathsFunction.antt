@@ -189,7 +189,7 @@ module _ {D : Res Tree} {d : Res Stmts} {T : List ℕ} {pos least slack at w₀ 
       let ends : Ends (g .what .suite) (length X) a last = subst (λ (n : ℕ). Ends (g .what .suite) n a last) (sym i) (s .ends) in
       let same = goes _ path (g .same) in
       record { how = record { what = make (g .what); same = rw (st, wa) same; moved = omega arith; room = omega arith; text = e .text (g .what) X (record { text = g .text; plain = s .plain; many = s .many; ends = ends }) ∙ text (g .what) } }
-  under-as (Suite p a w n last) (Fail e p′ w′) h u = absurd (u .how)
+  under-as (Suite p a w n last) (Fail failure) h u = absurd (u .how)
   under-as (Suite p a w n last) (Stop k) h u = absurd (u .how)
   under-as (Control p a w) (Done p′ b w′) h u =
       let s = h .how in
@@ -203,7 +203,7 @@ module _ {D : Res Tree} {d : Res Stmts} {T : List ℕ} {pos least slack at w₀ 
       let wa = e .waits in
       let same = goes _ path (g .same) in
       record { how = record { what = make (g .what); same = rw (st, wa) same; moved = omega arith; room = omega arith; text = e .text (g .what) (take at₁ S₁) (record { text = g .text; held = s .held }) ∙ text (g .what) } }
-  under-as (Control p a w) (Fail e p′ w′) h u = absurd (u .how)
+  under-as (Control p a w) (Fail failure) h u = absurd (u .how)
   under-as (Control p a w) (Stop k) h u = absurd (u .how)
   under-as (Not s) r h u =
       let f : Failed D T pos least at w₀ S Q S₂ Q₂ s = fails _ path (h .how) before l in
@@ -259,7 +259,7 @@ module _ {A : Type 0} {words : A → List ℕ} {D : Res A} {d : List Error → R
       let u = stored-up at S₂ x within in
       let e = x .waits in
       record { how = record { what = g .what; same = rw e (link on (way _ (g .same _))); moved = omega arith; room = omega arith; text = rw (← before) (x .text) } }
-  written-as (Fail e p′ w′) h = did-not (lacking (h .how .unread) on (ap (take at) (h .how .text) ∙ before) (omega arith))
+  written-as (Fail failure) h = did-not (lacking (h .how .unread) on (ap (take at) (h .how .text) ∙ before) (omega arith))
   written-as (Stop n) h = did-not (lacking (h .how .unread) on (ap (take at) (h .how .text) ∙ before) (omega arith))
 
   pub written : {r : Step} → Writes words d T p p 0 a w (take at S₂) S₂ S₃ r → Agrees words D T pos pos slack at w₀ S Q S₃ Q₂ r

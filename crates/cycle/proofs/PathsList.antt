@@ -185,7 +185,7 @@ module _ {D d : Res (Unit {0})} {T : List ℕ} {pos at w₀ p w : ℕ} {S₀ Q�
       let g = x .3 in
       let i : length Q′ ≡ length Q = ap length (x .4) in
       record { how = record { what = tt; same = link on (record { is = rw (x .0, x .3, x .4) }); moved = omega arith; room = omega arith; text = rw (x .2, append-nil) text } }
-  resumes-as (Fail e p′ w′) h =
+  resumes-as (Fail failure) h =
       let x = h .how in
       let fewer = x .fewer in
       let a = x .on in
@@ -300,7 +300,7 @@ module _ {D : Res Place} {d : Res (Unit {0})} {T : List ℕ} {pos n at w₀ p w 
       let m = x .moved in
       let l = two-at T p′ two (x .same) in
       record { how = record { what = tt; same = goes _ on (x .same); moved = omega arith; room = omega arith; text = prefix x (c .room) ∙ text ∙ sym (append-nil (take at S₀)) } }
-  catches-as two (Fail f p′ w′) h = record { how = fails _ on (h .how) text (omega arith) }
+  catches-as two (Fail failure) h = record { how = fails _ on (h .how) text (omega arith) }
   catches-as two (Stop k) h = record { how = fails _ on (h .how) text (omega arith) }
 
   pub catches : {r : Step} {x : Entry} → x ≡ resumed-step r → Agrees no-words d T p p 8 at w S Q S′ Q′ r → Two d → Enters D T pos n at w₀ S₀ Q₀ S′ Q′ x
@@ -337,7 +337,7 @@ module _ {D : Res Place} {d : Res (Unit {0})} {T : List ℕ} {pos n at w₀ p a 
       let m = x .moved in
       let i = x .place in
       record { how = record { run = record { what = t; same = goes _ on (x .same); moved = omega arith; room = omega arith; text = rw i text }; held = some } }
-  closes-as (Fail e p′ w′) h = record { how = fails _ on (elsewhere S (h .how)) before (omega arith) }
+  closes-as (Fail failure) h = record { how = fails _ on (elsewhere S (h .how)) before (omega arith) }
   closes-as (Stop e) h = record { how = fails _ on (elsewhere S (h .how)) before (omega arith) }
 
   pub closes : {r : Step} {x : Entry} → x ≡ closed-step r → Queues d T p a w Q Q′ r → Enters D T pos n at w₀ S₀ Q₀ S Q′ x

@@ -62,7 +62,7 @@ module _ {A : Type 0} {words : A → List ℕ} {D : Res A} {d : List Error → R
       let within = o .within in
       let up = grown S S′ (words (o .what)) at c h (omega arith) (g .text) in
       record { how = record { what = o .what; same = rw v (link a (way _ (o .same _))); moved = omega (arith, y, v, on, within); room = omega (arith, far, on, up, j); text = g .text } }
-  writes-as a x y h i j (Fail e p′ w′) f = record { how = lacking (f .how .unread) a (ap (take at) (f .how .text) ∙ x) y }
+  writes-as a x y h i j (Fail failure) f = record { how = lacking (f .how .unread) a (ap (take at) (f .how .text) ∙ x) y }
   writes-as a x y h i j (Stop n) f = record { how = lacking (f .how .unread) a (ap (take at) (f .how .text) ∙ x) y }
 
   pub writing : {r : Step} → Writes words d T p least₁ most b w (take at S) S₁ S′ r → As (waiting-errors w₀ Q) D (waiting-errors w Q′) (d (waiting-errors w Q′)) → take at S₁ ≡ take at S → Beyond pos least w₀ p least₁ w (length Q′) → at ≤ length S → b + most ≤ length S′
@@ -78,7 +78,7 @@ module _ {A B : Type 0} {words : A → List ℕ} {words′ : B → List ℕ} {D 
       let m = u .moved in
       let o = u .room in
       record { how = record { what = make (u .what); same = goes _ a (u .same); moved = omega (arith, l, m); room = omega (arith, l, o, j); text = u .text ∙ h (u .what) } }
-  mapped-as a h x l j (Fail e p w) f = record { how = fails _ a (f .how) x l }
+  mapped-as a h x l j (Fail failure) f = record { how = fails _ a (f .how) x l }
   mapped-as a h x l j (Stop n) f = record { how = fails _ a (f .how) x l }
 
   pub mapped : {r : Step} → As (waiting-errors w₀ Q) D (waiting-errors w₁ Q₁) (then (waiting-errors w₁ Q₁) d (λ x q r. ok (make x) r)) → Agrees words d T pos₁ least₁ slack₁ at₁ w₁ S₁ Q₁ S′ Q′ r → ((x : A) → take at₁ S₁ ++ words x ≡ take at S ++ words′ (make x)) → take at S₁ ≡ take at S → Later pos least at w₀ pos₁ least₁ at₁ w₁

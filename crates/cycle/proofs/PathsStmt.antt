@@ -46,7 +46,7 @@ pub label-below : {T : List ℕ} {pos k n v : ℕ} → Taken T pos k n v → k �
 label-below {v = v} tk e = label-small {v = v} (tk .fits) e
 
 -- AN ERROR of the function's own
-pub fails-with : {A : Type 0} {words : A → List ℕ} {D : Res A} {T : List ℕ} {pos least slack at w₀ e p : ℕ} {S Q : List ℕ} → D ≡ fail e (waiting-errors w₀ Q) (drop p T) → Moved (length T) pos w₀ p w₀ (length Q) → least ≤ p + (least + 1 - length T) → Agrees words D T pos least slack at w₀ S Q S Q (Fail e p w₀)
+pub fails-with : {A : Type 0} {words : A → List ℕ} {D : Res A} {T : List ℕ} {pos least slack at w₀ e p : ℕ} {S Q : List ℕ} → D ≡ fail e (waiting-errors w₀ Q) (drop p T) → Moved (length T) pos w₀ p w₀ (length Q) → least ≤ p + (least + 1 - length T) → Agrees words D T pos least slack at w₀ S Q S Q (Fail (record { error = e; pos = p; waiting = w₀ }))
 fails-with {w₀ = w₀} {Q = Q} e m f = record { how = record { how = record { same = way (waiting-errors w₀ Q) e; moved = m; far = f; text = refl } } }
 
 -- LISTS
@@ -162,13 +162,13 @@ module _ {A : Type 0} {words : A → List ℕ} {D : Res A} {d : Res Stmts} {T : 
       let l : length (take at S) ≡ at = length-take-le at S (n .within) in
       let z : Ends (s .run .what .suite) (length (take at S)) b last = rw l (s .ends) in
       record { how = finish (s .run) (v .stays) (v .waits) (v .up) (v .far) (v .text (s .run .what) (take at S) (record { text = s .run .text; plain = s .plain; many = s .many; ends = z })) }
-  under-as (Suite p b w₁ k last) (Fail e p′ w₁′) h u = absurd (u .how)
+  under-as (Suite p b w₁ k last) (Fail failure) h u = absurd (u .how)
   under-as (Suite p b w₁ k last) (Stop e) h u = absurd (u .how)
   under-as (Control p b w₁) (Done p′ b′ w₁′) h u =
       let s = h .how in
       let v = u .how in
       record { how = finish (s .run) (v .stays) (v .waits) (v .up) (v .far) (v .text (s .run .what) (take at S) (record { text = s .run .text; held = s .held })) }
-  under-as (Control p b w₁) (Fail e p′ w₁′) h u = absurd (u .how)
+  under-as (Control p b w₁) (Fail failure) h u = absurd (u .how)
   under-as (Control p b w₁) (Stop e) h u = absurd (u .how)
   under-as (Not s) r h u = rw (u .how .0, u .how .1) (did-not (fails _ a (h .how) x (omega arith)))
 
@@ -202,7 +202,7 @@ module _ {A B : Type 0} {words : A → List ℕ} {words₁ : B → List ℕ} {D 
       let o = g .room in
       let Z : List ℕ = words₁ (g .what) in
       record { how = record { what = make (g .what); same = goes _ a (g .same); moved = omega arith; room = omega arith; text = g .text ∙ ap (λ (l : List ℕ). l ++ Z) y ∙ append-assoc (take at₀ S₀) Y Z ∙ ap (λ (l : List ℕ). take at₀ S₀ ++ l) (sym (is (g .what))) } }
-  renamed-as make Y (Fail e p v) h a y is x n = did-not (fails _ a (h .how) x (omega arith))
+  renamed-as make Y (Fail failure) h a y is x n = did-not (fails _ a (h .how) x (omega arith))
   renamed-as make Y (Stop e) h a y is x n = did-not (fails _ a (h .how) x (omega arith))
 
   pub renamed : (make : B → A) (Y : List ℕ) {r : Step} → Agrees words₁ d T pos least slack at w S Q S′ Q′ r → As (waiting-errors w₀ Q₀) D (waiting-errors w Q) (then (waiting-errors w Q) d (λ x q r. ok (make x) r)) → take at S ≡ take at₀ S₀ ++ Y → ((x : B) → words (make x) ≡ Y ++ words₁ x) → take at₀ S ≡ take at₀ S₀
@@ -230,7 +230,7 @@ module _ {A : Type 0} {words : A → List ℕ} {D : Res A} {d : List Error → R
       let far = g .far in
       let up = text-up at a′ S S″ _ (n .within) (g .text) in
       record { how = record { what = g .got .what; same = rw waits (link s (way _ (g .got .same _))); moved = omega arith; room = omega arith; text = g .text } }
-  written-as (Fail e p′ w′) h s x n = did-not (lacking (h .how .unread) s (ap (take at) (h .how .text) ∙ x) (omega arith))
+  written-as (Fail failure) h s x n = did-not (lacking (h .how .unread) s (ap (take at) (h .how .text) ∙ x) (omega arith))
   written-as (Stop e) h s x n = did-not (lacking (h .how .unread) s (ap (take at) (h .how .text) ∙ x) (omega arith))
 
   pub written : {r : Step} → Writes words d T p least₁ most a w (take at S) S′ S″ r → As (waiting-errors w₀ Q) D (waiting-errors w Q′) (d (waiting-errors w Q′)) → take at S′ ≡ take at S → Written-from (length S) (length Q′) pos least slack at w₀ p least₁ most a w → Agrees words D T pos least slack at w₀ S Q S″ Q′ r

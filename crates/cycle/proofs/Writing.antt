@@ -29,7 +29,7 @@ module _ {A : Type 0} {words : A → List ℕ} {d : List Error → Res A} {T : L
 
   not-stored : (r : Step) → OneOf (1 ∷ 2 ∷ []) (tagOf the-type r) → Writes words d T pos least most at w₀ X S S′ r → Unstored d T pos least w₀ S S′ r
   not-stored (Done p a w) o h = absurd (⊎-elim (λ e. omega arith) (λ e. omega arith) o)
-  not-stored (Fail e p w) o h = h .how
+  not-stored (Fail failure) o h = h .how
   not-stored (Stop n) o h = h .how
 
   pub unstored : {r : Step} → OneOf (1 ∷ 2 ∷ []) (tagOf the-type r) → Writes words d T pos least most at w₀ X S S′ r → Unstored d T pos least w₀ S S′ r
@@ -65,7 +65,7 @@ module _ {A : Type 0} {words : A → List ℕ} {D : Res A} {d : List Error → R
       let text : take a S′ ≡ take at S ++ words (g .what) = u .text ∙ rw x in
       let up = reaches S S′ (words (g .what)) at a text (t .at-in) in
       record { how = record { what = g .what; same = rw v (link s (way _ (g .same _))); moved = omega arith; room = omega arith; text = text } }
-  settled-as x s y t (Fail e p w) h = rw (h .how .text) (record { how = lacking (h .how .unread) s y (omega arith) })
+  settled-as x s y t (Fail failure) h = rw (h .how .text) (record { how = lacking (h .how .unread) s y (omega arith) })
   settled-as x s y t (Stop n) h = rw (h .how .text) (record { how = lacking (h .how .unread) s y (omega arith) })
 
   -- D is at last d, which a last call read and wrote
@@ -91,7 +91,7 @@ module _ {A B C : Type 0} {words : B → List ℕ} {d : Res C} {k : B → List E
       let v = u .waits in
       let up = g .room .up in
       record { how = record { what = g .what; same = rw v (gets _ x same); moved = omega arith; room = omega arith; text = rw e (g .text) } }
-  closed-as b o (Fail e p₁ w₁) f = record { how = lacks _ (f .how) same (prefix g h) b }
+  closed-as b o (Fail failure) f = record { how = lacks _ (f .how) same (prefix g h) b }
   closed-as b o (Stop n) f = record { how = lacks _ (f .how) same (prefix g h) b }
 
   pub closed-by : {r : Step} → Reads d₂ T p least₁ a w r → Beyond pos least w₀ p least₁ w (length Q′) → a + 8 * pos + slack ≤ at + 8 * least₁ + 8 → Agrees words D T pos least slack at w₀ S Q S′ Q′ r

@@ -48,6 +48,7 @@ use nodes::records::unpack_end;
 use operator::PRECEDENCE_END;
 use operator::PRECEDENCE_START;
 use scan::Entry;
+use scan::Failure;
 use scan::Found;
 use scan::Listed;
 use scan::Seen;
@@ -132,7 +133,11 @@ fn term(
 {
     match look(tokens, pos, waiting) {
         Seen::Token(kind, _, value) => match kind {
-            kind::CLASS => Step::Fail(number::CLASS_DEFINITION, pos + 2, waiting),
+            kind::CLASS => Step::Fail(Failure {
+                error: number::CLASS_DEFINITION,
+                pos: pos + 2,
+                waiting,
+            }),
             kind::FUN => fun(tokens, store, queue, depth, pos + 2, at, waiting),
             kind::IF => cond(tokens, store, queue, depth, pos + 2, at, waiting),
             kind::BEGIN => block(tokens, store, queue, depth, 0, pos + 2, at, waiting),
@@ -751,7 +756,11 @@ fn begin(
             if kind == kind::BEGIN {
                 return block(tokens, store, queue, depth, label, pos + 2, at, waiting);
             }
-            Step::Fail(number::LABEL_ALONE, pos, waiting)
+            Step::Fail(Failure {
+                error: number::LABEL_ALONE,
+                pos,
+                waiting,
+            })
         }
         Seen::Not(s) => s,
     }
@@ -1033,7 +1042,11 @@ pub fn stmt(
             }
             _ => {
                 if is_control(kind) {
-                    return Step::Fail(not_allowed(kind), pos + 2, waiting);
+                    return Step::Fail(Failure {
+                        error: not_allowed(kind),
+                        pos: pos + 2,
+                        waiting,
+                    });
                 }
                 let r = expr(tokens, store, queue, depth, pos, at, waiting);
                 let Step::Done(p, a, w) = r else {
@@ -1075,7 +1088,11 @@ fn label(
                 waiting,
             ),
             kind::FOR => each(tokens, store, queue, depth, label, pos + 2, at, waiting),
-            _ => Step::Fail(number::LABEL_ALONE, pos, waiting),
+            _ => Step::Fail(Failure {
+                error: number::LABEL_ALONE,
+                pos,
+                waiting,
+            }),
         },
         Seen::Not(s) => s,
     }
@@ -1275,19 +1292,19 @@ pub fn sync(
                 let r = expr(tokens, store, queue, depth, p, at, w);
                 match r {
                     Step::Done(p2, _, w2) => return Step::Done(p2, at, w2),
-                    Step::Fail(_, p2, w2) => {
-                        p = p2;
-                        w = w2;
+                    Step::Fail(f) => {
+                        p = f.pos;
+                        w = f.waiting;
                     }
                     Step::Stop(_) => return r,
                 }
             }
             Seen::Not(s) => match s {
-                Step::Fail(e, p2, _) => {
-                    if e == number::END_OF_TOKENS {
+                Step::Fail(f) => {
+                    if f.error == number::END_OF_TOKENS {
                         return Step::Done(p, at, w);
                     }
-                    p = p2;
+                    p = f.pos;
                 }
                 _ => return s,
             },
@@ -1295,29 +1312,27 @@ pub fn sync(
     }
 }
 
-// `catch_error_and_sync`: an error e of a statement of a list is caught, but for the end of the tokens. It waits at the back,
+// `catch_error_and_sync`: an error of a statement of a list is caught, but for the end of the tokens. It waits at the back,
 // and reading goes on where it can.
 fn catch(
     tokens: &[u64],
     store: &mut [u64],
     queue: &mut Queue,
     depth: usize,
-    e: u64,
-    pos: usize,
+    f: Failure,
     at: usize,
-    waiting: usize,
 ) -> Step
-    requires { ⌜ Ready (length (now tokens)) (length (now store)) (length (now queue)) pos at waiting ⌝ }
-    ensures { λ r. ⌜ Reading no-words (caught-def (at-depth depth) e) (now (tokens .entry)) pos pos 8 at waiting (now (store .entry)) (now (queue .entry)) (now (store .exit)) (now (queue .exit)) r ⌝ }
+    requires { ⌜ Ready (length (now tokens)) (length (now store)) (length (now queue)) (f .pos) at (f .waiting) ⌝ }
+    ensures { λ r. ⌜ Reading no-words (caught-def (at-depth depth) (f .error)) (now (tokens .entry)) (f .pos) (f .pos) 8 at (f .waiting) (now (store .entry)) (now (queue .entry)) (now (store .exit)) (now (queue .exit)) r ⌝ }
 {
-    if e == number::END_OF_TOKENS {
-        return Step::Fail(e, pos, waiting);
+    if f.error == number::END_OF_TOKENS {
+        return Step::Fail(f);
     }
-    if waiting == limit::QUEUE {
+    if f.waiting == limit::QUEUE {
         return Step::Stop(limit::QUEUE_FULL);
     }
-    let w = push(queue, waiting, e);
-    let r = sync(tokens, store, queue, depth, true, pos, at, w);
+    let w = push(queue, f.waiting, f.error);
+    let r = sync(tokens, store, queue, depth, true, f.pos, at, w);
     let Step::Done(p, _, w2) = r else {
         return r;
     };
@@ -1345,14 +1360,14 @@ fn turn(
         let c = jump(tokens, store, queue, depth, kind, pos + 2, b, waiting);
         return match c {
             Step::Done(p, a, w) => closed(control_last(tokens, queue, end, kind, p, a, w)),
-            Step::Fail(e, p, w) => resumed(catch(tokens, store, queue, depth, e, p, at, w)),
+            Step::Fail(f) => resumed(catch(tokens, store, queue, depth, f, at)),
             Step::Stop(_) => Entry::Not(c),
         };
     }
     let r = stmt(tokens, store, queue, depth, pos, at, waiting);
     match r {
         Step::Done(p, a, w) => Entry::Stmt(p, a, w),
-        Step::Fail(e, p, w) => resumed(catch(tokens, store, queue, depth, e, p, at, w)),
+        Step::Fail(f) => resumed(catch(tokens, store, queue, depth, f, at)),
         Step::Stop(_) => Entry::Not(r),
     }
 }

@@ -322,7 +322,7 @@ path-some (more t f) n e h = rw (← e)
 pub wrote : {d : List Error → Res Tree} {T : List ℕ} {pos most at w r : ℕ} {X S S′ : List ℕ} (t : Tree) → ((q : List Error) → d q ≡ ok t (drop pos T)) → pos ≤ length T → r ≤ at + most → take r S′ ≡ X ++ records t → Writes records d T pos pos most at w X S S′ (Done pos r w)
 wrote t same within far text = record { how = record { got = record { what = t; same = same; on = le-refl _; within = within }; waits = refl; far = far; text = text } }
 
-pub refused : {d : List Error → Res Tree} {T : List ℕ} {pos most at w e : ℕ} {X S S′ : List ℕ} → ((q : List Error) → d q ≡ fail e q (drop pos T)) → pos ≤ length T → S′ ≡ S → Writes records d T pos pos most at w X S S′ (Fail e pos w)
+pub refused : {d : List Error → Res Tree} {T : List ℕ} {pos most at w e : ℕ} {X S S′ : List ℕ} → ((q : List Error) → d q ≡ fail e q (drop pos T)) → pos ≤ length T → S′ ≡ S → Writes records d T pos pos most at w X S S′ (Fail (record { error = e; pos = pos; waiting = w }))
 refused same within text = record { how = record { unread = record { how = record { same = same; waits = refl; on = le-refl _; within = within; far = omega arith } }; text = text } }
 
 -- A LITERAL goes by its kind

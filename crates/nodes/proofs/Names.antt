@@ -37,7 +37,7 @@ use Rattle.nodes.proofs.Algebra.{look-plain, plain-not-bad}
 -- A READING e that is the reading d
 same-reading : {A : Type 0} {d e : List Error → Res A} {T : List ℕ} {pos₁ least₁ pos least w : ℕ} (r : Step) → ((q : List Error) → e q ≡ d q) → Unread d T pos₁ least₁ w r → pos ≤ pos₁ → least ≤ least₁ → UnreadAs e T pos least w r
 same-reading (Done p a v) i u h g = u .how
-same-reading (Fail x p v) i u h g =
+same-reading (Fail failure) i u h g =
     let l = u .how in
     let on = l .on in
     let far = l .far in
@@ -66,7 +66,7 @@ lacks-too {f = f} o b h g = onward-found f o b h g
 -- what is not read is not written
 unwrote-as : {A : Type 0} {words : A → List ℕ} {d : List Error → Res A} {T : List ℕ} {pos least most at w : ℕ} {X S : List ℕ} (r : Step) → Unread d T pos least w r → Writes words d T pos least most at w X S S r
 unwrote-as (Done p a v) u = absurd (u .how)
-unwrote-as (Fail x p v) u = record { how = record { unread = u; text = refl } }
+unwrote-as (Fail failure) u = record { how = record { unread = u; text = refl } }
 unwrote-as (Stop n) u = record { how = record { unread = u; text = refl } }
 
 pub unwrote : {A : Type 0} {words : A → List ℕ} {d : List Error → Res A} {T : List ℕ} {pos least most at w : ℕ} {X S : List ℕ} {r : Step} → Unread d T pos least w r → Writes words d T pos least most at w X S S r
@@ -77,7 +77,7 @@ same-got i g h = let on = g .on in record { what = g .what; same = λ q. i q ∙
 
 writes-as : {A : Type 0} {words : A → List ℕ} {d e : List Error → Res A} {T : List ℕ} {pos least₁ least most at w : ℕ} {X S S′ : List ℕ} (r : Step) → ((q : List Error) → e q ≡ d q) → Writes words d T pos least₁ most at w X S S′ r → least ≤ least₁ → WritesAs words e T pos least most at w X S S′ r
 writes-as (Done p a v) i u h = let s = u .how in record { got = same-got i (s .got) h; waits = s .waits; far = s .far; text = s .text }
-writes-as (Fail x p v) i u h = let s = u .how in record { unread = same-unread i (s .unread) (omega arith) h; text = s .text }
+writes-as (Fail failure) i u h = let s = u .how in record { unread = same-unread i (s .unread) (omega arith) h; text = s .text }
 writes-as (Stop n) i u h = let s = u .how in record { unread = same-unread i (s .unread) (omega arith) h; text = s .text }
 
 pub same-writes : {A : Type 0} {words : A → List ℕ} {d e : List Error → Res A} {T : List ℕ} {pos least₁ least most at w : ℕ} {X S S′ : List ℕ} {r : Step} → ((q : List Error) → e q ≡ d q) → Writes words d T pos least₁ most at w X S S′ r → least ≤ least₁ → Writes words e T pos least most at w X S S′ r
@@ -241,7 +241,7 @@ join-stops ps p q ts l = rw l
 
 unjoined-as : {T : List ℕ} {pos w : ℕ} (ps : Params) (p : Param) (r : Step) → Unread (λ q. separator q (drop pos T)) T pos pos w r → UnreadAs (λ q. join ps p q (drop pos T)) T pos pos w r
 unjoined-as ps p (Done p′ a v) u = u .how
-unjoined-as ps p (Fail x p′ v) u =
+unjoined-as ps p (Fail failure) u =
     let l = u .how in
     record { same = λ q. join-lacks ps p q _ (neither q _ (l .same q)); waits = l .waits; on = l .on; within = l .within; far = l .far }
 unjoined-as ps p (Stop n) u = λ q. join-stops ps p q _ (look-stopped q _ (u .how q))
@@ -291,10 +291,10 @@ module _ {T : List ℕ} {pos p : ℕ} (ps : Params) (g : Got (λ q. separator q 
   abbrev pub joins-default : (x : ℕ) (t : Tree) → Got (λ q. join ps (default x t) q (drop pos T)) T pos p
   joins-default x t = record { what = with-default ps x t; same = λ q. join-default ps x t q _ (between q _ (g .same q)); on = g .on; within = g .within }
 
-  pub out-of-order : {w : ℕ} (x : ℕ) → empty (ps .default-list) ≡ false → Unread (λ q. join ps (required x) q (drop pos T)) T pos pos w (Fail Number.param-order pos w)
+  pub out-of-order : {w : ℕ} (x : ℕ) → empty (ps .default-list) ≡ false → Unread (λ q. join ps (required x) q (drop pos T)) T pos pos w (Fail (record { error = Number.param-order; pos = pos; waiting = w }))
   out-of-order x e = let h = g .on in let k = g .within in record { how = record { same = λ q. join-order ps x q _ e (between q _ (g .same q)); waits = refl; on = omega arith; within = omega arith; far = omega arith } }
 
-  pub not-last : {w : ℕ} (x : ℕ) → g .what ≡ 1 → Unread (λ q. join ps (variadic x) q (drop pos T)) T pos pos w (Fail Number.variadic-not-last pos w)
+  pub not-last : {w : ℕ} (x : ℕ) → g .what ≡ 1 → Unread (λ q. join ps (variadic x) q (drop pos T)) T pos pos w (Fail (record { error = Number.variadic-not-last; pos = pos; waiting = w }))
   not-last x e = let h = g .on in let k = g .within in record { how = record { same = λ q. join-not-last ps x q _ e (between q _ (g .same q)); waits = refl; on = omega arith; within = omega arith; far = omega arith } }
 
 pub required-text : {at v a : ℕ} {S S′ : List ℕ} (X : List ℕ) (ps : Params) → count (ps .default-list) ≡ 0 → take at S ≡ X ++ params-words ps → Emitted at 25 v a S S′ → take a S′ ≡ X ++ params-words (with-required ps v)

@@ -67,10 +67,10 @@ pub record Under (tree : Stmts → Tree) (stands : Stmts → List ℕ → Type 0
 
 abbrev pub UnderAs : (Stmts → Tree) → ℕ → ℕ → ℕ → List ℕ → List ℕ → Listed → Step → Type 0
 UnderAs tree word value most S S′ (Suite p a w n last) (Done p′ b w′) = Under tree (λ s X. Suite-stands s X S a n last) word value most p a w p′ b w′ S′
-UnderAs tree word value most S S′ (Suite p a w n last) (Fail e p′ w′) = ⊥
+UnderAs tree word value most S S′ (Suite p a w n last) (Fail failure) = ⊥
 UnderAs tree word value most S S′ (Suite p a w n last) (Stop k) = ⊥
 UnderAs tree word value most S S′ (Control p a w) (Done p′ b w′) = Under tree (λ s X. Held-stands s X S a) word value most p a w p′ b w′ S′
-UnderAs tree word value most S S′ (Control p a w) (Fail e p′ w′) = ⊥
+UnderAs tree word value most S S′ (Control p a w) (Fail failure) = ⊥
 UnderAs tree word value most S S′ (Control p a w) (Stop k) = ⊥
 UnderAs tree word value most S S′ (Not s) r = (r ≡ s) × (S′ ≡ S)
 

@@ -17,6 +17,7 @@ use crate::Head;
 use crate::Joined;
 use crate::Parameter;
 use crate::records::list_end;
+use scan::Failure;
 use scan::Found;
 use scan::Seen;
 use scan::Step;
@@ -82,7 +83,11 @@ pub fn named_field(
             emit(store, at, word::FIELD_ATTRIBUTE, value * 2),
             waiting,
         ),
-        _ => Step::Fail(number::INVALID_FIELD, pos, waiting),
+        _ => Step::Fail(Failure {
+            error: number::INVALID_FIELD,
+            pos,
+            waiting,
+        }),
     }
 }
 
@@ -95,7 +100,11 @@ pub fn item_end(tokens: &[u64], pos: usize, waiting: usize) -> Found
         Seen::Token(kind, _, _) => match kind {
             kind::COMMA => Found::At(pos + 2, 0),
             kind::CLOSE_BRACE => Found::At(pos + 2, 1),
-            _ => Found::Not(Step::Fail(number::TABLE_CLOSING, pos + 2, waiting)),
+            _ => Found::Not(Step::Fail(Failure {
+                error: number::TABLE_CLOSING,
+                pos: pos + 2,
+                waiting,
+            })),
         },
         Seen::Not(s) => Found::Not(s),
     }
@@ -111,7 +120,11 @@ fn param_mode(tokens: &[u64], pos: usize, waiting: usize) -> Found
             kind::VAR => Found::At(pos + 2, 1),
             kind::LET => Found::At(pos + 2, 0),
             kind::IDENTIFIER => Found::At(pos, 0),
-            _ => Found::Not(Step::Fail(number::INVALID_PARAM, pos, waiting)),
+            _ => Found::Not(Step::Fail(Failure {
+                error: number::INVALID_PARAM,
+                pos,
+                waiting,
+            })),
         },
         Seen::Not(s) => Found::Not(s),
     }
@@ -140,7 +153,11 @@ fn variadic_param(tokens: &[u64], v: u64, pos: usize, waiting: usize) -> Head
     match look(tokens, pos, waiting) {
         Seen::Token(kind, _, _) => {
             if kind == kind::OP_ASSIGN {
-                return Head::Not(Step::Fail(number::VARIADIC_DEFAULT, pos, waiting));
+                return Head::Not(Step::Fail(Failure {
+                    error: number::VARIADIC_DEFAULT,
+                    pos,
+                    waiting,
+                }));
             }
             Head::Variadic(pos, v)
         }
@@ -241,7 +258,11 @@ fn separator(tokens: &[u64], pos: usize, waiting: usize) -> Found
         Seen::Token(kind, _, _) => match kind {
             kind::COMMA => Found::At(pos + 2, 1),
             kind::CLOSE_PAREN => Found::At(pos, 0),
-            _ => Found::Not(Step::Fail(number::INVALID_PARAM, pos, waiting)),
+            _ => Found::Not(Step::Fail(Failure {
+                error: number::INVALID_PARAM,
+                pos,
+                waiting,
+            })),
         },
         Seen::Not(s) => Found::Not(s),
     }
@@ -264,7 +285,11 @@ fn join_required(
     match separator(tokens, pos, waiting) {
         Found::At(p, _) => {
             if 0 < default {
-                return Joined::Not(Step::Fail(number::PARAM_ORDER, pos, waiting));
+                return Joined::Not(Step::Fail(Failure {
+                    error: number::PARAM_ORDER,
+                    pos,
+                    waiting,
+                }));
             }
             let a = emit(store, at, word::PARAM_DEF, v);
             Joined::To(p, a, waiting, required + 1, default, variadic)
@@ -288,7 +313,11 @@ fn join_variadic(
     match separator(tokens, pos, waiting) {
         Found::At(p, comma) => {
             if comma == 1 {
-                return Joined::Not(Step::Fail(number::VARIADIC_NOT_LAST, pos, waiting));
+                return Joined::Not(Step::Fail(Failure {
+                    error: number::VARIADIC_NOT_LAST,
+                    pos,
+                    waiting,
+                }));
             }
             Joined::To(p, at, waiting, required, default, v + 1)
         }

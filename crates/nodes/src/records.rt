@@ -21,6 +21,7 @@ ghost use Rattle.nodes.specs.Ends.{Added, Ended, Shape, A-shape, Counts,
 ghost use Rattle.nodes.specs.Lists.{Closing, Blocked, Closable, Unders};
 use pattern::Converted;
 use pattern::to_pattern;
+use scan::Failure;
 use scan::Listed;
 use scan::Step;
 use scan::number;
@@ -87,7 +88,11 @@ pub fn literal(
             emit(store, at, word::STRING_LITERAL, value),
             waiting,
         ),
-        _ => Step::Fail(atom_error(kind), pos, waiting),
+        _ => Step::Fail(Failure {
+            error: atom_error(kind),
+            pos,
+            waiting,
+        }),
     }
 }
 
@@ -128,7 +133,11 @@ pub fn unpack_end(store: &mut [u64], pos: usize, a: usize, waiting: usize) -> St
     ensures { λ r. ⌜ ((X : List ℕ) (t : Tree) (T : List ℕ) → Small t → take a (now (store .entry)) ≡ X ++ records t → pos ≤ length T → Writes records (λ q. unpack-end-def t q (drop pos T)) T pos pos 2 a waiting X (now (store .entry)) (now (store .exit)) r) ⌝ }
 {
     if kind_of(store, a) == node::UNPACK {
-        return Step::Fail(number::NESTED_ELLIPSIS, pos, waiting);
+        return Step::Fail(Failure {
+            error: number::NESTED_ELLIPSIS,
+            pos,
+            waiting,
+        });
     }
     Step::Done(pos, emit(store, a, word::UNPACK, 0), waiting)
 }
@@ -180,7 +189,11 @@ pub fn expect_pattern(
 {
     match to_pattern(store, from, a) {
         Converted::End(b) => Step::Done(pos, b, waiting),
-        Converted::NotAPattern => Step::Fail(e, pos, waiting),
+        Converted::NotAPattern => Step::Fail(Failure {
+            error: e,
+            pos,
+            waiting,
+        }),
     }
 }
 
@@ -223,7 +236,11 @@ pub fn expression_end(store: &mut [u64], pos: usize, a: usize, waiting: usize) -
     ensures { λ r. ⌜ ((X : List ℕ) (t : Tree) (T : List ℕ) → Shape t → take a (now (store .entry)) ≡ X ++ records t → pos ≤ length T → Writes records (λ q. expression-end-def t q (drop pos T)) T pos pos 2 a waiting X (now (store .entry)) (now (store .exit)) r) ⌝ }
 {
     if lone_ellipsis(store, a) {
-        return Step::Fail(number::ELLIPSIS_NOT_ALLOWED, pos, waiting);
+        return Step::Fail(Failure {
+            error: number::ELLIPSIS_NOT_ALLOWED,
+            pos,
+            waiting,
+        });
     }
     Step::Done(pos, emit(store, a, word::EXPRESSION, 0), waiting)
 }

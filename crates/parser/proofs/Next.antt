@@ -41,7 +41,7 @@ module _ {D d : Res Tree} (or : ℕ → List Error → List ℕ → Res Tree) {T
       let m = u .moved in
       let k = u .room in
       record { how = record { what = u .what; same = wins _ or x (u .same); moved = omega arith; room = omega arith; text = u .text ∙ rw e } }
-  ended-as (Fail n p′ w′) o h = absurd (⊎-elim (λ e. omega arith) (λ e. omega arith) o)
+  ended-as (Fail failure) o h = absurd (⊎-elim (λ e. omega arith) (λ e. omega arith) o)
   ended-as (Stop n) o h = record { how = record { how = halts _ or x (h .how .how) } }
 
   pub ended : {r : Step} → OneOf (0 ∷ 2 ∷ []) (tagOf the-type r) → Agrees records d T p (p + 2) 14 a w S Q S′ Q′ r → Agrees records D T 0 0 8 0 0 S Q S′ Q′ r

@@ -22,6 +22,7 @@ use grammar::Queue;
 use grammar::Reader;
 use grammar::Stepped;
 use grammar::limit;
+use scan::Failure;
 use scan::Step;
 use scan::number;
 use scan::queue::is_stop;
@@ -33,25 +34,22 @@ use scan::tokens::start;
 use tree::clear;
 
 // A statement failed: its error joins the queue's back, the front is the answer, and then comes the resynchronization.
-fn failed(
-    tokens: &[u64],
-    store: &mut [u64],
-    queue: &mut Queue,
-    e: u64,
-    pos: usize,
-    waiting: usize,
-) -> Step
-    requires { ⌜ Ready (length (now tokens)) (length (now store)) (length (now queue)) pos 0 waiting ⌝ }
-    ensures { λ r. ⌜ Failed (failed-def depth-limit e (waiting-errors waiting (now (queue .entry))) (drop pos (now (tokens .entry)))) (now (tokens .entry)) pos pos 0 waiting (now (store .entry)) (now (queue .entry)) (now (store .exit)) (now (queue .exit)) r ⌝ }
+fn failed(tokens: &[u64], store: &mut [u64], queue: &mut Queue, f: Failure) -> Step
+    requires { ⌜ Ready (length (now tokens)) (length (now store)) (length (now queue)) (f .pos) 0 (f .waiting) ⌝ }
+    ensures { λ r. ⌜ Failed (failed-def depth-limit (f .error) (waiting-errors (f .waiting) (now (queue .entry))) (drop (f .pos) (now (tokens .entry)))) (now (tokens .entry)) (f .pos) (f .pos) 0 (f .waiting) (now (store .entry)) (now (queue .entry)) (now (store .exit)) (now (queue .exit)) r ⌝ }
 {
-    if waiting == limit::QUEUE {
+    if f.waiting == limit::QUEUE {
         return Step::Stop(limit::QUEUE_FULL);
     }
-    let v = push(queue, waiting, e);
+    let v = push(queue, f.waiting, f.error);
     let front = pop(queue, v);
-    let r = sync(tokens, store, queue, limit::DEPTH, false, pos, 0, v - 1);
+    let r = sync(tokens, store, queue, limit::DEPTH, false, f.pos, 0, v - 1);
     match r {
-        Step::Done(p, _, w) => Step::Fail(front, p, w),
+        Step::Done(p, _, w) => Step::Fail(Failure {
+            error: front,
+            pos: p,
+            waiting: w,
+        }),
         _ => r,
     }
 }
@@ -67,7 +65,7 @@ fn statement(tokens: &[u64], store: &mut [u64], queue: &mut Queue) -> Step
     };
     let r = stmt(tokens, store, queue, limit::DEPTH, p, a, w);
     match r {
-        Step::Fail(e, p2, w2) => failed(tokens, store, queue, e, p2, w2),
+        Step::Fail(f) => failed(tokens, store, queue, f),
         _ => r,
     }
 }
@@ -162,9 +160,14 @@ fn read_on(position: usize, unread: &[u64], store: &mut [u64]) -> Stepped
             clear(store, a);
             go_on(Answer::Tree(a / 2), position + p / 2, w, queue)
         }
-        Step::Fail(e, p, w) => {
+        Step::Fail(f) => {
             clear(store, 0);
-            go_on(error_answer(e), position + p / 2, w, queue)
+            go_on(
+                error_answer(f.error),
+                position + f.pos / 2,
+                f.waiting,
+                queue,
+            )
         }
         Step::Stop(n) => {
             clear(store, 0);

@@ -13,6 +13,7 @@ use Rattle.grammar.specs.Reading.Limit.{queue-limit}
 use Rattle.grammar.specs.Reading.Result.{Res, ok, bad, fail, stop, spoil, either, then, Error}
 use Rattle.grammar.specs.Reading.Look.{look}
 use Rattle.scan.specs.Post.{Out, won, lost, halt, out, As, clean, Moved, Room, Lost, FailedAs, Failed, Wrote, AgreesAs, Agrees, Unread, Taken, Missed, Saw, Got, Passed, Reads, Number-at, Finds, waiting-errors}
+use Rattle.scan.specs.declared.Failure.{Failure}
 use Rattle.scan.specs.declared.Step.{Step}
 use Rattle.scan.specs.declared.Step.the-variants.{Done, Fail, Stop}
 use Rattle.scan.specs.declared.Seen.{Seen}
@@ -126,12 +127,12 @@ module _ {A : Type 0} {words : A → List ℕ} {d : Res A} {T : List ℕ} {pos l
   pub done : {p a w : ℕ} {r : Step} → r ≡ Done p a w → Agrees words d T pos least slack at w₀ S Q S′ Q′ r → Wrote words d clean T pos least slack at w₀ S Q p a w S′ Q′
   done e h = rw e at (h .how)
 
-  pub missed : {e p w : ℕ} {r : Step} → r ≡ Fail e p w → Agrees words d T pos least slack at w₀ S Q S′ Q′ r → Lost d T pos least at w₀ S Q e p w S′ Q′
+  pub missed : {f : Failure} {r : Step} → r ≡ Fail f → Agrees words d T pos least slack at w₀ S Q S′ Q′ r → Lost d T pos least at w₀ S Q f S′ Q′
   missed q h = (rw q at (h .how)) .how
 
   not-done : (r : Step) → OneOf (1 ∷ 2 ∷ []) (tagOf the-type r) → Agrees words d T pos least slack at w₀ S Q S′ Q′ r → Failed d T pos least at w₀ S Q S′ Q′ r
   not-done (Done p a w) o h = absurd (⊎-elim (λ e. omega arith) (λ e. omega arith) o)
-  not-done (Fail e p w) o h = h .how
+  not-done (Fail failure) o h = h .how
   not-done (Stop n) o h = h .how
 
   pub undone : {r : Step} → OneOf (1 ∷ 2 ∷ []) (tagOf the-type r) → Agrees words d T pos least slack at w₀ S Q S′ Q′ r → Failed d T pos least at w₀ S Q S′ Q′ r
@@ -139,7 +140,7 @@ module _ {A : Type 0} {words : A → List ℕ} {d : Res A} {T : List ℕ} {pos l
 
   is-stop : (r : Step) → OneOf (2 ∷ []) (tagOf the-type r) → Agrees words d T pos least slack at w₀ S Q S′ Q′ r → Failed d T pos least at w₀ S Q S′ Q′ r
   is-stop (Done p a w) o h = absurd (omega arith)
-  is-stop (Fail e p w) o h = absurd (omega arith)
+  is-stop (Fail failure) o h = absurd (omega arith)
   is-stop (Stop n) o h = h .how
 
   pub stopped : {r : Step} → OneOf (2 ∷ []) (tagOf the-type r) → Agrees words d T pos least slack at w₀ S Q S′ Q′ r → Failed d T pos least at w₀ S Q S′ Q′ r
@@ -151,13 +152,13 @@ module _ {A : Type 0} {words : A → List ℕ} {d : Res A} {T : List ℕ} {pos l
     where
       to : (r : Step) → Failed d T pos least at w₀ S Q S′ Q′ r → AgreesAs words d T pos least slack at w₀ S Q S′ Q′ r
       to (Done p a w) f = absurd (f .how)
-      to (Fail e p w) f = f
+      to (Fail failure) f = f
       to (Stop n) f = f
 
 module _ {A B : Type 0} {words : A → List ℕ} {D : Res B} {d : Res A} {T : List ℕ} {pos least at w₀ : ℕ} {S Q : List ℕ} {pos₁ least₁ slack₁ at₁ w₁ : ℕ} {S₁ Q₁ S′ Q′ : List ℕ} (go : A → List Error → List ℕ → Res B) (or : ℕ → List Error → List ℕ → Res B) where
   stops-as : As (waiting-errors w₀ Q) D (waiting-errors w₁ Q₁) (either (waiting-errors w₁ Q₁) d go or) → (r : Step) → OneOf (2 ∷ []) (tagOf the-type r) → Agrees words d T pos₁ least₁ slack₁ at₁ w₁ S₁ Q₁ S′ Q′ r → Failed D T pos least at w₀ S Q S′ Q′ r
   stops-as a (Done p b w) o h = absurd (omega arith)
-  stops-as a (Fail e p w) o h = absurd (omega arith)
+  stops-as a (Fail failure) o h = absurd (omega arith)
   stops-as a (Stop n) o h = record { how = halts go or a (h .how .how) }
 
   -- D goes on from d, by `go` or `or`, and d stopped
@@ -167,7 +168,7 @@ module _ {A B : Type 0} {words : A → List ℕ} {D : Res B} {d : Res A} {T : Li
 -- what has no store fails with any
 elsewhere-as : {A : Type 0} {d : Res A} {T : List ℕ} {pos least at w₀ : ℕ} {Q Q′ : List ℕ} (S : List ℕ) (r : Step) → Failed d T pos least at w₀ [] Q [] Q′ r → Failed d T pos least at w₀ S Q S Q′ r
 elsewhere-as S (Done p a w) f = record { how = f .how }
-elsewhere-as S (Fail e p w) f = record { how = record { same = f .how .same; moved = f .how .moved; far = f .how .far; text = refl } }
+elsewhere-as S (Fail failure) f = record { how = record { same = f .how .same; moved = f .how .moved; far = f .how .far; text = refl } }
 elsewhere-as S (Stop n) f = record { how = f .how }
 
 pub elsewhere : {A : Type 0} {d : Res A} {T : List ℕ} {pos least at w₀ : ℕ} {Q Q′ : List ℕ} {r : Step} (S : List ℕ) → Failed d T pos least at w₀ [] Q [] Q′ r → Failed d T pos least at w₀ S Q S Q′ r
@@ -193,7 +194,7 @@ shorter S S₁ at at₁ h e = sym (take-take at at₁ S h) ∙ ap (take at) e �
 module _ {B : Type 0} {D : Res B} {T : List ℕ} {pos least at w₀ : ℕ} {S Q : List ℕ} {pos₁ least₁ at₁ w₁ : ℕ} {S₁ Q₁ S′ Q′ : List ℕ} where
   onto-as : {d : Res B} → As (waiting-errors w₀ Q) D (waiting-errors w₁ Q₁) d → take at S₁ ≡ take at S → Later pos least at w₀ pos₁ least₁ at₁ w₁ → (r : Step) → Failed d T pos₁ least₁ at₁ w₁ S₁ Q₁ S′ Q′ r → Failed D T pos least at w₀ S Q S′ Q′ r
   onto-as a x l (Done p b w) f = record { how = f .how }
-  onto-as a x l (Fail e p w) f =
+  onto-as a x l (Fail failure) f =
       let g = f .how in
       let m = g .moved in
       let h = g .far in
@@ -205,7 +206,7 @@ module _ {B : Type 0} {D : Res B} {T : List ℕ} {pos least at w₀ : ℕ} {S Q 
 
 then-failed : {A B : Type 0} {d : Res A} (k : A → List Error → List ℕ → Res B) {T : List ℕ} {pos least at w₀ : ℕ} {S Q S′ Q′ : List ℕ} (r : Step) → Failed d T pos least at w₀ S Q S′ Q′ r → FailedAs (then (waiting-errors w₀ Q) d k) T pos least at w₀ S Q S′ Q′ r
 then-failed k (Done p a w) h = h .how
-then-failed {d = d} k {w₀ = w₀} {Q = Q} (Fail e p w) h =
+then-failed {d = d} k {w₀ = w₀} {Q = Q} (Fail failure) h =
     let g = h .how in
     record { same = record { is = then-lost k (waiting-errors w₀ Q) d (g .same .is) }; moved = g .moved; far = g .far; text = g .text }
 then-failed {d = d} k {w₀ = w₀} {Q = Q} (Stop n) h = record { is = then-halt k (waiting-errors w₀ Q) d (h .how .is) }
@@ -231,7 +232,7 @@ pub record Beyond (pos least w₀ p least₁ w z : ℕ) : Type 0 where
 
 unread-failed : {A : Type 0} {d : List Error → Res A} {T : List ℕ} {p least at w : ℕ} {S′ Q′ : List ℕ} → w ≤ queue-limit → length Q′ ≡ queue-limit → (r : Step) → Unread d T p least w r → Failed (d (waiting-errors w Q′)) T p least at w S′ Q′ S′ Q′ r
 unread-failed few whole (Done p′ a w′) s = record { how = s .how }
-unread-failed {w = w} {Q′ = Q′} few whole (Fail e p′ w′) s =
+unread-failed {w = w} {Q′ = Q′} few whole (Fail failure) s =
     let m = s .how in
     let v = m .waits in
     let on = m .on in
@@ -253,7 +254,7 @@ lacking {at = at} {r = r} u a x b = onto a (unread-failed {at = at} (b .few) (b 
 
 unseen-as : {T : List ℕ} {p w : ℕ} (r : Step) → Saw T p w (Not r) → Unread (λ q. look q (drop p T)) T p (p + 2) w r
 unseen-as (Done p′ a w′) s = record { how = s .how }
-unseen-as (Fail e p′ w′) s = record { how = s .how .lacks }
+unseen-as (Fail failure) s = record { how = s .how .lacks }
 unseen-as (Stop n) s = record { how = s .how }
 
 -- no token was taken
@@ -271,7 +272,7 @@ module _ {A : Type 0} {d : List Error → Res A} {T : List ℕ} {pos least at w�
 
   not-passed : (r : Step) → OneOf (1 ∷ 2 ∷ []) (tagOf the-type r) → Reads d T pos least at w₀ r → Unread d T pos least w₀ r
   not-passed (Done p a w) o h = absurd (⊎-elim (λ e. omega arith) (λ e. omega arith) o)
-  not-passed (Fail e p w) o h = h .how
+  not-passed (Fail failure) o h = h .how
   not-passed (Stop n) o h = h .how
 
   pub unpassed : {r : Step} → OneOf (1 ∷ 2 ∷ []) (tagOf the-type r) → Reads d T pos least at w₀ r → Unread d T pos least w₀ r
@@ -292,14 +293,14 @@ gets k g a = goes k a (way _ (g .same _))
 stop-only : {B : Type 0} {D d : Res B} {T : List ℕ} {pos least at w₀ : ℕ} {S Q : List ℕ} {p w : ℕ} {S′ Q′ : List ℕ} → As (waiting-errors w₀ Q) D (waiting-errors w Q′) d → ((n : ℕ) → ((q : List Error) → look q (drop p T) ≡ stop n) → d ≡ stop n)
     → (r : Step) → OneOf (0 ∷ 2 ∷ []) (tagOf the-type r) → Saw T p w (Not r) → Failed D T pos least at w₀ S Q S′ Q′ r
 stop-only a h (Done p′ b w′) o s = record { how = s .how }
-stop-only a h (Fail e p′ w′) o s = absurd (⊎-elim (λ e. omega arith) (λ e. omega arith) o)
+stop-only a h (Fail failure) o s = absurd (⊎-elim (λ e. omega arith) (λ e. omega arith) o)
 stop-only a h (Stop n) o s = record { how = link a (record { is = ap (out _) (h n (s .how)) }) }
 
 pub blinded : {B : Type 0} {D d : Res B} {T : List ℕ} {pos least at w₀ : ℕ} {S Q : List ℕ} {p w : ℕ} {S′ Q′ : List ℕ} {r : Step} → OneOf (0 ∷ 2 ∷ []) (tagOf the-type r) → Saw T p w (Not r) → As (waiting-errors w₀ Q) D (waiting-errors w Q′) d → ((n : ℕ) → ((q : List Error) → look q (drop p T) ≡ stop n) → d ≡ stop n)
     → Failed D T pos least at w₀ S Q S′ Q′ r
 blinded {r = r} o s a h = stop-only a h r o s
 
-pub unseen : {T : List ℕ} {p w e p′ w′ : ℕ} {r : Step} → r ≡ Fail e p′ w′ → Saw T p w (Not r) → Missed T p w e p′ w′
+pub unseen : {T : List ℕ} {p w : ℕ} {f : Failure} {r : Step} → r ≡ Fail f → Saw T p w (Not r) → Missed T p w f
 unseen e s = (rw e at s) .how
 
 -- what a function answers that does as another one
@@ -346,7 +347,7 @@ later {words = words} {D = D} {d = d} {T = T} {pos = pos} {least = least} {slack
         let m = u .moved in
         let o = u .room in
         record { what = u .what; same = link (way _ e) (u .same); moved = omega arith; room = omega arith; text = u .text }
-    to (Fail x p w) f = onto (way _ e) (f .how) refl (omega arith)
+    to (Fail failure) f = onto (way _ e) (f .how) refl (omega arith)
     to (Stop n) f = record { how = link (way _ e) (f .how .how) }
 
 pub halted-as : {A : Type 0} {words : A → List ℕ} {d : Res A} {T : List ℕ} {pos least slack at w₀ n : ℕ} {S Q S′ Q′ : List ℕ} {r : Step} → r ≡ Stop n → Agrees words d T pos least slack at w₀ S Q S′ Q′ r → As (waiting-errors w₀ Q) d [] (stop n)
@@ -380,7 +381,7 @@ module _ {A B C E : Type 0} {words₁ : C → List ℕ} {words₂ : A → List �
       let m = u .moved in
       let n = u .room in
       record { how = record { what = mk (u .what); same = goes _ s (u .same); moved = omega arith; room = omega arith; text = u .text ∙ rw (g .text, text, append-assoc) } }
-  continued-as s o (Fail e p₁ w₁) f = record { how = fails _ s (f .how) (prefix g h) (omega arith) }
+  continued-as s o (Fail failure) f = record { how = fails _ s (f .how) (prefix g h) (omega arith) }
   continued-as s o (Stop n) f = record { how = fails _ s (f .how) (prefix g h) (omega arith) }
 
   pub continued : {r : Step} → As (waiting-errors w₀ Q) D (waiting-errors w Q′) (then (waiting-errors w Q′) d₂ (λ x q r. ok (mk x) r)) → Agrees words₂ d₂ T pos₁ least₁ slack₁ a w S′ Q′ S₂ Q₂ r → Onward pos least slack at w₀ pos₁ least₁ slack₁ a w → Agrees words D T pos least slack at w₀ S Q S₂ Q₂ r

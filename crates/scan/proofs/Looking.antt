@@ -19,7 +19,7 @@ use Rattle.scan.specs.declared.Step.the-variants.{Done, Fail, Stop}
 through-as : {A B : Type 0} {d : List Error → Res A} {D : List Error → Res B} (k : List ℕ → A → List Error → List ℕ → Res B) {T : List ℕ} {pos least w : ℕ} → ((q : List Error) → D q ≡ then q (d q) (k q)) → (r : Step) → Unread d T pos least w r → Unread D T pos least w r
 unfolding then
 through-as k e (Done p a w′) u = record { how = u .how }
-through-as k e (Fail n p w′) u =
+through-as k e (Fail failure) u =
     let l = u .how in
     record { how = record { same = λ q. e q ∙ rw (l .same q); waits = l .waits; on = l .on; within = l .within; far = l .far } }
 through-as k e (Stop n) u = record { how = λ q. e q ∙ rw (u .how q) }
@@ -33,7 +33,7 @@ unread {d = d} {T = T} {pos = pos} {least = least} {at = at} {w = w} {r = r} u =
   where
     to : (r : Step) → Unread d T pos least w r → Reads d T pos least at w r
     to (Done p a w′) u = absurd (u .how)
-    to (Fail e p w′) u = record { how = u }
+    to (Fail failure) u = record { how = u }
     to (Stop n) u = record { how = u }
 
 -- values

@@ -16,6 +16,7 @@ use Rattle.grammar.specs.Reading.Result.{Res, ok, fail, stop, spoil, either, if
 use Rattle.grammar.specs.Reading.Look.{look}
 use Rattle.grammar.specs.Reading.Next.{start}
 use Rattle.scan.specs.Post.{Taken, Missed, Saw, Reads}
+use Rattle.scan.specs.declared.Failure.{Failure}
 use Rattle.scan.specs.declared.Step.{Step}
 use Rattle.scan.specs.declared.Step.the-variants.{Done, Fail, Stop}
 use Rattle.scan.specs.declared.Seen.the-variants.{Not}
@@ -61,10 +62,10 @@ module _ (q : List Error) where
   start-stop T fuel p enough k l = start-halts fuel (drop p T) (left T p fuel enough) (l q)
 
   module _ {T : List ℕ} (fuel p : ℕ) (enough : length T ≤ p + fuel) where
-    pub start-none : {w₀ e p′ w : ℕ} → Missed T p w₀ e p′ w → e ≡ Number.end-of-tokens → start fuel q (drop p T) ≡ fail 0 q (drop p T)
+    pub start-none : {w₀ : ℕ} {f : Failure} → Missed T p w₀ f → f .error ≡ Number.end-of-tokens → start fuel q (drop p T) ≡ fail 0 q (drop p T)
     start-none m e = start-out fuel (drop p T) (m .lacks .same q) e
 
-    pub start-lexer : {w₀ e p′ w : ℕ} → Missed T p w₀ e p′ w → (e ≡ Number.end-of-tokens → ⊥) → start fuel q (drop p T) ≡ fail e q (drop p′ T)
+    pub start-lexer : {w₀ : ℕ} {f : Failure} → Missed T p w₀ f → (f .error ≡ Number.end-of-tokens → ⊥) → start fuel q (drop p T) ≡ fail (f .error) q (drop (f .pos) T)
     unfolding ifb spoil
     start-lexer m e =
         let x = m .past e in
@@ -91,7 +92,7 @@ module _ (q : List Error) where
 -- a look that neither took a token nor failed: the reading stops as it does
 stop-reads : {A : Type 0} {d : List Error → Res A} {T : List ℕ} {pos least at w₀ p w : ℕ} → ((n : ℕ) → ((q : List Error) → look q (drop p T) ≡ stop n) → (q : List Error) → d q ≡ stop n) → (r : Step) → OneOf (0 ∷ 2 ∷ []) (tagOf the-type r) → Saw T p w (Not r) → Reads d T pos least at w₀ r
 stop-reads h (Done p′ a w′) o s = absurd (s .how)
-stop-reads h (Fail e p′ w′) o s = absurd (⊎-elim (λ e. omega arith) (λ e. omega arith) o)
+stop-reads h (Fail failure) o s = absurd (⊎-elim (λ e. omega arith) (λ e. omega arith) o)
 stop-reads h (Stop n) o s = record { how = record { how = h n (s .how) } }
 
 pub halted : {A : Type 0} {d : List Error → Res A} {T : List ℕ} {pos least at w₀ p w : ℕ} {r : Step} → OneOf (0 ∷ 2 ∷ []) (tagOf the-type r) → Saw T p w (Not r) → ((n : ℕ) → ((q : List Error) → look q (drop p T) ≡ stop n) → (q : List Error) → d q ≡ stop n) → Reads d T pos least at w₀ r

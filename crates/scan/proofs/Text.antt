@@ -127,7 +127,7 @@ lexer-room T pos e =
     let l : length (drop pos T) ≡ length T - pos = length-drop pos T in
     omega arith
 
-pub lexer-missed : (T : List ℕ) (pos w : ℕ) → LexerError ≡ seen (drop pos T) → Missed T pos w Number.lexer-error (pos + 2) w
+pub lexer-missed : (T : List ℕ) (pos w : ℕ) → LexerError ≡ seen (drop pos T) → Missed T pos w (record { error = Number.lexer-error; pos = pos + 2; waiting = w })
 lexer-missed T pos w e =
     let r = lexer-room T pos e in
     record { lacks = record { same = λ q. seen-lexer (drop pos T) e q ∙ ap (fail Number.lexer-error q) (drop-drop 2 pos T); waits = refl; on = omega arith; within = r; far = omega arith }; past = λ h. omega arith }
@@ -154,7 +154,7 @@ nothing-short (w ∷ (v ∷ r)) e = absurd (word-something (token-fits (w % 256)
     word-something true false e = let z : _≡_ {A = ℕ} 0 1 = cc in omega arith
     word-something false b e = let z : _≡_ {A = ℕ} 0 1 = cc in omega arith
 
-pub nothing-missed : (T : List ℕ) (pos w : ℕ) → pos ≤ length T → Nothing ≡ seen (drop pos T) → Missed T pos w Number.end-of-tokens pos w
+pub nothing-missed : (T : List ℕ) (pos w : ℕ) → pos ≤ length T → Nothing ≡ seen (drop pos T) → Missed T pos w (record { error = Number.end-of-tokens; pos = pos; waiting = w })
 nothing-missed T pos w h e =
     let n = nothing-short (drop pos T) e in
     let l : length (drop pos T) ≡ length T - pos = length-drop pos T in

@@ -41,7 +41,7 @@ pops q r x = rw x
 -- a reading without store that failed
 queues-as : {A : Type 0} {d : Res A} {T : List ℕ} {pos at w : ℕ} {Q Q′ : List ℕ} (r : Step) → Failed d T pos pos at w [] Q [] Q′ r → Queues d T pos at w Q Q′ r
 queues-as (Done p a v) f = absurd (f .how)
-queues-as (Fail e p v) f = record { how = f }
+queues-as (Fail failure) f = record { how = f }
 queues-as (Stop n) f = record { how = f }
 
 pub queues-not : {A : Type 0} {d : Res A} {T : List ℕ} {pos at w : ℕ} {Q Q′ : List ℕ} {r : Step} → Failed d T pos pos at w [] Q [] Q′ r → Queues d T pos at w Q Q′ r

@@ -20,7 +20,7 @@ goes-on calls k newline = eqb k Kind.OpAccess || eqb k Kind.OpenSquare || (calls
 
 -- an expression that no assignment operator follows, with a keyword m before it, as a step
 unfoldable pub unassigned-step : ℕ → ℕ → ℕ → ℕ → Step
-unassigned-step m p a w = ifb (eqb m 0) (λ _. Done p a w) (λ _. Fail (keyword-alone m) p w)
+unassigned-step m p a w = ifb (eqb m 0) (λ _. Done p a w) (λ _. Fail (record { error = keyword-alone m; pos = p; waiting = w }))
 
 -- the error of a control where none is allowed
 abbrev pub not-allowed : ℕ → Error
@@ -29,12 +29,12 @@ not-allowed k = cond (eqb k Kind.Continue) Number.continue-not-allowed (cond (eq
 -- the code's answers that only rename a step
 abbrev pub closed-step : Step → Entry
 closed-step (Done p a w) = Control p a w
-closed-step (Fail e p w) = Not (Fail e p w)
+closed-step (Fail failure) = Not (Fail failure)
 closed-step (Stop n) = Not (Stop n)
 
 abbrev pub resumed-step : Step → Entry
 resumed-step (Done p a w) = Caught p w
-resumed-step (Fail e p w) = Not (Fail e p w)
+resumed-step (Fail failure) = Not (Fail failure)
 resumed-step (Stop n) = Not (Stop n)
 
 -- the first w places hold errors

@@ -12,6 +12,7 @@ use Rattle.grammar.specs.Reading.Limit.{queue-limit}
 use Rattle.grammar.specs.Reading.Number
 use Rattle.grammar.specs.Reading.Result.{Res, ok, bad, fail, stop, Error}
 use Rattle.grammar.specs.Reading.Look.{look}
+use Rattle.scan.specs.declared.Failure.{Failure}
 use Rattle.scan.specs.declared.Step.{Step}
 use Rattle.scan.specs.declared.Step.the-variants.{Done, Fail, Stop}
 use Rattle.scan.specs.declared.Seen.{Seen}
@@ -72,16 +73,16 @@ pub record Room (pos at slack p a : ℕ) : Type 0 where
   pub room : a + 8 * pos + slack ≤ at + 8 * p + 8
 
 -- an error: a token was taken (least = pos + 2), or none was left
-pub record Lost {A : Type 0} (d : Res A) (T : List ℕ) (pos least at w₀ : ℕ) (S Q : List ℕ) (e p w : ℕ) (S′ Q′ : List ℕ) : Type 0 where
-  pub same : As (waiting-errors w₀ Q) d (waiting-errors w Q′) (fail e (waiting-errors w Q′) (drop p T))
-  pub moved : Moved (length T) pos w₀ p w (length Q′)
-  pub far : least ≤ p + (least + 1 - length T)
+pub record Lost {A : Type 0} (d : Res A) (T : List ℕ) (pos least at w₀ : ℕ) (S Q : List ℕ) (f : Failure) (S′ Q′ : List ℕ) : Type 0 where
+  pub same : As (waiting-errors w₀ Q) d (waiting-errors (f .waiting) Q′) (fail (f .error) (waiting-errors (f .waiting) Q′) (drop (f .pos) T))
+  pub moved : Moved (length T) pos w₀ (f .pos) (f .waiting) (length Q′)
+  pub far : least ≤ f .pos + (least + 1 - length T)
   pub text : take at S′ ≡ take at S
 
 -- a reading that answers d failed or stopped, as r says
 abbrev pub FailedAs : {A : Type 0} → Res A → List ℕ → ℕ → ℕ → ℕ → ℕ → List ℕ → List ℕ → List ℕ → List ℕ → Step → Type 0
 FailedAs d T pos least at w₀ S Q S′ Q′ (Done p a w) = ⊥
-FailedAs d T pos least at w₀ S Q S′ Q′ (Fail e p w) = Lost d T pos least at w₀ S Q e p w S′ Q′
+FailedAs d T pos least at w₀ S Q S′ Q′ (Fail failure) = Lost d T pos least at w₀ S Q failure S′ Q′
 FailedAs d T pos least at w₀ S Q S′ Q′ (Stop n) = As (waiting-errors w₀ Q) d [] (stop n)
 
 pub record Failed {A : Type 0} (d : Res A) (T : List ℕ) (pos least at w₀ : ℕ) (S Q S′ Q′ : List ℕ) (r : Step) : Type 0 where
@@ -98,7 +99,7 @@ pub record Wrote {A B : Type 0} (words : A → List ℕ) (d : Res B) (k : A → 
 -- the code's answer r goes with the definition's answer d
 abbrev pub AgreesAs : {A : Type 0} → (A → List ℕ) → Res A → List ℕ → ℕ → ℕ → ℕ → ℕ → ℕ → List ℕ → List ℕ → List ℕ → List ℕ → Step → Type 0
 AgreesAs words d T pos least slack at w₀ S Q S′ Q′ (Done p a w) = Wrote words d clean T pos least slack at w₀ S Q p a w S′ Q′
-AgreesAs words d T pos least slack at w₀ S Q S′ Q′ (Fail e p w) = Failed d T pos least at w₀ S Q S′ Q′ (Fail e p w)
+AgreesAs words d T pos least slack at w₀ S Q S′ Q′ (Fail failure) = Failed d T pos least at w₀ S Q S′ Q′ (Fail failure)
 AgreesAs words d T pos least slack at w₀ S Q S′ Q′ (Stop n) = Failed d T pos least at w₀ S Q S′ Q′ (Stop n)
 
 pub record Agrees {A : Type 0} (words : A → List ℕ) (d : Res A) (T : List ℕ) (pos least slack at w₀ : ℕ) (S Q S′ Q′ : List ℕ) (r : Step) : Type 0 where
@@ -109,16 +110,16 @@ abbrev pub Reading : {A : Type 0} → (A → List ℕ) → (List Error → List 
 Reading words f T pos least slack at w₀ S Q S′ Q′ r = Agrees words (f (waiting-errors w₀ Q) (drop pos T)) T pos least slack at w₀ S Q S′ Q′ r
 
 -- WITHOUT QUEUE: d is a reading from pos, of what waits
-pub record Lacked {A : Type 0} (d : List Error → Res A) (T : List ℕ) (pos least w₀ e p w : ℕ) : Type 0 where
-  pub same : (q : List Error) → d q ≡ fail e q (drop p T)
-  pub waits : w ≡ w₀
-  pub on : pos ≤ p
-  pub within : p ≤ length T
-  pub far : least ≤ p + (least + 1 - length T)
+pub record Lacked {A : Type 0} (d : List Error → Res A) (T : List ℕ) (pos least w₀ : ℕ) (f : Failure) : Type 0 where
+  pub same : (q : List Error) → d q ≡ fail (f .error) q (drop (f .pos) T)
+  pub waits : f .waiting ≡ w₀
+  pub on : pos ≤ f .pos
+  pub within : f .pos ≤ length T
+  pub far : least ≤ f .pos + (least + 1 - length T)
 
 abbrev pub UnreadAs : {A : Type 0} → (List Error → Res A) → List ℕ → ℕ → ℕ → ℕ → Step → Type 0
 UnreadAs d T pos least w₀ (Done p a w) = ⊥
-UnreadAs d T pos least w₀ (Fail e p w) = Lacked d T pos least w₀ e p w
+UnreadAs d T pos least w₀ (Fail failure) = Lacked d T pos least w₀ failure
 UnreadAs d T pos least w₀ (Stop n) = (q : List Error) → d q ≡ stop n
 
 pub record Unread {A : Type 0} (d : List Error → Res A) (T : List ℕ) (pos least w₀ : ℕ) (r : Step) : Type 0 where
@@ -131,14 +132,14 @@ pub record Taken (T : List ℕ) (pos k n v : ℕ) : Type 0 where
   pub fits : value-fits k v ≡ true
 
 -- none was taken
-pub record Missed (T : List ℕ) (pos w₀ e p w : ℕ) : Type 0 where
-  pub lacks : Lacked (λ q. look q (drop pos T)) T pos (pos + 2) w₀ e p w
-  pub past : (e ≡ Number.end-of-tokens → ⊥) → pos + 2 ≤ p
+pub record Missed (T : List ℕ) (pos w₀ : ℕ) (f : Failure) : Type 0 where
+  pub lacks : Lacked (λ q. look q (drop pos T)) T pos (pos + 2) w₀ f
+  pub past : (f .error ≡ Number.end-of-tokens → ⊥) → pos + 2 ≤ f .pos
 
 abbrev pub SawAs : List ℕ → ℕ → ℕ → Seen → Type 0
 SawAs T pos w₀ (Took k n v) = Taken T pos k n v
 SawAs T pos w₀ (Not (Done p a w)) = ⊥
-SawAs T pos w₀ (Not (Fail e p w)) = Missed T pos w₀ e p w
+SawAs T pos w₀ (Not (Fail failure)) = Missed T pos w₀ failure
 SawAs T pos w₀ (Not (Stop n)) = (q : List Error) → look q (drop pos T) ≡ stop n
 
 pub record Saw (T : List ℕ) (pos w₀ : ℕ) (s : Seen) : Type 0 where
@@ -158,7 +159,7 @@ pub record Passed {A : Type 0} (d : List Error → Res A) (T : List ℕ) (least 
 
 abbrev pub ReadsAs : {A : Type 0} → (List Error → Res A) → List ℕ → ℕ → ℕ → ℕ → ℕ → Step → Type 0
 ReadsAs d T pos least at w₀ (Done p a w) = Passed d T least at w₀ p a w
-ReadsAs d T pos least at w₀ (Fail e p w) = Unread d T pos least w₀ (Fail e p w)
+ReadsAs d T pos least at w₀ (Fail failure) = Unread d T pos least w₀ (Fail failure)
 ReadsAs d T pos least at w₀ (Stop n) = Unread d T pos least w₀ (Stop n)
 
 pub record Reads {A : Type 0} (d : List Error → Res A) (T : List ℕ) (pos least at w₀ : ℕ) (r : Step) : Type 0 where
@@ -197,7 +198,7 @@ pub record Unstored {A : Type 0} (d : List Error → Res A) (T : List ℕ) (pos 
 
 abbrev pub WritesAs : {A : Type 0} → (A → List ℕ) → (List Error → Res A) → List ℕ → ℕ → ℕ → ℕ → ℕ → ℕ → List ℕ → List ℕ → List ℕ → Step → Type 0
 WritesAs words d T pos least most at w₀ X S S′ (Done p a w) = Stored words d T least most at w₀ X p a w S′
-WritesAs words d T pos least most at w₀ X S S′ (Fail e p w) = Unstored d T pos least w₀ S S′ (Fail e p w)
+WritesAs words d T pos least most at w₀ X S S′ (Fail failure) = Unstored d T pos least w₀ S S′ (Fail failure)
 WritesAs words d T pos least most at w₀ X S S′ (Stop n) = Unstored d T pos least w₀ S S′ (Stop n)
 
 pub record Writes {A : Type 0} (words : A → List ℕ) (d : List Error → Res A) (T : List ℕ) (pos least most at w₀ : ℕ) (X S S′ : List ℕ) (r : Step) : Type 0 where
@@ -223,23 +224,23 @@ pub record Queued {A : Type 0} (d : Res A) (T : List ℕ) (pos at w₀ : ℕ) (Q
 
 abbrev pub QueuesAs : {A : Type 0} → Res A → List ℕ → ℕ → ℕ → ℕ → List ℕ → List ℕ → Step → Type 0
 QueuesAs d T pos at w₀ Q Q′ (Done p a w) = Queued d T pos at w₀ Q p a w Q′
-QueuesAs d T pos at w₀ Q Q′ (Fail e p w) = Failed d T pos pos at w₀ [] Q [] Q′ (Fail e p w)
+QueuesAs d T pos at w₀ Q Q′ (Fail failure) = Failed d T pos pos at w₀ [] Q [] Q′ (Fail failure)
 QueuesAs d T pos at w₀ Q Q′ (Stop n) = Failed d T pos pos at w₀ [] Q [] Q′ (Stop n)
 
 pub record Queues {A : Type 0} (d : Res A) (T : List ℕ) (pos at w₀ : ℕ) (Q Q′ : List ℕ) (r : Step) : Type 0 where
   pub how : QueuesAs d T pos at w₀ Q Q′ r
 
 -- after a resynchronization in a list: it goes on, or the front of what waits is the list's error
-pub record Fronted {A : Type 0} (d : Res A) (T : List ℕ) (pos w₀ : ℕ) (Q : List ℕ) (e p w : ℕ) (Q′ : List ℕ) : Type 0 where
-  pub same : As (waiting-errors w₀ Q) d (waiting-errors w Q′) (fail e (waiting-errors w Q′) (drop p T))
-  pub fewer : w + 1 ≡ w₀
-  pub on : pos ≤ p
-  pub within : p ≤ length T
+pub record Fronted {A : Type 0} (d : Res A) (T : List ℕ) (pos w₀ : ℕ) (Q : List ℕ) (f : Failure) (Q′ : List ℕ) : Type 0 where
+  pub same : As (waiting-errors w₀ Q) d (waiting-errors (f .waiting) Q′) (fail (f .error) (waiting-errors (f .waiting) Q′) (drop (f .pos) T))
+  pub fewer : f .waiting + 1 ≡ w₀
+  pub on : pos ≤ f .pos
+  pub within : f .pos ≤ length T
   pub whole : length Q′ ≡ queue-limit
 
 abbrev pub ResumesAs : Res (Unit {0}) → List ℕ → ℕ → ℕ → ℕ → List ℕ → List ℕ → Step → Type 0
 ResumesAs d T pos at w₀ Q Q′ (Done p a w) = (d ≡ ok tt (drop p T)) × (p ≡ pos) × (a ≡ at) × (w ≡ w₀) × (Q′ ≡ Q)
-ResumesAs d T pos at w₀ Q Q′ (Fail e p w) = Fronted d T pos w₀ Q e p w Q′
+ResumesAs d T pos at w₀ Q Q′ (Fail failure) = Fronted d T pos w₀ Q failure Q′
 ResumesAs d T pos at w₀ Q Q′ (Stop n) = As (waiting-errors w₀ Q) d [] (stop n)
 
 pub record Resumes (d : Res (Unit {0})) (T : List ℕ) (pos at w₀ : ℕ) (Q Q′ : List ℕ) (r : Step) : Type 0 where

@@ -6,11 +6,17 @@ pub mod number;
 pub mod queue;
 pub mod tokens;
 
-// How a reading ended: past the word of the tokens and of the store that it names, and how many errors wait;
-// an error, past which word of the tokens, and how many wait; a stop.
+// An error on its way to whoever catches it: its number, past which word of the tokens it left off, and how many errors wait.
+pub struct Failure {
+    pub error: u64,
+    pub pos: usize,
+    pub waiting: usize,
+}
+
+// How a reading ended: past the word of the tokens and of the store that it names, and how many errors wait; an error; a stop.
 pub enum Step {
     Done(usize, usize, usize),
-    Fail(u64, usize, usize),
+    Fail(Failure),
     Stop(u64),
 }
 
@@ -68,7 +74,11 @@ pub fn again(s: Step) -> Step
 {
     match s {
         Step::Done(p, a, w) => Step::Done(p, a, w),
-        Step::Fail(e, p, w) => Step::Fail(e, p, w),
+        Step::Fail(f) => Step::Fail(Failure {
+            error: f.error,
+            pos: f.pos,
+            waiting: f.waiting,
+        }),
         Step::Stop(n) => Step::Stop(n),
     }
 }

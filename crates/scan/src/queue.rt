@@ -7,6 +7,7 @@ ghost use Rattle.grammar.specs.Reading.Stmt.{control-last as control-last-def, 
 ghost use Rattle.grammar.specs.Reading.Next.{is-error as is-error-def, is-stop as is-stop-def, queue-fits as queue-fits-def, pad};
 ghost use Rattle.scan.specs.Post.{Pushed, Popped, Queues, Resumes, waiting-errors};
 ghost use Rattle.scan.specs.Parts.{holds-errors as holds-errors-def};
+use crate::Failure;
 use crate::Seen;
 use crate::Step;
 use crate::number;
@@ -82,12 +83,20 @@ pub fn synchronized(
     match look(tokens, pos, waiting) {
         Seen::Token(kind, _, _) => {
             if kind == kind::EOF {
-                return Step::Fail(pop(queue, waiting), pos, waiting - 1);
+                return Step::Fail(Failure {
+                    error: pop(queue, waiting),
+                    pos,
+                    waiting: waiting - 1,
+                });
             }
             Step::Done(pos, at, waiting)
         }
         Seen::Not(s) => match s {
-            Step::Fail(_, p, _) => Step::Fail(pop(queue, waiting), p, waiting - 1),
+            Step::Fail(f) => Step::Fail(Failure {
+                error: pop(queue, waiting),
+                pos: f.pos,
+                waiting: waiting - 1,
+            }),
             _ => s,
         },
     }

@@ -14,6 +14,7 @@ ghost use Rattle.grammar.specs.Reading.Next.{start as start-def};
 ghost use Rattle.scan.specs.Post.{Saw, Reads, Finds, itself, value-of};
 ghost use Rattle.scan.specs.Parts.{unassigned-step, goes-on, not-allowed as not-allowed-def};
 ghost use Rattle.scan.specs.Lists.{Within, Passes};
+use crate::Failure;
 use crate::Found;
 use crate::Listed;
 use crate::Seen;
@@ -31,8 +32,16 @@ pub fn look(tokens: &[u64], pos: usize, waiting: usize) -> Seen
 {
     match token::look(tokens, pos) {
         token::Seen::Good(t) => Seen::Token(t.kind, t.newline, t.value),
-        token::Seen::LexerError => Seen::Not(Step::Fail(number::LEXER_ERROR, pos + 2, waiting)),
-        token::Seen::Nothing => Seen::Not(Step::Fail(number::END_OF_TOKENS, pos, waiting)),
+        token::Seen::LexerError => Seen::Not(Step::Fail(Failure {
+            error: number::LEXER_ERROR,
+            pos: pos + 2,
+            waiting,
+        })),
+        token::Seen::Nothing => Seen::Not(Step::Fail(Failure {
+            error: number::END_OF_TOKENS,
+            pos,
+            waiting,
+        })),
         token::Seen::Bad => Seen::Not(Step::Stop(limit::MALFORMED)),
     }
 }
@@ -47,7 +56,11 @@ pub fn expect(tokens: &[u64], k: u64, e: u64, pos: usize, at: usize, waiting: us
             if kind == k {
                 Step::Done(pos + 2, at, waiting)
             } else {
-                Step::Fail(e, pos + 2, waiting)
+                Step::Fail(Failure {
+                    error: e,
+                    pos: pos + 2,
+                    waiting,
+                })
             }
         }
         Seen::Not(s) => s,
@@ -64,7 +77,11 @@ pub fn expect_name(tokens: &[u64], e: u64, pos: usize, waiting: usize) -> Found
             if kind == kind::IDENTIFIER {
                 Found::At(pos + 2, value)
             } else {
-                Found::Not(Step::Fail(e, pos + 2, waiting))
+                Found::Not(Step::Fail(Failure {
+                    error: e,
+                    pos: pos + 2,
+                    waiting,
+                }))
             }
         }
         Seen::Not(s) => Found::Not(s),
@@ -148,7 +165,11 @@ pub fn unassigned(m: u64, pos: usize, at: usize, waiting: usize) -> Step
     if m == 0 {
         return Step::Done(pos, at, waiting);
     }
-    Step::Fail(keyword_alone(m), pos, waiting)
+    Step::Fail(Failure {
+        error: keyword_alone(m),
+        pos,
+        waiting,
+    })
 }
 
 // The level of the binary operator that a token kind is, 0 if it is none.
@@ -328,18 +349,30 @@ pub fn start(tokens: &[u64], pos: usize) -> Step
     loop {
         match look(tokens, p, 0) {
             Seen::Token(kind, _, _) => match kind {
-                kind::EOF => return Step::Fail(number::END, p, 0),
+                kind::EOF => return Step::Fail(Failure {
+                    error: number::END,
+                    pos: p,
+                    waiting: 0,
+                }),
                 kind::SEMICOLON => {
                     p += 2;
                 }
                 _ => return Step::Done(p, 0, 0),
             },
             Seen::Not(s) => match s {
-                Step::Fail(e, p2, _) => {
-                    if e == number::END_OF_TOKENS {
-                        return Step::Fail(number::END, p, 0);
+                Step::Fail(f) => {
+                    if f.error == number::END_OF_TOKENS {
+                        return Step::Fail(Failure {
+                            error: number::END,
+                            pos: p,
+                            waiting: 0,
+                        });
                     }
-                    return Step::Fail(e, p2, 0);
+                    return Step::Fail(Failure {
+                        error: f.error,
+                        pos: f.pos,
+                        waiting: 0,
+                    });
                 }
                 _ => return s,
             },

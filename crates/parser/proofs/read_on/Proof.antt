@@ -5,6 +5,25 @@ use Rattle.scan.proofs.Laws.{done, missed, halted-as}
 use Rattle.parser.proofs.Answers.{halt-out, lost-out, tree-out}
 use Rattle.parser.proofs.read_on.Statement.{statement}
 use Rattle.parser.proofs.read_on.Tie as tie
+use Rattle.tree.proofs.Known.{known}
+
+abbrev after-statement-of-at-match-keys1 : tie.At-match-keys1 → tie.After-statement
+after-statement-of-at-match-keys1 c = search
+
+abbrev after-statement-of-at-match-keys2 : tie.At-match-keys2 → tie.After-statement
+after-statement-of-at-match-keys2 c = search
+
+abbrev start-of-at-match-keys1 : tie.At-match-keys1 → tie.Start
+start-of-at-match-keys1 c = search
+
+abbrev start-of-at-match-keys2 : tie.At-match-keys2 → tie.Start
+start-of-at-match-keys2 c = search
+
+abbrev start-of-at-match-keys3 : tie.At-match-keys3 → tie.Start
+start-of-at-match-keys3 c = search
+
+abbrev after-statement-of-at-match-keys3 : tie.At-match-keys3 → tie.After-statement
+after-statement-of-at-match-keys3 c = search
 
 statement-requires : tie.Need-statement-requires
 statement-requires c κs = search needs
@@ -19,7 +38,7 @@ add-go-on : tie.Need-add-go-on
 add-go-on c = search needs
 
 go-on-requires : tie.Need-go-on-requires
-go-on-requires c κs = let w = done (c .before .before .before .before .before .p .given .1) (c .before .before .before .before .before .before .before .before .before .statement .ensures) in
+go-on-requires c κs = let w = done (known tie.After-p (search) .p .given .1) (after-statement-of-at-match-keys1 (search) .statement .ensures) in
     w .moved .few
 
 enum-known-e : tie.Need-enum-known-e
@@ -35,7 +54,7 @@ add-go-on-2 : tie.Need-add-go-on-2
 add-go-on-2 c = search needs
 
 go-on-requires-2 : tie.Need-go-on-requires-2
-go-on-requires-2 c κs = let l = missed (c .before .before .before .before .before .before .e .given .1) (c .before .before .before .before .before .before .before .before .before .before .statement .ensures) in
+go-on-requires-2 c κs = let l = missed (known tie.After-e (search) .e .given .1) (after-statement-of-at-match-keys2 (search) .statement .ensures) in
     l .moved .few
 
 enum-known-n : tie.Need-enum-known-n
@@ -51,23 +70,23 @@ same-length : tie.Need-same-length
 same-length c = search needs
 
 returns : tie.Need-returns
-returns c = let w = done (c .before .before .before .before .before .before .p .given .1) (c .before .before .before .before .before .before .before .before .before .before .statement .ensures) in
+returns c = let w = done (known tie.After-p (search) .p .given .1) (after-statement-of-at-match-keys1 (search) .statement .ensures) in
     let r = w .room .room in
     let i = w .moved .within in
-    tree-out (c .before .before .before .before .before .before .before .before .before .before .before .before .before .before .before .args .unread .now) (c .before .before .before .before .before .before .before .before .before .before .before .before .before .before .before .args .position) _ (c .before .before .before .before .before .before .before .before .before .before .before .before .before .before .before .pre .0) _ w (c .before .before .before .clear .ensures) (c .before .before .before .before .before .before .before .before .before .before .statement .kept .1 .0) (omega arith) (c .go-on .ensures)
+    tree-out (start-of-at-match-keys1 (search) .args .unread .now) (start-of-at-match-keys1 (search) .args .position) _ (start-of-at-match-keys1 (search) .pre .0) _ w (known tie.After-clear (search) .clear .ensures) (after-statement-of-at-match-keys1 (search) .statement .kept .1 .0) (omega arith) (c .go-on .ensures)
 
 same-length-2 : tie.Need-same-length-2
 same-length-2 c = search needs
 
 returns-2 : tie.Need-returns-2
-returns-2 c = let l = missed (c .before .before .before .before .before .before .before .e .given .1) (c .before .before .before .before .before .before .before .before .before .before .before .statement .ensures) in
-    lost-out (c .before .before .before .before .before .before .before .before .before .before .before .before .before .before .before .before .args .unread .now) (c .before .before .before .before .before .before .before .before .before .before .before .before .before .before .before .before .args .position) _ (c .before .before .before .before .before .before .before .before .before .before .before .before .before .before .before .before .pre .0) _ l (c .before .before .before .before .clear2 .ensures) (c .before .before .before .before .before .before .before .before .before .before .before .statement .kept .1 .0) (c .before .error-answer .ensures) (c .go-on2 .ensures)
+returns-2 c = let l = missed (known tie.After-e (search) .e .given .1) (after-statement-of-at-match-keys2 (search) .statement .ensures) in
+    lost-out (start-of-at-match-keys2 (search) .args .unread .now) (start-of-at-match-keys2 (search) .args .position) _ (start-of-at-match-keys2 (search) .pre .0) _ l (known tie.After-clear2 (search) .clear2 .ensures) (after-statement-of-at-match-keys2 (search) .statement .kept .1 .0) (known tie.After-error-answer (search) .error-answer .ensures) (c .go-on2 .ensures)
 
 same-length-3 : tie.Need-same-length-3
 same-length-3 c = search needs
 
 returns-3 : tie.Need-returns-3
-returns-3 c = halt-out (c .before .before .before .before .before .before .before .before .before .before .before .before .before .before .before .args .unread .now) (c .before .before .before .before .before .before .before .before .before .before .before .before .before .before .before .args .position) _ (c .before .before .before .before .before .before .before .before .before .before .before .before .before .before .before .pre .0) (c .before .before .before .before .before .before .before .before .before .before .statement .last .1 .0) _ (halted-as (c .before .before .before .before .before .before .n .given .1) (c .before .before .before .before .before .before .before .before .before .before .statement .ensures)) (c .before .before .before .clear3 .ensures) (c .before .before .before .before .before .before .before .before .before .before .statement .kept .1 .0) (c .stop-at .ensures)
+returns-3 c = halt-out (start-of-at-match-keys3 (search) .args .unread .now) (start-of-at-match-keys3 (search) .args .position) _ (start-of-at-match-keys3 (search) .pre .0) (after-statement-of-at-match-keys3 (search) .statement .last .1 .0) _ (halted-as (known tie.After-n (search) .n .given .1) (after-statement-of-at-match-keys3 (search) .statement .ensures)) (known tie.After-clear3 (search) .clear3 .ensures) (after-statement-of-at-match-keys3 (search) .statement .kept .1 .0) (c .stop-at .ensures)
 
 pub read-on-spec : {M : Type 1} → statement M
 read-on-spec =

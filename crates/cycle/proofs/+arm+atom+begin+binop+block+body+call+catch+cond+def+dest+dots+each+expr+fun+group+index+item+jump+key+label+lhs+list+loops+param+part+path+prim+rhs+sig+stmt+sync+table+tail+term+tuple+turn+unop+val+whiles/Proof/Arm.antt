@@ -16,10 +16,59 @@ use Rattle.cycle.proofs.list.Reads as list-reads
 use Rattle.nodes.proofs.records.block_under.Reads as block-under-reads
 use Rattle.scan.proofs.tokens.expect.Reads as expect-reads
 use Rattle.cycle.proofs.+arm+atom+begin+binop+block+body+call+catch+cond+def+dest+dots+each+expr+fun+group+index+item+jump+key+label+lhs+list+loops+param+part+path+prim+rhs+sig+stmt+sync+table+tail+term+tuple+turn+unop+val+whiles.Proof.Below.{arm-at, expr-below, list-below}
+use Rattle.tree.proofs.Known.{known}
 
 -- what is known of the functions that it calls
 abbrev pub calls : ℕ → lts.Claims
 calls t = (expr-below t, expr-reads.Post, expect-reads.Asked, expect-reads.Learnt, list-below t, list-reads.Post, block-under-reads.Asked, block-under-reads.Learnt)
+
+abbrev After-expr : ℕ → Type 0
+After-expr t = lts.After-expr (calls t) (arm-at t) reads.Post
+
+abbrev After-r : ℕ → Type 0
+After-r t = lts.After-r (calls t) (arm-at t) reads.Post
+
+abbrev After-expect : ℕ → Type 0
+After-expect t = lts.After-expect (calls t) (arm-at t) reads.Post
+
+abbrev At-match-keys1 : ℕ → Type 0
+At-match-keys1 t = lts.At-match-keys1 (calls t) (arm-at t) reads.Post
+
+abbrev After-s : ℕ → Type 0
+After-s t = lts.After-s (calls t) (arm-at t) reads.Post
+
+abbrev After-list-arg2 : ℕ → Type 0
+After-list-arg2 t = lts.After-list-arg2 (calls t) (arm-at t) reads.Post
+
+abbrev After-list : ℕ → Type 0
+After-list t = lts.After-list (calls t) (arm-at t) reads.Post
+
+abbrev Start : ℕ → Type 0
+Start t = lts.Start (calls t) (arm-at t) reads.Post
+
+abbrev After-block-under : ℕ → Type 0
+After-block-under t = lts.After-block-under (calls t) (arm-at t) reads.Post
+
+abbrev after-expr-of-at-match-keys1 : (t : ℕ) → At-match-keys1 t → After-expr t
+after-expr-of-at-match-keys1 t c = search
+
+abbrev after-r-of-after-list-arg2 : (t : ℕ) → After-list-arg2 t → After-r t
+after-r-of-after-list-arg2 t c = search
+
+abbrev after-expr-of-after-list-arg2 : (t : ℕ) → After-list-arg2 t → After-expr t
+after-expr-of-after-list-arg2 t c = after-expr-of-at-match-keys1 t (search)
+
+abbrev after-expect-of-after-list-arg2 : (t : ℕ) → After-list-arg2 t → After-expect t
+after-expect-of-after-list-arg2 t c = search
+
+abbrev start-of-at-match-keys1 : (t : ℕ) → At-match-keys1 t → Start t
+start-of-at-match-keys1 t c = search
+
+abbrev start-of-after-list-arg2 : (t : ℕ) → After-list-arg2 t → Start t
+start-of-after-list-arg2 t c = start-of-at-match-keys1 t (search)
+
+abbrev after-s-of-after-list-arg2 : (t : ℕ) → After-list-arg2 t → After-s t
+after-s-of-after-list-arg2 t c = search
 
 pub expr-requires : (t : ℕ) → lts.Need-expr-requires (calls t) (arm-at t) reads.Post
 expr-requires t c κs = omega arith
@@ -32,10 +81,10 @@ same-length t c = search needs
 
 pub returns : (t : ℕ) → lts.Need-returns (calls t) (arm-at t) reads.Post
 returns t c = let path = way _ (branch-step _ _ _) in
-    did-not (fails _ path (undone (c .match .keys2) (c .before .before .before .expr .ensures)) refl (omega arith))
+    did-not (fails _ path (undone (c .match .keys2) (known (After-expr t) (search) .expr .ensures)) refl (omega arith))
 
 pub expect-requires : (t : ℕ) → lts.Need-expect-requires (calls t) (arm-at t) reads.Post
-expect-requires t c κs = let w = done (c .before .r .given .1) (c .before .before .before .before .before .expr .ensures) in
+expect-requires t c κs = let w = done (known (After-r t) (search) .r .given .1) (known (After-expr t) (search) .expr .ensures) in
     w .moved .within
 
 pub enum-known-s : (t : ℕ) → lts.Need-enum-known-s (calls t) (arm-at t) reads.Post
@@ -45,36 +94,36 @@ pub same-length-2 : (t : ℕ) → lts.Need-same-length-2 (calls t) (arm-at t) re
 same-length-2 t c = search needs
 
 pub returns-2 : (t : ℕ) → lts.Need-returns-2 (calls t) (arm-at t) reads.Post
-returns-2 t c = let w = done (c .before .before .before .r .given .1) (c .before .before .before .before .before .before .before .expr .ensures) in
+returns-2 t c = let w = done (known (After-r t) (search) .r .given .1) (known (After-expr t) (search) .expr .ensures) in
     let path = way _ (branch-step _ _ _) in
     let on = goes _ path (w .same) in
-    did-not (lacks _ (unpassed (c .match2 .keys2) (c .before .expect .ensures)) on (prefix w (omega arith)) (omega arith))
+    did-not (lacks _ (unpassed (c .match2 .keys2) (known (After-expect t) (search) .expect .ensures)) on (prefix w (omega arith)) (omega arith))
 
 pub list-requires : (t : ℕ) → lts.Need-list-requires (calls t) (arm-at t) reads.Post
-list-requires t c κs = let w = done (c .before .before .before .before .before .before .before .r .given .1) (c .before .before .before .before .before .before .before .before .before .before .before .expr .ensures) in
-    let ps = passed (c .before .before .before .s .given .1) (c .before .before .before .before .before .expect .ensures) in
+list-requires t c κs = let w = done (known (After-r t) (search) .r .given .1) (after-expr-of-at-match-keys1 t (search) .expr .ensures) in
+    let ps = passed (known (After-s t) (search) .s .given .1) (known (After-expect t) (search) .expect .ensures) in
     let g = ps .got in
     let gon = g .on in
     let gwithin = g .within in
     omega arith
 
 pub block-under-requires : (t : ℕ) → lts.Need-block-under-requires (calls t) (arm-at t) reads.Post
-block-under-requires t c κs = let w = done (c .before .before .before .before .before .before .before .before .before .before .before .r .given .1) (c .before .before .before .before .before .before .before .before .before .before .before .before .before .before .before .expr .ensures) in
-    let ps = passed (c .before .before .before .before .before .before .before .s .given .1) (c .before .before .before .before .before .before .before .before .before .expect .ensures) in
+block-under-requires t c κs = let w = done (after-r-of-after-list-arg2 t (search) .r .given .1) (after-expr-of-after-list-arg2 t (search) .expr .ensures) in
+    let ps = passed (known (After-s t) (search) .s .given .1) (after-expect-of-after-list-arg2 t (search) .expect .ensures) in
     let g = ps .got in
     let gon = g .on in
     let gwithin = g .within in
-    closable _ (c .before .before .before .list .ensures) (omega (arith, c .before .before .before .before .before .before .before .before .before .before .before .before .before .before .before .before .before .before .before .before .pre, w .moved, w .room, gon, gwithin, c .before .before .before .before .before .before .before .before .before .before .before .before .before .before .before .expr .kept .1 .0, c .before .before .before .list .kept .1 .0))
+    closable _ (known (After-list t) (search) .list .ensures) (omega (arith, start-of-after-list-arg2 t (search) .pre, w .moved, w .room, gon, gwithin, after-expr-of-after-list-arg2 t (search) .expr .kept .1 .0, known (After-list t) (search) .list .kept .1 .0))
 
 pub same-length-3 : (t : ℕ) → lts.Need-same-length-3 (calls t) (arm-at t) reads.Post
 same-length-3 t c = search needs
 
 pub returns-3 : (t : ℕ) → lts.Need-returns-3 (calls t) (arm-at t) reads.Post
-returns-3 t c = let w = done (c .before .before .before .before .before .before .before .before .before .before .before .before .before .before .r .given .1) (c .before .before .before .before .before .before .before .before .before .before .before .before .before .before .before .before .before .before .expr .ensures) in
+returns-3 t c = let w = done (after-r-of-after-list-arg2 t (search) .r .given .1) (after-expr-of-after-list-arg2 t (search) .expr .ensures) in
     let path = way _ (branch-step _ _ _) in
     let on = goes _ path (w .same) in
-    let ps = passed (c .before .before .before .before .before .before .before .before .before .before .s .given .1) (c .before .before .before .before .before .before .before .before .before .before .before .before .expect .ensures) in
+    let ps = passed (after-s-of-after-list-arg2 t (search) .s .given .1) (after-expect-of-after-list-arg2 t (search) .expect .ensures) in
     let g = ps .got in
     let gon = g .on in
     let gwithin = g .within in
-    under (λ s. Node.conditional-branch (w .what) (block-of s)) (records (w .what)) (c .before .before .before .before .before .before .list .ensures) (c .before .before .block-under .ensures) (gets _ g on) (w .text) (λ s. two-words 23 _ _ _) (prefix w (omega (arith, c .before .before .before .before .before .before .before .before .before .before .before .before .before .before .before .before .before .before .before .before .before .before .before .pre, w .moved, w .room, gon, gwithin, c .before .before .before .before .before .before .before .before .before .before .before .before .before .before .before .before .before .before .expr .kept .1 .0))) (omega (arith, c .before .before .before .before .before .before .before .before .before .before .before .before .before .before .before .before .before .before .before .before .before .before .before .pre, w .moved, w .room, gon, gwithin, c .before .before .before .before .before .before .before .before .before .before .before .before .before .before .before .before .before .before .expr .kept .1 .0))
+    under (λ s. Node.conditional-branch (w .what) (block-of s)) (records (w .what)) (known (After-list t) (search) .list .ensures) (known (After-block-under t) (search) .block-under .ensures) (gets _ g on) (w .text) (λ s. two-words 23 _ _ _) (prefix w (omega (arith, start-of-after-list-arg2 t (search) .pre, w .moved, w .room, gon, gwithin, after-expr-of-after-list-arg2 t (search) .expr .kept .1 .0))) (omega (arith, start-of-after-list-arg2 t (search) .pre, w .moved, w .room, gon, gwithin, after-expr-of-after-list-arg2 t (search) .expr .kept .1 .0))

@@ -15,10 +15,47 @@ use Rattle.cycle.proofs.group.Reads as group-reads
 use Rattle.nodes.proofs.records.literal.Reads as literal-reads
 use Rattle.scan.proofs.tokens.look.Reads as look-reads
 use Rattle.cycle.proofs.+arm+atom+begin+binop+block+body+call+catch+cond+def+dest+dots+each+expr+fun+group+index+item+jump+key+label+lhs+list+loops+param+part+path+prim+rhs+sig+stmt+sync+table+tail+term+tuple+turn+unop+val+whiles.Proof.Below.{atom-at, group-below}
+use Rattle.tree.proofs.Known.{known}
 
 -- what is known of the functions that it calls
 abbrev pub calls : ℕ → lts.Claims
 calls t = (look-reads.Asked, look-reads.Learnt, group-below t, group-reads.Post, literal-reads.Asked, literal-reads.Learnt)
+
+abbrev After-kind : ℕ → Type 0
+After-kind t = lts.After-kind (calls t) (atom-at t) reads.Post
+
+abbrev After-look : ℕ → Type 0
+After-look t = lts.After-look (calls t) (atom-at t) reads.Post
+
+abbrev After-group-arg : ℕ → Type 0
+After-group-arg t = lts.After-group-arg (calls t) (atom-at t) reads.Post
+
+abbrev Then1 : ℕ → Type 0
+Then1 t = lts.Then1 (calls t) (atom-at t) reads.Post
+
+abbrev After-group : ℕ → Type 0
+After-group t = lts.After-group (calls t) (atom-at t) reads.Post
+
+abbrev After-literal : ℕ → Type 0
+After-literal t = lts.After-literal (calls t) (atom-at t) reads.Post
+
+abbrev After-literal-arg : ℕ → Type 0
+After-literal-arg t = lts.After-literal-arg (calls t) (atom-at t) reads.Post
+
+abbrev Start : ℕ → Type 0
+Start t = lts.Start (calls t) (atom-at t) reads.Post
+
+abbrev Else1 : ℕ → Type 0
+Else1 t = lts.Else1 (calls t) (atom-at t) reads.Post
+
+abbrev After-s : ℕ → Type 0
+After-s t = lts.After-s (calls t) (atom-at t) reads.Post
+
+abbrev after-look-of-after-group-arg : (t : ℕ) → After-group-arg t → After-look t
+after-look-of-after-group-arg t c = search
+
+abbrev start-of-after-literal-arg : (t : ℕ) → After-literal-arg t → Start t
+start-of-after-literal-arg t c = search
 
 pub look-requires : (t : ℕ) → lts.Need-look-requires (calls t) (atom-at t) reads.Post
 look-requires t c κs = search needs
@@ -27,26 +64,26 @@ pub enum-known-kind : (t : ℕ) → lts.Need-enum-known-kind (calls t) (atom-at 
 enum-known-kind t c = search needs
 
 pub add-group : (t : ℕ) → lts.Need-add-group (calls t) (atom-at t) reads.Post
-add-group t c = let tk = taken (c .before .before .before .before .kind .given .1) (c .before .before .before .before .before .before .look .ensures) in
+add-group t c = let tk = taken (known (After-kind t) (search) .kind .given .1) (known (After-look t) (search) .look .ensures) in
     omega arith
 
 pub group-requires : (t : ℕ) → lts.Need-group-requires (calls t) (atom-at t) reads.Post
-group-requires t c κs = let tk = taken (c .before .before .before .before .kind .given .1) (c .before .before .before .before .before .before .look .ensures) in
+group-requires t c κs = let tk = taken (known (After-kind t) (search) .kind .given .1) (known (After-look t) (search) .look .ensures) in
     omega arith
 
 pub same-length : (t : ℕ) → lts.Need-same-length (calls t) (atom-at t) reads.Post
 same-length t c = search needs
 
 pub returns : (t : ℕ) → lts.Need-returns (calls t) (atom-at t) reads.Post
-returns t c = let tk = taken (c .before .before .before .before .before .before .before .kind .given .1) (c .before .before .before .before .before .before .before .before .before .look .ensures) in
-    later (atom-group _ _ tk (c .before .before .before .before .before .if1 .taken)) (c .before .before .group .ensures) (omega arith) (omega arith) (omega arith)
+returns t c = let tk = taken (known (After-kind t) (search) .kind .given .1) (after-look-of-after-group-arg t (search) .look .ensures) in
+    later (atom-group _ _ tk (known (Then1 t) (search) .if1 .taken)) (known (After-group t) (search) .group .ensures) (omega arith) (omega arith) (omega arith)
 
 pub add-literal : (t : ℕ) → lts.Need-add-literal (calls t) (atom-at t) reads.Post
-add-literal t c = let tk = taken (c .before .before .before .kind .given .1) (c .before .before .before .before .before .look .ensures) in
+add-literal t c = let tk = taken (known (After-kind t) (search) .kind .given .1) (known (After-look t) (search) .look .ensures) in
     omega arith
 
 pub literal-requires : (t : ℕ) → lts.Need-literal-requires (calls t) (atom-at t) reads.Post
-literal-requires t c κs = let tk = taken (c .before .before .before .kind .given .1) (c .before .before .before .before .before .look .ensures) in
+literal-requires t c κs = let tk = taken (known (After-kind t) (search) .kind .given .1) (known (After-look t) (search) .look .ensures) in
     omega arith
 
 pub enum-known-s : (t : ℕ) → lts.Need-enum-known-s (calls t) (atom-at t) reads.Post
@@ -56,8 +93,8 @@ pub same-length-2 : (t : ℕ) → lts.Need-same-length-2 (calls t) (atom-at t) r
 same-length-2 t c = search needs
 
 pub returns-2 : (t : ℕ) → lts.Need-returns-2 (calls t) (atom-at t) reads.Post
-returns-2 t c = let tk = taken (c .before .before .before .before .before .before .kind .given .1) (c .before .before .before .before .before .before .before .before .look .ensures) in
-    settled (c .before .before .literal .ensures (c .before .before .before .before .before .before .before .before .before .before .before .args .tokens .now) (tk .within)) refl (way _ (atom-literal _ _ tk (c .before .before .before .before .if1 .left))) refl (omega arith)
+returns-2 t c = let tk = taken (known (After-kind t) (search) .kind .given .1) (known (After-look t) (search) .look .ensures) in
+    settled (known (After-literal t) (search) .literal .ensures (start-of-after-literal-arg t (search) .args .tokens .now) (tk .within)) refl (way _ (atom-literal _ _ tk (known (Else1 t) (search) .if1 .left))) refl (omega arith)
 
 pub returns-3 : (t : ℕ) → lts.Need-returns-3 (calls t) (atom-at t) reads.Post
-returns-3 t c = did-not (blind here (atom-looks _ _ _) (not-taken (c .before .s .given .1) (c .before .before .before .look .ensures)) refl (omega arith))
+returns-3 t c = did-not (blind here (atom-looks _ _ _) (not-taken (known (After-s t) (search) .s .given .1) (known (After-look t) (search) .look .ensures)) refl (omega arith))

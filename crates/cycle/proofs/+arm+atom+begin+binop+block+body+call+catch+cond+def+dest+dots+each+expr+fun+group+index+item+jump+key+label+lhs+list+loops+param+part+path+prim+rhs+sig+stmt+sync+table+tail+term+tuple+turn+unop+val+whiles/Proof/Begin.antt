@@ -10,10 +10,32 @@ use Rattle.cycle.proofs.+arm+atom+begin+binop+block+body+call+catch+con
 use Rattle.cycle.proofs.block.Reads as block-reads
 use Rattle.scan.proofs.tokens.look.Reads as look-reads
 use Rattle.cycle.proofs.+arm+atom+begin+binop+block+body+call+catch+cond+def+dest+dots+each+expr+fun+group+index+item+jump+key+label+lhs+list+loops+param+part+path+prim+rhs+sig+stmt+sync+table+tail+term+tuple+turn+unop+val+whiles.Proof.Below.{begin-at, block-below}
+use Rattle.tree.proofs.Known.{known}
 
 -- what is known of the functions that it calls
 abbrev pub calls : ℕ → lts.Claims
 calls t = (look-reads.Asked, look-reads.Learnt, block-below t, block-reads.Post)
+
+abbrev After-kind : ℕ → Type 0
+After-kind t = lts.After-kind (calls t) (begin-at t) reads.Post
+
+abbrev After-look : ℕ → Type 0
+After-look t = lts.After-look (calls t) (begin-at t) reads.Post
+
+abbrev After-block-arg : ℕ → Type 0
+After-block-arg t = lts.After-block-arg (calls t) (begin-at t) reads.Post
+
+abbrev Then1 : ℕ → Type 0
+Then1 t = lts.Then1 (calls t) (begin-at t) reads.Post
+
+abbrev After-block : ℕ → Type 0
+After-block t = lts.After-block (calls t) (begin-at t) reads.Post
+
+abbrev After-s : ℕ → Type 0
+After-s t = lts.After-s (calls t) (begin-at t) reads.Post
+
+abbrev after-look-of-after-block-arg : (t : ℕ) → After-block-arg t → After-look t
+after-look-of-after-block-arg t c = search
 
 pub look-requires : (t : ℕ) → lts.Need-look-requires (calls t) (begin-at t) reads.Post
 look-requires t c κs = search needs
@@ -22,26 +44,26 @@ pub enum-known-kind : (t : ℕ) → lts.Need-enum-known-kind (calls t) (begin-at
 enum-known-kind t c = search needs
 
 pub add-block : (t : ℕ) → lts.Need-add-block (calls t) (begin-at t) reads.Post
-add-block t c = let tk = taken (c .before .before .before .before .kind .given .1) (c .before .before .before .before .before .before .look .ensures) in
+add-block t c = let tk = taken (known (After-kind t) (search) .kind .given .1) (known (After-look t) (search) .look .ensures) in
     omega arith
 
 pub block-requires : (t : ℕ) → lts.Need-block-requires (calls t) (begin-at t) reads.Post
-block-requires t c κs = let tk = taken (c .before .before .before .before .kind .given .1) (c .before .before .before .before .before .before .look .ensures) in
+block-requires t c κs = let tk = taken (known (After-kind t) (search) .kind .given .1) (known (After-look t) (search) .look .ensures) in
     omega arith
 
 pub same-length : (t : ℕ) → lts.Need-same-length (calls t) (begin-at t) reads.Post
 same-length t c = search needs
 
 pub returns : (t : ℕ) → lts.Need-returns (calls t) (begin-at t) reads.Post
-returns t c = let tk = taken (c .before .before .before .before .before .before .before .kind .given .1) (c .before .before .before .before .before .before .before .before .before .look .ensures) in
-    later (begin-is _ _ tk _ (c .before .before .before .before .before .if1 .taken)) (c .before .before .block .ensures) (omega arith) (omega arith) (omega arith)
+returns t c = let tk = taken (known (After-kind t) (search) .kind .given .1) (after-look-of-after-block-arg t (search) .look .ensures) in
+    later (begin-is _ _ tk _ (known (Then1 t) (search) .if1 .taken)) (known (After-block t) (search) .block .ensures) (omega arith) (omega arith) (omega arith)
 
 pub enum-known-s : (t : ℕ) → lts.Need-enum-known-s (calls t) (begin-at t) reads.Post
 enum-known-s t c = search needs
 
 pub returns-2 : (t : ℕ) → lts.Need-returns-2 (calls t) (begin-at t) reads.Post
-returns-2 t c = let tk = taken (c .before .before .kind .given .1) (c .before .before .before .before .look .ensures) in
+returns-2 t c = let tk = taken (known (After-kind t) (search) .kind .given .1) (known (After-look t) (search) .look .ensures) in
     fails-with (begin-not _ _ tk _ (c .if1 .left)) (omega arith) (omega arith)
 
 pub returns-3 : (t : ℕ) → lts.Need-returns-3 (calls t) (begin-at t) reads.Post
-returns-3 t c = did-not (blind here (begin-looks _ _ _ _) (not-taken (c .before .s .given .1) (c .before .before .before .look .ensures)) refl (omega arith))
+returns-3 t c = did-not (blind here (begin-looks _ _ _ _) (not-taken (known (After-s t) (search) .s .given .1) (known (After-look t) (search) .look .ensures)) refl (omega arith))

@@ -8,19 +8,23 @@ use Rattle.cycle.proofs.+arm+atom+begin+binop+block+body+call+catch+con
 use Rattle.cycle.proofs.list.Reads as list-reads
 use Rattle.scan.proofs.tokens.past.Reads as past-reads
 use Rattle.cycle.proofs.+arm+atom+begin+binop+block+body+call+catch+cond+def+dest+dots+each+expr+fun+group+index+item+jump+key+label+lhs+list+loops+param+part+path+prim+rhs+sig+stmt+sync+table+tail+term+tuple+turn+unop+val+whiles.Proof.Below.{body-at, list-below}
+use Rattle.tree.proofs.Known.{known}
 
 -- what is known of the functions that it calls
 abbrev pub calls : ℕ → lts.Claims
 calls t = (list-below t, list-reads.Post, past-reads.Asked, past-reads.Learnt)
 
+abbrev After-list : ℕ → Type 0
+After-list t = lts.After-list (calls t) (body-at t) reads.Post
+
 pub list-requires : (t : ℕ) → lts.Need-list-requires (calls t) (body-at t) reads.Post
 list-requires t c κs = omega arith
 
 pub past-requires : (t : ℕ) → lts.Need-past-requires (calls t) (body-at t) reads.Post
-past-requires t c κs = within-of _ (c .before .before .list .ensures)
+past-requires t c κs = within-of _ (known (After-list t) (search) .list .ensures)
 
 pub same-length : (t : ℕ) → lts.Need-same-length (calls t) (body-at t) reads.Post
 same-length t c = search needs
 
 pub returns : (t : ℕ) → lts.Need-returns (calls t) (body-at t) reads.Post
-returns t c = passes-lists _ (omega arith) _ _ (c .before .before .before .list .ensures) (c .past .ensures)
+returns t c = passes-lists _ (omega arith) _ _ (known (After-list t) (search) .list .ensures) (c .past .ensures)

@@ -21,10 +21,80 @@ use Rattle.nodes.proofs.records.call_end.Reads as call-end-reads
 use Rattle.scan.proofs.tokens.expect.Reads as expect-reads
 use Rattle.scan.proofs.tokens.look.Reads as look-reads
 use Rattle.cycle.proofs.+arm+atom+begin+binop+block+body+call+catch+cond+def+dest+dots+each+expr+fun+group+index+item+jump+key+label+lhs+list+loops+param+part+path+prim+rhs+sig+stmt+sync+table+tail+term+tuple+turn+unop+val+whiles.Proof.Below.{call-at, expr-below}
+use Rattle.tree.proofs.Known.{known}
 
 -- what is known of the functions that it calls
 abbrev pub calls : ℕ → lts.Claims
 calls t = (look-reads.Asked, look-reads.Learnt, bare-call-reads.Asked, bare-call-reads.Learnt, expr-below t, expr-reads.Post, expect-reads.Asked, expect-reads.Learnt, call-end-reads.Asked, call-end-reads.Learnt)
+
+abbrev After-kind : ℕ → Type 0
+After-kind t = lts.After-kind (calls t) (call-at t) reads.Post
+
+abbrev After-look : ℕ → Type 0
+After-look t = lts.After-look (calls t) (call-at t) reads.Post
+
+abbrev After-bare-call : ℕ → Type 0
+After-bare-call t = lts.After-bare-call (calls t) (call-at t) reads.Post
+
+abbrev Then1 : ℕ → Type 0
+Then1 t = lts.Then1 (calls t) (call-at t) reads.Post
+
+abbrev After-expr-arg : ℕ → Type 0
+After-expr-arg t = lts.After-expr-arg (calls t) (call-at t) reads.Post
+
+abbrev Else1 : ℕ → Type 0
+Else1 t = lts.Else1 (calls t) (call-at t) reads.Post
+
+abbrev After-expr : ℕ → Type 0
+After-expr t = lts.After-expr (calls t) (call-at t) reads.Post
+
+abbrev After-r : ℕ → Type 0
+After-r t = lts.After-r (calls t) (call-at t) reads.Post
+
+abbrev After-expect : ℕ → Type 0
+After-expect t = lts.After-expect (calls t) (call-at t) reads.Post
+
+abbrev Start : ℕ → Type 0
+Start t = lts.Start (calls t) (call-at t) reads.Post
+
+abbrev After-s : ℕ → Type 0
+After-s t = lts.After-s (calls t) (call-at t) reads.Post
+
+abbrev After-call-end : ℕ → Type 0
+After-call-end t = lts.After-call-end (calls t) (call-at t) reads.Post
+
+abbrev After-s2 : ℕ → Type 0
+After-s2 t = lts.After-s2 (calls t) (call-at t) reads.Post
+
+abbrev after-look-of-after-expr-arg : (t : ℕ) → After-expr-arg t → After-look t
+after-look-of-after-expr-arg t c = search
+
+abbrev after-kind-of-after-expr-arg : (t : ℕ) → After-expr-arg t → After-kind t
+after-kind-of-after-expr-arg t c = search
+
+abbrev after-kind-of-after-expect : (t : ℕ) → After-expect t → After-kind t
+after-kind-of-after-expect t c = after-kind-of-after-expr-arg t (search)
+
+abbrev after-look-of-after-expect : (t : ℕ) → After-expect t → After-look t
+after-look-of-after-expect t c = after-look-of-after-expr-arg t (search)
+
+abbrev else1-of-after-expr-arg : (t : ℕ) → After-expr-arg t → Else1 t
+else1-of-after-expr-arg t c = search
+
+abbrev else1-of-after-expect : (t : ℕ) → After-expect t → Else1 t
+else1-of-after-expect t c = else1-of-after-expr-arg t (search)
+
+abbrev start-of-after-expr-arg : (t : ℕ) → After-expr-arg t → Start t
+start-of-after-expr-arg t c = search
+
+abbrev start-of-after-expect : (t : ℕ) → After-expect t → Start t
+start-of-after-expect t c = start-of-after-expr-arg t (search)
+
+abbrev after-expr-of-after-expect : (t : ℕ) → After-expect t → After-expr t
+after-expr-of-after-expect t c = search
+
+abbrev after-r-of-after-expect : (t : ℕ) → After-expect t → After-r t
+after-r-of-after-expect t c = search
 
 pub look-requires : (t : ℕ) → lts.Need-look-requires (calls t) (call-at t) reads.Post
 look-requires t c κs = search needs
@@ -33,20 +103,20 @@ pub enum-known-kind : (t : ℕ) → lts.Need-enum-known-kind (calls t) (call-at 
 enum-known-kind t c = search needs
 
 pub add-t19 : (t : ℕ) → lts.Need-add-t19 (calls t) (call-at t) reads.Post
-add-t19 t c = let tk = taken (c .before .before .kind .given .1) (c .before .before .before .before .look .ensures) in
+add-t19 t c = let tk = taken (known (After-kind t) (search) .kind .given .1) (known (After-look t) (search) .look .ensures) in
     omega arith
 
 pub bare-call-requires : (t : ℕ) → lts.Need-bare-call-requires (calls t) (call-at t) reads.Post
-bare-call-requires t c κs = let tk = taken (c .before .before .before .kind .given .1) (c .before .before .before .before .before .look .ensures) in
+bare-call-requires t c κs = let tk = taken (known (After-kind t) (search) .kind .given .1) (known (After-look t) (search) .look .ensures) in
     omega arith
 
 pub same-length : (t : ℕ) → lts.Need-same-length (calls t) (call-at t) reads.Post
 same-length t c = search needs
 
 pub returns : (t : ℕ) → lts.Need-returns (calls t) (call-at t) reads.Post
-returns t c = let tk = taken (c .before .before .before .before .before .before .kind .given .1) (c .before .before .before .before .before .before .before .before .look .ensures) in
-    let e = c .before .before .bare-call .ensures in
-    record { how = made-added (Node.invoke none) e refl (way _ (call-empty _ _ tk (c .before .before .before .before .if1 .taken))) (omega arith) (omega (arith, e .up, e .far)) }
+returns t c = let tk = taken (known (After-kind t) (search) .kind .given .1) (known (After-look t) (search) .look .ensures) in
+    let e = known (After-bare-call t) (search) .bare-call .ensures in
+    record { how = made-added (Node.invoke none) e refl (way _ (call-empty _ _ tk (known (Then1 t) (search) .if1 .taken))) (omega arith) (omega (arith, e .up, e .far)) }
 
 pub expr-requires : (t : ℕ) → lts.Need-expr-requires (calls t) (call-at t) reads.Post
 expr-requires t c κs = omega arith
@@ -58,12 +128,12 @@ pub same-length-2 : (t : ℕ) → lts.Need-same-length-2 (calls t) (call-at t) r
 same-length-2 t c = search needs
 
 pub returns-2 : (t : ℕ) → lts.Need-returns-2 (calls t) (call-at t) reads.Post
-returns-2 t c = let tk = taken (c .before .before .before .before .before .before .before .before .kind .given .1) (c .before .before .before .before .before .before .before .before .before .before .look .ensures) in
-    let path = way _ (call-more _ _ tk (c .before .before .before .before .before .before .if1 .left)) in
-    did-not (fails _ path (undone (c .match2 .keys2) (c .before .before .before .expr .ensures)) refl (omega arith))
+returns-2 t c = let tk = taken (known (After-kind t) (search) .kind .given .1) (after-look-of-after-expr-arg t (search) .look .ensures) in
+    let path = way _ (call-more _ _ tk (known (Else1 t) (search) .if1 .left)) in
+    did-not (fails _ path (undone (c .match2 .keys2) (known (After-expr t) (search) .expr .ensures)) refl (omega arith))
 
 pub expect-requires : (t : ℕ) → lts.Need-expect-requires (calls t) (call-at t) reads.Post
-expect-requires t c κs = let w = done (c .before .r .given .1) (c .before .before .before .before .before .expr .ensures) in
+expect-requires t c κs = let w = done (known (After-r t) (search) .r .given .1) (known (After-expr t) (search) .expr .ensures) in
     w .moved .within
 
 pub enum-known-s : (t : ℕ) → lts.Need-enum-known-s (calls t) (call-at t) reads.Post
@@ -73,20 +143,20 @@ pub same-length-3 : (t : ℕ) → lts.Need-same-length-3 (calls t) (call-at t) r
 same-length-3 t c = search needs
 
 pub returns-3 : (t : ℕ) → lts.Need-returns-3 (calls t) (call-at t) reads.Post
-returns-3 t c = let tk = taken (c .before .before .before .before .before .before .before .before .before .before .before .before .kind .given .1) (c .before .before .before .before .before .before .before .before .before .before .before .before .before .before .look .ensures) in
-    let path = way _ (call-more _ _ tk (c .before .before .before .before .before .before .before .before .before .before .if1 .left)) in
-    let w = done (c .before .before .before .r .given .1) (c .before .before .before .before .before .before .before .expr .ensures) in
+returns-3 t c = let tk = taken (after-kind-of-after-expect t (search) .kind .given .1) (after-look-of-after-expect t (search) .look .ensures) in
+    let path = way _ (call-more _ _ tk (else1-of-after-expect t (search) .if1 .left)) in
+    let w = done (known (After-r t) (search) .r .given .1) (known (After-expr t) (search) .expr .ensures) in
     let s1 = goes _ path (w .same) in
-    did-not (lacks _ (unpassed (c .match3 .keys2) (c .before .expect .ensures)) s1 (prefix w (omega (arith, c .before .before .before .before .before .before .before .before .before .before .before .before .before .before .before .before .before .pre))) (omega (arith, c .before .before .before .before .before .before .before .before .before .before .before .before .before .before .before .before .before .pre, w .moved)))
+    did-not (lacks _ (unpassed (c .match3 .keys2) (known (After-expect t) (search) .expect .ensures)) s1 (prefix w (omega (arith, start-of-after-expect t (search) .pre))) (omega (arith, start-of-after-expect t (search) .pre, w .moved)))
 
 pub call-end-requires : (t : ℕ) → lts.Need-call-end-requires (calls t) (call-at t) reads.Post
-call-end-requires t c κs = let tk = taken (c .before .before .before .before .before .before .before .before .before .before .before .before .before .before .before .kind .given .1) (c .before .before .before .before .before .before .before .before .before .before .before .before .before .before .before .before .before .look .ensures) in
-    let w = done (c .before .before .before .before .before .before .r .given .1) (c .before .before .before .before .before .before .before .before .before .before .expr .ensures) in
-    let y = passed (c .before .before .s .given .1) (c .before .before .before .before .expect .ensures) in
+call-end-requires t c κs = let tk = taken (after-kind-of-after-expect t (search) .kind .given .1) (after-look-of-after-expect t (search) .look .ensures) in
+    let w = done (known (After-r t) (search) .r .given .1) (after-expr-of-after-expect t (search) .expr .ensures) in
+    let y = passed (known (After-s t) (search) .s .given .1) (known (After-expect t) (search) .expect .ensures) in
     let yo = y .got .on in
     let yw = y .got .within in
-    let h = taller w (omega (arith, c .before .before .before .before .before .before .before .before .before .before .before .before .before .before .before .before .before .before .before .before .pre)) in
-    omega (arith, c .before .before .before .before .before .before .before .before .before .before .before .before .before .before .before .before .before .before .before .before .pre, h, w .moved, w .room, yo, yw, c .before .before .before .before .before .before .before .before .before .before .expr .kept .1 .0)
+    let h = taller w (omega (arith, start-of-after-expect t (search) .pre)) in
+    omega (arith, start-of-after-expect t (search) .pre, h, w .moved, w .room, yo, yw, after-expr-of-after-expect t (search) .expr .kept .1 .0)
 
 pub enum-known-s-2 : (t : ℕ) → lts.Need-enum-known-s-2 (calls t) (call-at t) reads.Post
 enum-known-s-2 t c = search needs
@@ -95,15 +165,15 @@ pub same-length-4 : (t : ℕ) → lts.Need-same-length-4 (calls t) (call-at t) r
 same-length-4 t c = search needs
 
 pub returns-4 : (t : ℕ) → lts.Need-returns-4 (calls t) (call-at t) reads.Post
-returns-4 t c = let tk = taken (c .before .before .before .before .before .before .before .before .before .before .before .before .before .before .before .before .before .before .kind .given .1) (c .before .before .before .before .before .before .before .before .before .before .before .before .before .before .before .before .before .before .before .before .look .ensures) in
-    let path = way _ (call-more _ _ tk (c .before .before .before .before .before .before .before .before .before .before .before .before .before .before .before .before .if1 .left)) in
-    let w = done (c .before .before .before .before .before .before .before .before .before .r .given .1) (c .before .before .before .before .before .before .before .before .before .before .before .before .before .expr .ensures) in
+returns-4 t c = let tk = taken (after-kind-of-after-expect t (search) .kind .given .1) (after-look-of-after-expect t (search) .look .ensures) in
+    let path = way _ (call-more _ _ tk (else1-of-after-expect t (search) .if1 .left)) in
+    let w = done (after-r-of-after-expect t (search) .r .given .1) (after-expr-of-after-expect t (search) .expr .ensures) in
     let s1 = goes _ path (w .same) in
-    let y = passed (c .before .before .before .before .before .s .given .1) (c .before .before .before .before .before .before .before .expect .ensures) in
+    let y = passed (known (After-s t) (search) .s .given .1) (known (After-expect t) (search) .expect .ensures) in
     let yo = y .got .on in
     let yw = y .got .within in
-    let e = c .before .before .call-end .ensures in
-    record { how = remade w e (given (expr-shape _ _ _) (w .same)) (gets _ (y .got) s1) (omega (arith, c .before .before .before .before .before .before .before .before .before .before .before .before .before .before .before .before .before .before .before .before .before .before .before .pre, w .moved, yo, yw)) (omega (arith, c .before .before .before .before .before .before .before .before .before .before .before .before .before .before .before .before .before .before .before .before .before .before .before .pre, w .moved, w .room, yo, yw, e .up, e .far)) }
+    let e = known (After-call-end t) (search) .call-end .ensures in
+    record { how = remade w e (given (expr-shape _ _ _) (w .same)) (gets _ (y .got) s1) (omega (arith, start-of-after-expect t (search) .pre, w .moved, yo, yw)) (omega (arith, start-of-after-expect t (search) .pre, w .moved, w .room, yo, yw, e .up, e .far)) }
 
 pub returns-5 : (t : ℕ) → lts.Need-returns-5 (calls t) (call-at t) reads.Post
-returns-5 t c = did-not (blind here (call-looks _ _ _) (not-taken (c .before .s2 .given .1) (c .before .before .before .look .ensures)) refl (omega arith))
+returns-5 t c = did-not (blind here (call-looks _ _ _) (not-taken (known (After-s2 t) (search) .s2 .given .1) (known (After-look t) (search) .look .ensures)) refl (omega arith))

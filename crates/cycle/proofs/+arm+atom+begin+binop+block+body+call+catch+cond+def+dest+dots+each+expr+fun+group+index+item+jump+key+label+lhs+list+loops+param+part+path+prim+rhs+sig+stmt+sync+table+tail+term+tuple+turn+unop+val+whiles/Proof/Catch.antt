@@ -15,22 +15,56 @@ use Rattle.scan.proofs.queue.push.Reads as push-reads
 use Rattle.scan.proofs.queue.synchronized.Reads as synchronized-reads
 use Rattle.cycle.proofs.+arm+atom+begin+binop+block+body+call+catch+cond+def+dest+dots+each+expr+fun+group+index+item+jump+key+label+lhs+list+loops+param+part+path+prim+rhs+sig+stmt+sync+table+tail+term+tuple+turn+unop+val+whiles.Proof.Below.{catch-at, sync-below}
 use Rattle.scan.proofs.Waiting.{push-full, pushes}
+use Rattle.tree.proofs.Known.{known}
 
 -- what is known of the functions that it calls
 abbrev pub calls : ℕ → lts.Claims
 calls t = (push-reads.Asked, push-reads.Learnt, sync-below t, sync-reads.Post, synchronized-reads.Asked, synchronized-reads.Learnt)
 
+abbrev Else1 : ℕ → Type 0
+Else1 t = lts.Else1 (calls t) (catch-at t) reads.Post
+
+abbrev Start : ℕ → Type 0
+Start t = lts.Start (calls t) (catch-at t) reads.Post
+
+abbrev After-push : ℕ → Type 0
+After-push t = lts.After-push (calls t) (catch-at t) reads.Post
+
+abbrev After-sync-arg2 : ℕ → Type 0
+After-sync-arg2 t = lts.After-sync-arg2 (calls t) (catch-at t) reads.Post
+
+abbrev Else2 : ℕ → Type 0
+Else2 t = lts.Else2 (calls t) (catch-at t) reads.Post
+
+abbrev After-sync : ℕ → Type 0
+After-sync t = lts.After-sync (calls t) (catch-at t) reads.Post
+
+abbrev After-r : ℕ → Type 0
+After-r t = lts.After-r (calls t) (catch-at t) reads.Post
+
+abbrev else1-of-after-sync-arg2 : (t : ℕ) → After-sync-arg2 t → Else1 t
+else1-of-after-sync-arg2 t c = search
+
+abbrev start-of-after-sync-arg2 : (t : ℕ) → After-sync-arg2 t → Start t
+start-of-after-sync-arg2 t c = search
+
+abbrev after-push-of-after-sync-arg2 : (t : ℕ) → After-sync-arg2 t → After-push t
+after-push-of-after-sync-arg2 t c = search
+
+abbrev else2-of-after-sync-arg2 : (t : ℕ) → After-sync-arg2 t → Else2 t
+else2-of-after-sync-arg2 t c = search
+
 pub returns : (t : ℕ) → lts.Need-returns (calls t) (catch-at t) reads.Post
 returns t c = record { how = record { how = record { same = way _ (caught-out _ _ _ _ (c .if1 .taken)); moved = omega arith; far = omega arith; text = refl } } }
 
 pub returns-2 : (t : ℕ) → lts.Need-returns-2 (calls t) (catch-at t) reads.Post
-returns-2 t c = record { how = record { how = link (way _ (caught-push _ _ _ _ (c .before .if1 .left))) (ends (push-full _ _ (c .before .before .before .before .args .queue .now) _ (c .if2 .taken) (omega arith))) } }
+returns-2 t c = record { how = record { how = link (way _ (caught-push _ _ _ _ (known (Else1 t) (search) .if1 .left))) (ends (push-full _ _ (known (Start t) (search) .args .queue .now) _ (c .if2 .taken) (omega arith))) } }
 
 pub push-requires : (t : ℕ) → lts.Need-push-requires (calls t) (catch-at t) reads.Post
 push-requires t c κs = omega arith
 
 pub sync-requires : (t : ℕ) → lts.Need-sync-requires (calls t) (catch-at t) reads.Post
-sync-requires t c κs = let u = c .before .before .push .ensures in
+sync-requires t c κs = let u = known (After-push t) (search) .push .ensures in
     omega arith
 
 pub enum-known-r : (t : ℕ) → lts.Need-enum-known-r (calls t) (catch-at t) reads.Post
@@ -40,21 +74,21 @@ pub same-length : (t : ℕ) → lts.Need-same-length (calls t) (catch-at t) read
 same-length t c = search needs
 
 pub returns-3 : (t : ℕ) → lts.Need-returns-3 (calls t) (catch-at t) reads.Post
-returns-3 t c = let u = c .before .before .before .before .before .before .push .ensures in
-    let path = link (way _ (caught-push _ _ _ _ (c .before .before .before .before .before .before .before .before .before .if1 .left))) (pushes (c .before .before .before .before .before .before .before .before .before .before .before .before .args .e) (c .before .before .before .before .before .before .before .before .before .before .before .before .args .waiting) (c .before .before .before .before .before .before .before .before .before .before .before .before .args .queue .now) (caught-go (at-depth (c .before .before .before .before .before .before .before .before .before .before .before .before .args .depth)) (drop (c .before .before .before .before .before .before .before .before .before .before .before .before .args .pos) (c .before .before .before .before .before .before .before .before .before .before .before .before .args .tokens .now))) (c .before .before .before .before .before .before .before .before .if2 .left) (omega (arith, c .before .before .before .before .before .before .before .before .before .before .before .before .pre)) (u .text)) in
-    did-not (fails _ path (undone (c .match .keys2) (c .before .before .before .sync .ensures)) refl (omega arith))
+returns-3 t c = let u = known (After-push t) (search) .push .ensures in
+    let path = link (way _ (caught-push _ _ _ _ (else1-of-after-sync-arg2 t (search) .if1 .left))) (pushes (start-of-after-sync-arg2 t (search) .args .e) (start-of-after-sync-arg2 t (search) .args .waiting) (start-of-after-sync-arg2 t (search) .args .queue .now) (caught-go (at-depth (start-of-after-sync-arg2 t (search) .args .depth)) (drop (start-of-after-sync-arg2 t (search) .args .pos) (start-of-after-sync-arg2 t (search) .args .tokens .now))) (known (Else2 t) (search) .if2 .left) (omega (arith, start-of-after-sync-arg2 t (search) .pre)) (u .text)) in
+    did-not (fails _ path (undone (c .match .keys2) (known (After-sync t) (search) .sync .ensures)) refl (omega arith))
 
 pub synchronized-requires : (t : ℕ) → lts.Need-synchronized-requires (calls t) (catch-at t) reads.Post
-synchronized-requires t c κs = let u = c .before .before .before .before .before .before .before .before .before .push .ensures in
-    let s1 = done (c .before .before .r .given .1) (c .before .before .before .before .before .before .sync .ensures) in
+synchronized-requires t c κs = let u = after-push-of-after-sync-arg2 t (search) .push .ensures in
+    let s1 = done (known (After-r t) (search) .r .given .1) (known (After-sync t) (search) .sync .ensures) in
     omega arith
 
 pub same-length-2 : (t : ℕ) → lts.Need-same-length-2 (calls t) (catch-at t) reads.Post
 same-length-2 t c = search needs
 
 pub returns-4 : (t : ℕ) → lts.Need-returns-4 (calls t) (catch-at t) reads.Post
-returns-4 t c = let u = c .before .before .before .before .before .before .before .before .before .before .push .ensures in
-    let s1 = done (c .before .before .before .r .given .1) (c .before .before .before .before .before .before .before .sync .ensures) in
-    let path = link (way _ (caught-push _ _ _ _ (c .before .before .before .before .before .before .before .before .before .before .before .before .before .if1 .left))) (pushes (c .before .before .before .before .before .before .before .before .before .before .before .before .before .before .before .before .args .e) (c .before .before .before .before .before .before .before .before .before .before .before .before .before .before .before .before .args .waiting) (c .before .before .before .before .before .before .before .before .before .before .before .before .before .before .before .before .args .queue .now) (caught-go (at-depth (c .before .before .before .before .before .before .before .before .before .before .before .before .before .before .before .before .args .depth)) (drop (c .before .before .before .before .before .before .before .before .before .before .before .before .before .before .before .before .args .pos) (c .before .before .before .before .before .before .before .before .before .before .before .before .before .before .before .before .args .tokens .now))) (c .before .before .before .before .before .before .before .before .before .before .before .before .if2 .left) (omega (arith, c .before .before .before .before .before .before .before .before .before .before .before .before .before .before .before .before .pre)) (u .text)) in
+returns-4 t c = let u = after-push-of-after-sync-arg2 t (search) .push .ensures in
+    let s1 = done (known (After-r t) (search) .r .given .1) (known (After-sync t) (search) .sync .ensures) in
+    let path = link (way _ (caught-push _ _ _ _ (else1-of-after-sync-arg2 t (search) .if1 .left))) (pushes (start-of-after-sync-arg2 t (search) .args .e) (start-of-after-sync-arg2 t (search) .args .waiting) (start-of-after-sync-arg2 t (search) .args .queue .now) (caught-go (at-depth (start-of-after-sync-arg2 t (search) .args .depth)) (drop (start-of-after-sync-arg2 t (search) .args .pos) (start-of-after-sync-arg2 t (search) .args .tokens .now))) (else2-of-after-sync-arg2 t (search) .if2 .left) (omega (arith, start-of-after-sync-arg2 t (search) .pre)) (u .text)) in
     let on = goes _ path (s1 .same) in
-    resumes on (prefix s1 (omega (arith, c .before .before .before .before .before .before .before .before .before .before .before .before .before .before .before .before .pre))) (omega (arith, c .before .before .before .before .before .before .before .before .before .before .before .before .before .before .before .before .pre, u .next, s1 .moved)) (c .synchronized .ensures)
+    resumes on (prefix s1 (omega (arith, start-of-after-sync-arg2 t (search) .pre))) (omega (arith, start-of-after-sync-arg2 t (search) .pre, u .next, s1 .moved)) (c .synchronized .ensures)

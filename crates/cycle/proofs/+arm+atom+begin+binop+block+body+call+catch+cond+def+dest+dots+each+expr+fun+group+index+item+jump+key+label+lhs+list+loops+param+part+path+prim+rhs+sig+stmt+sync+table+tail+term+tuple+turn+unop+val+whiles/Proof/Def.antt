@@ -17,10 +17,86 @@ use Rattle.nodes.proofs.records.block_under.Reads as block-under-reads
 use Rattle.scan.proofs.tokens.expect.Reads as expect-reads
 use Rattle.cycle.proofs.+arm+atom+begin+binop+block+body+call+catch+cond+def+dest+dots+each+expr+fun+group+index+item+jump+key+label+lhs+list+loops+param+part+path+prim+rhs+sig+stmt+sync+table+tail+term+tuple+turn+unop+val+whiles.Proof.Below.{def-at, sig-below, body-below}
 use Rattle.cycle.proofs.Writing.{stored, unstored}
+use Rattle.tree.proofs.Known.{known}
 
 -- what is known of the functions that it calls
 abbrev pub calls : ℕ → lts.Claims
 calls t = (expect-reads.Asked, expect-reads.Learnt, sig-below t, sig-reads.Post, signature-end-reads.Asked, signature-end-reads.Learnt, body-below t, body-reads.Post, block-under-reads.Asked, block-under-reads.Learnt)
+
+abbrev After-expect : ℕ → Type 0
+After-expect t = lts.After-expect (calls t) (def-at t) reads.Post
+
+abbrev After-o : ℕ → Type 0
+After-o t = lts.After-o (calls t) (def-at t) reads.Post
+
+abbrev After-sig-arg2 : ℕ → Type 0
+After-sig-arg2 t = lts.After-sig-arg2 (calls t) (def-at t) reads.Post
+
+abbrev After-sig : ℕ → Type 0
+After-sig t = lts.After-sig (calls t) (def-at t) reads.Post
+
+abbrev Start : ℕ → Type 0
+Start t = lts.Start (calls t) (def-at t) reads.Post
+
+abbrev After-r : ℕ → Type 0
+After-r t = lts.After-r (calls t) (def-at t) reads.Post
+
+abbrev After-signature-end : ℕ → Type 0
+After-signature-end t = lts.After-signature-end (calls t) (def-at t) reads.Post
+
+abbrev After-c : ℕ → Type 0
+After-c t = lts.After-c (calls t) (def-at t) reads.Post
+
+abbrev After-body : ℕ → Type 0
+After-body t = lts.After-body (calls t) (def-at t) reads.Post
+
+abbrev After-block-under : ℕ → Type 0
+After-block-under t = lts.After-block-under (calls t) (def-at t) reads.Post
+
+abbrev after-expect-of-after-sig-arg2 : (t : ℕ) → After-sig-arg2 t → After-expect t
+after-expect-of-after-sig-arg2 t c = search
+
+abbrev start-of-after-sig-arg2 : (t : ℕ) → After-sig-arg2 t → Start t
+start-of-after-sig-arg2 t c = search
+
+abbrev after-o-of-after-sig-arg2 : (t : ℕ) → After-sig-arg2 t → After-o t
+after-o-of-after-sig-arg2 t c = search
+
+abbrev after-o-of-after-signature-end : (t : ℕ) → After-signature-end t → After-o t
+after-o-of-after-signature-end t c = after-o-of-after-sig-arg2 t (search)
+
+abbrev after-expect-of-after-signature-end : (t : ℕ) → After-signature-end t → After-expect t
+after-expect-of-after-signature-end t c = after-expect-of-after-sig-arg2 t (search)
+
+abbrev after-sig-of-after-signature-end : (t : ℕ) → After-signature-end t → After-sig t
+after-sig-of-after-signature-end t c = search
+
+abbrev start-of-after-signature-end : (t : ℕ) → After-signature-end t → Start t
+start-of-after-signature-end t c = start-of-after-sig-arg2 t (search)
+
+abbrev after-r-of-after-signature-end : (t : ℕ) → After-signature-end t → After-r t
+after-r-of-after-signature-end t c = search
+
+abbrev after-o-of-after-body : (t : ℕ) → After-body t → After-o t
+after-o-of-after-body t c = after-o-of-after-signature-end t (search)
+
+abbrev after-expect-of-after-body : (t : ℕ) → After-body t → After-expect t
+after-expect-of-after-body t c = after-expect-of-after-signature-end t (search)
+
+abbrev after-r-of-after-body : (t : ℕ) → After-body t → After-r t
+after-r-of-after-body t c = after-r-of-after-signature-end t (search)
+
+abbrev after-sig-of-after-body : (t : ℕ) → After-body t → After-sig t
+after-sig-of-after-body t c = after-sig-of-after-signature-end t (search)
+
+abbrev after-signature-end-of-after-body : (t : ℕ) → After-body t → After-signature-end t
+after-signature-end-of-after-body t c = search
+
+abbrev start-of-after-body : (t : ℕ) → After-body t → Start t
+start-of-after-body t c = start-of-after-signature-end t (search)
+
+abbrev after-c-of-after-body : (t : ℕ) → After-body t → After-c t
+after-c-of-after-body t c = search
 
 pub expect-requires : (t : ℕ) → lts.Need-expect-requires (calls t) (def-at t) reads.Post
 expect-requires t c κs = omega arith
@@ -29,10 +105,10 @@ pub enum-known-o : (t : ℕ) → lts.Need-enum-known-o (calls t) (def-at t) read
 enum-known-o t c = search needs
 
 pub returns : (t : ℕ) → lts.Need-returns (calls t) (def-at t) reads.Post
-returns t c = did-not (lacks _ (unpassed (c .match .keys2) (c .before .expect .ensures)) (way _ (def-step _ _ _ _)) refl (omega arith))
+returns t c = did-not (lacks _ (unpassed (c .match .keys2) (known (After-expect t) (search) .expect .ensures)) (way _ (def-step _ _ _ _)) refl (omega arith))
 
 pub sig-requires : (t : ℕ) → lts.Need-sig-requires (calls t) (def-at t) reads.Post
-sig-requires t c κs = let o = passed (c .before .before .before .o .given .1) (c .before .before .before .before .before .expect .ensures) in
+sig-requires t c κs = let o = passed (known (After-o t) (search) .o .given .1) (known (After-expect t) (search) .expect .ensures) in
     let og = o .got in
     (omega arith, omega arith)
 
@@ -43,16 +119,16 @@ pub same-length : (t : ℕ) → lts.Need-same-length (calls t) (def-at t) reads.
 same-length t c = search needs
 
 pub returns-2 : (t : ℕ) → lts.Need-returns-2 (calls t) (def-at t) reads.Post
-returns-2 t c = let o = passed (c .before .before .before .before .before .before .before .o .given .1) (c .before .before .before .before .before .before .before .before .before .expect .ensures) in
+returns-2 t c = let o = passed (known (After-o t) (search) .o .given .1) (after-expect-of-after-sig-arg2 t (search) .expect .ensures) in
     let og = o .got in
     let path = gets _ (o .got) (way _ (def-step _ _ _ _)) in
-    did-not (fails _ path (undone (c .match2 .keys2) (c .before .before .before .sig .ensures)) refl (omega (arith, c .before .before .before .before .before .before .before .before .before .before .before .before .pre)))
+    did-not (fails _ path (undone (c .match2 .keys2) (known (After-sig t) (search) .sig .ensures)) refl (omega (arith, start-of-after-sig-arg2 t (search) .pre)))
 
 pub signature-end-requires : (t : ℕ) → lts.Need-signature-end-requires (calls t) (def-at t) reads.Post
-signature-end-requires t c κs = let o = passed (c .before .before .before .before .before .before .before .before .before .before .o .given .1) (c .before .before .before .before .before .before .before .before .before .before .before .before .expect .ensures) in
+signature-end-requires t c κs = let o = passed (after-o-of-after-sig-arg2 t (search) .o .given .1) (after-expect-of-after-sig-arg2 t (search) .expect .ensures) in
     let og = o .got in
-    let g = done (c .before .before .r .given .1) (c .before .before .before .before .before .before .sig .ensures) in
-    (g .moved .within, omega (arith, c .before .before .before .before .before .before .before .before .before .before .before .before .before .before .before .pre))
+    let g = done (known (After-r t) (search) .r .given .1) (known (After-sig t) (search) .sig .ensures) in
+    (g .moved .within, omega (arith, start-of-after-sig-arg2 t (search) .pre))
 
 pub enum-known-c : (t : ℕ) → lts.Need-enum-known-c (calls t) (def-at t) reads.Post
 enum-known-c t c = search needs
@@ -61,40 +137,40 @@ pub same-length-2 : (t : ℕ) → lts.Need-same-length-2 (calls t) (def-at t) re
 same-length-2 t c = search needs
 
 pub returns-3 : (t : ℕ) → lts.Need-returns-3 (calls t) (def-at t) reads.Post
-returns-3 t c = let o = passed (c .before .before .before .before .before .before .before .before .before .before .before .before .before .before .o .given .1) (c .before .before .before .before .before .before .before .before .before .before .before .before .before .before .before .before .expect .ensures) in
+returns-3 t c = let o = passed (after-o-of-after-signature-end t (search) .o .given .1) (after-expect-of-after-signature-end t (search) .expect .ensures) in
     let og = o .got in
-    let g = done (c .before .before .before .before .before .before .r .given .1) (c .before .before .before .before .before .before .before .before .before .before .sig .ensures) in
+    let g = done (known (After-r t) (search) .r .given .1) (after-sig-of-after-signature-end t (search) .sig .ensures) in
     let path = gets _ (o .got) (way _ (def-step _ _ _ _)) in
     let on = goes _ path (g .same) in
-    let u = unstored (c .match3 .keys2) (c .before .before .before .signature-end .ensures) in
-    did-not (lacks _ (u .unread) on (ap (take (c .before .before .before .before .before .before .before .before .before .before .before .before .before .before .before .before .before .before .before .args .at)) (u .text) ∙ prefix g (omega (arith, c .before .before .before .before .before .before .before .before .before .before .before .before .before .before .before .before .before .before .before .pre))) (omega (arith, c .before .before .before .before .before .before .before .before .before .before .before .before .before .before .before .before .before .before .before .pre, og .on, g .moved)))
+    let u = unstored (c .match3 .keys2) (known (After-signature-end t) (search) .signature-end .ensures) in
+    did-not (lacks _ (u .unread) on (ap (take (start-of-after-signature-end t (search) .args .at)) (u .text) ∙ prefix g (omega (arith, start-of-after-signature-end t (search) .pre))) (omega (arith, start-of-after-signature-end t (search) .pre, og .on, g .moved)))
 
 pub body-requires : (t : ℕ) → lts.Need-body-requires (calls t) (def-at t) reads.Post
-body-requires t c κs = let o = passed (c .before .before .before .before .before .before .before .before .before .before .before .before .before .before .before .before .before .before .o .given .1) (c .before .before .before .before .before .before .before .before .before .before .before .before .before .before .before .before .before .before .before .before .expect .ensures) in
+body-requires t c κs = let o = passed (after-o-of-after-signature-end t (search) .o .given .1) (after-expect-of-after-signature-end t (search) .expect .ensures) in
     let og = o .got in
-    let g = done (c .before .before .before .before .before .before .before .before .before .before .r .given .1) (c .before .before .before .before .before .before .before .before .before .before .before .before .before .before .sig .ensures) in
-    let s = stored (c .before .before .before .c .given .1) (c .before .before .before .before .before .before .before .signature-end .ensures) in
+    let g = done (after-r-of-after-signature-end t (search) .r .given .1) (after-sig-of-after-signature-end t (search) .sig .ensures) in
+    let s = stored (known (After-c t) (search) .c .given .1) (known (After-signature-end t) (search) .signature-end .ensures) in
     let sg = s .got in
-    omega (arith, c .before .before .before .before .before .before .before .before .before .before .before .before .before .before .before .before .before .before .before .before .before .before .before .pre)
+    omega (arith, start-of-after-signature-end t (search) .pre)
 
 pub block-under-requires : (t : ℕ) → lts.Need-block-under-requires (calls t) (def-at t) reads.Post
-block-under-requires t c κs = let o = passed (c .before .before .before .before .before .before .before .before .before .before .before .before .before .before .before .before .before .before .before .before .before .before .o .given .1) (c .before .before .before .before .before .before .before .before .before .before .before .before .before .before .before .before .before .before .before .before .before .before .before .before .expect .ensures) in
+block-under-requires t c κs = let o = passed (after-o-of-after-body t (search) .o .given .1) (after-expect-of-after-body t (search) .expect .ensures) in
     let og = o .got in
-    let g = done (c .before .before .before .before .before .before .before .before .before .before .before .before .before .before .r .given .1) (c .before .before .before .before .before .before .before .before .before .before .before .before .before .before .before .before .before .before .sig .ensures) in
-    let s = stored (c .before .before .before .before .before .before .before .c .given .1) (c .before .before .before .before .before .before .before .before .before .before .before .signature-end .ensures) in
+    let g = done (after-r-of-after-body t (search) .r .given .1) (after-sig-of-after-body t (search) .sig .ensures) in
+    let s = stored (known (After-c t) (search) .c .given .1) (after-signature-end-of-after-body t (search) .signature-end .ensures) in
     let sg = s .got in
-    closable 12 (c .before .before .before .body .ensures) (omega (arith, c .before .before .before .before .before .before .before .before .before .before .before .before .before .before .before .before .before .before .before .before .before .before .before .before .before .before .before .pre)) (omega (arith, c .before .before .before .before .before .before .before .before .before .before .before .before .before .before .before .before .before .before .before .before .before .before .before .before .before .before .before .pre)) (omega (arith, c .before .before .before .before .before .before .before .before .before .before .before .before .before .before .before .before .before .before .before .before .before .before .before .before .before .before .before .pre))
+    closable 12 (known (After-body t) (search) .body .ensures) (omega (arith, start-of-after-body t (search) .pre)) (omega (arith, start-of-after-body t (search) .pre)) (omega (arith, start-of-after-body t (search) .pre))
 
 pub same-length-3 : (t : ℕ) → lts.Need-same-length-3 (calls t) (def-at t) reads.Post
 same-length-3 t c = search needs
 
 pub returns-4 : (t : ℕ) → lts.Need-returns-4 (calls t) (def-at t) reads.Post
-returns-4 t c = let o = passed (c .before .before .before .before .before .before .before .before .before .before .before .before .before .before .before .before .before .before .before .before .before .before .before .before .before .o .given .1) (c .before .before .before .before .before .before .before .before .before .before .before .before .before .before .before .before .before .before .before .before .before .before .before .before .before .before .before .expect .ensures) in
+returns-4 t c = let o = passed (after-o-of-after-body t (search) .o .given .1) (after-expect-of-after-body t (search) .expect .ensures) in
     let og = o .got in
-    let g = done (c .before .before .before .before .before .before .before .before .before .before .before .before .before .before .before .before .before .r .given .1) (c .before .before .before .before .before .before .before .before .before .before .before .before .before .before .before .before .before .before .before .before .before .sig .ensures) in
-    let s = stored (c .before .before .before .before .before .before .before .before .before .before .c .given .1) (c .before .before .before .before .before .before .before .before .before .before .before .before .before .before .signature-end .ensures) in
+    let g = done (after-r-of-after-body t (search) .r .given .1) (after-sig-of-after-body t (search) .sig .ensures) in
+    let s = stored (after-c-of-after-body t (search) .c .given .1) (after-signature-end-of-after-body t (search) .signature-end .ensures) in
     let sg = s .got in
     let path = gets _ (o .got) (way _ (def-step _ _ _ _)) in
     let on = goes _ path (g .same) in
-    let x = c .before .before .before .before .before .before .before .before .before .before .before .before .before .before .before .before .before .before .before .before .before .before .before .before .before .before .before .before .before .before .args in
-    under block-of (def-tree (x .name) (g .what)) 532 0 12 (gets _ (s .got) on) (shorter _ _ (x .at) _ (g .room .up) (stored-prefix (c .before .before .before .before .before .before .before .before .before .before .before .before .before .before .before .before .before .r .given .0 .1 .0) (c .before .before .before .before .before .before .before .before .before .before .before .before .before .before .before .before .before .before .before .before .before .sig .last .1 .0) s (omega (arith, c .before .before .before .before .before .before .before .before .before .before .before .before .before .before .before .before .before .before .before .before .before .before .before .before .before .before .before .before .before .before .pre, og .on, g .moved, g .room, s .far, sg .on, sg .within, c .before .before .before .before .before .before .before .before .before .before .before .before .before .before .before .before .before .before .before .before .before .sig .kept .1 .0, c .before .before .before .before .before .before .before .before .before .before .before .before .before .before .signature-end .kept .1 .0))) ∙ prefix g (omega (arith, c .before .before .before .before .before .before .before .before .before .before .before .before .before .before .before .before .before .before .before .before .before .before .before .before .before .before .before .before .before .before .pre))) (λ b. def-text (x .name) (g .what) b (take (x .at) (x .store .now)) (s .text) (g .text)) (omega (arith, c .before .before .before .before .before .before .before .before .before .before .before .before .before .before .before .before .before .before .before .before .before .before .before .before .before .before .before .before .before .before .pre, og .on, g .moved, g .room, s .far, sg .on, sg .within, c .before .before .before .before .before .before .before .before .before .before .before .before .before .before .before .before .before .before .before .before .before .sig .kept .1 .0, c .before .before .before .before .before .before .before .before .before .before .before .before .before .before .signature-end .kept .1 .0)) (let u = stored-up (c .before .before .before .before .before .before .before .before .before .before .before .before .before .before .before .before .before .r .given .0 .1 .0) (c .before .before .before .before .before .before .before .before .before .before .before .before .before .before .before .before .before .before .before .before .before .sig .last .1 .0) s (omega (arith, c .before .before .before .before .before .before .before .before .before .before .before .before .before .before .before .before .before .before .before .before .before .before .before .before .before .before .before .before .before .before .pre, og .on, g .moved, g .room, s .far, sg .on, sg .within, c .before .before .before .before .before .before .before .before .before .before .before .before .before .before .before .before .before .before .before .before .before .sig .kept .1 .0, c .before .before .before .before .before .before .before .before .before .before .before .before .before .before .signature-end .kept .1 .0)) in omega (arith, c .before .before .before .before .before .before .before .before .before .before .before .before .before .before .before .before .before .before .before .before .before .before .before .before .before .before .before .before .before .before .pre, og .on, g .moved, g .room, s .far, sg .on, sg .within, c .before .before .before .before .before .before .before .before .before .before .before .before .before .before .before .before .before .before .before .before .before .sig .kept .1 .0, c .before .before .before .before .before .before .before .before .before .before .before .before .before .before .signature-end .kept .1 .0, u)) (omega (arith, c .before .before .before .before .before .before .before .before .before .before .before .before .before .before .before .before .before .before .before .before .before .before .before .before .before .before .before .before .before .before .pre, og .on, g .moved, g .room, s .far, sg .on, sg .within, c .before .before .before .before .before .before .before .before .before .before .before .before .before .before .before .before .before .before .before .before .before .sig .kept .1 .0, c .before .before .before .before .before .before .before .before .before .before .before .before .before .before .signature-end .kept .1 .0)) (c .before .before .before .before .before .before .body .ensures) (c .before .before .block-under .ensures)
+    let x = start-of-after-body t (search) .args in
+    under block-of (def-tree (x .name) (g .what)) 532 0 12 (gets _ (s .got) on) (shorter _ _ (x .at) _ (g .room .up) (stored-prefix (after-r-of-after-body t (search) .r .given .0 .1 .0) (after-sig-of-after-body t (search) .sig .last .1 .0) s (omega (arith, start-of-after-body t (search) .pre, og .on, g .moved, g .room, s .far, sg .on, sg .within, after-sig-of-after-body t (search) .sig .kept .1 .0, after-signature-end-of-after-body t (search) .signature-end .kept .1 .0))) ∙ prefix g (omega (arith, start-of-after-body t (search) .pre))) (λ b. def-text (x .name) (g .what) b (take (x .at) (x .store .now)) (s .text) (g .text)) (omega (arith, start-of-after-body t (search) .pre, og .on, g .moved, g .room, s .far, sg .on, sg .within, after-sig-of-after-body t (search) .sig .kept .1 .0, after-signature-end-of-after-body t (search) .signature-end .kept .1 .0)) (let u = stored-up (after-r-of-after-body t (search) .r .given .0 .1 .0) (after-sig-of-after-body t (search) .sig .last .1 .0) s (omega (arith, start-of-after-body t (search) .pre, og .on, g .moved, g .room, s .far, sg .on, sg .within, after-sig-of-after-body t (search) .sig .kept .1 .0, after-signature-end-of-after-body t (search) .signature-end .kept .1 .0)) in omega (arith, start-of-after-body t (search) .pre, og .on, g .moved, g .room, s .far, sg .on, sg .within, after-sig-of-after-body t (search) .sig .kept .1 .0, after-signature-end-of-after-body t (search) .signature-end .kept .1 .0, u)) (omega (arith, start-of-after-body t (search) .pre, og .on, g .moved, g .room, s .far, sg .on, sg .within, after-sig-of-after-body t (search) .sig .kept .1 .0, after-signature-end-of-after-body t (search) .signature-end .kept .1 .0)) (known (After-body t) (search) .body .ensures) (known (After-block-under t) (search) .block-under .ensures)

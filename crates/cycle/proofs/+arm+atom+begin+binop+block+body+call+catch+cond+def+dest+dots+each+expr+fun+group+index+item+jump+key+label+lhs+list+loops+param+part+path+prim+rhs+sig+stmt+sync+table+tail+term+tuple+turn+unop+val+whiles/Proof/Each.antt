@@ -14,10 +14,35 @@ use Rattle.cycle.proofs.lhs.Reads as lhs-reads
 use Rattle.cycle.proofs.whiles.Reads as whiles-reads
 use Rattle.scan.proofs.tokens.expect.Reads as expect-reads
 use Rattle.cycle.proofs.+arm+atom+begin+binop+block+body+call+catch+cond+def+dest+dots+each+expr+fun+group+index+item+jump+key+label+lhs+list+loops+param+part+path+prim+rhs+sig+stmt+sync+table+tail+term+tuple+turn+unop+val+whiles.Proof.Below.{each-at, lhs-below, whiles-below}
+use Rattle.tree.proofs.Known.{known}
 
 -- what is known of the functions that it calls
 abbrev pub calls : ℕ → lts.Claims
 calls t = (lhs-below t, lhs-reads.Post, expect-reads.Asked, expect-reads.Learnt, whiles-below t, whiles-reads.Post)
+
+abbrev After-lhs : ℕ → Type 0
+After-lhs t = lts.After-lhs (calls t) (each-at t) reads.Post
+
+abbrev After-r : ℕ → Type 0
+After-r t = lts.After-r (calls t) (each-at t) reads.Post
+
+abbrev After-expect : ℕ → Type 0
+After-expect t = lts.After-expect (calls t) (each-at t) reads.Post
+
+abbrev At-match-keys1 : ℕ → Type 0
+At-match-keys1 t = lts.At-match-keys1 (calls t) (each-at t) reads.Post
+
+abbrev After-s : ℕ → Type 0
+After-s t = lts.After-s (calls t) (each-at t) reads.Post
+
+abbrev After-whiles : ℕ → Type 0
+After-whiles t = lts.After-whiles (calls t) (each-at t) reads.Post
+
+abbrev Start : ℕ → Type 0
+Start t = lts.Start (calls t) (each-at t) reads.Post
+
+abbrev after-lhs-of-at-match-keys1 : (t : ℕ) → At-match-keys1 t → After-lhs t
+after-lhs-of-at-match-keys1 t c = search
 
 pub lhs-requires : (t : ℕ) → lts.Need-lhs-requires (calls t) (each-at t) reads.Post
 lhs-requires t c κs = omega arith
@@ -30,10 +55,10 @@ same-length t c = search needs
 
 pub returns : (t : ℕ) → lts.Need-returns (calls t) (each-at t) reads.Post
 returns t c = let path = way _ (for-step _ _ _ _) in
-    did-not (fails _ path (undone (c .match .keys2) (c .before .before .before .lhs .ensures)) refl (omega arith))
+    did-not (fails _ path (undone (c .match .keys2) (known (After-lhs t) (search) .lhs .ensures)) refl (omega arith))
 
 pub expect-requires : (t : ℕ) → lts.Need-expect-requires (calls t) (each-at t) reads.Post
-expect-requires t c κs = let w = done (c .before .r .given .1) (c .before .before .before .before .before .lhs .ensures) in
+expect-requires t c κs = let w = done (known (After-r t) (search) .r .given .1) (known (After-lhs t) (search) .lhs .ensures) in
     w .moved .within
 
 pub enum-known-s : (t : ℕ) → lts.Need-enum-known-s (calls t) (each-at t) reads.Post
@@ -43,14 +68,14 @@ pub same-length-2 : (t : ℕ) → lts.Need-same-length-2 (calls t) (each-at t) r
 same-length-2 t c = search needs
 
 pub returns-2 : (t : ℕ) → lts.Need-returns-2 (calls t) (each-at t) reads.Post
-returns-2 t c = let w = done (c .before .before .before .r .given .1) (c .before .before .before .before .before .before .before .lhs .ensures) in
+returns-2 t c = let w = done (known (After-r t) (search) .r .given .1) (known (After-lhs t) (search) .lhs .ensures) in
     let path = way _ (for-step _ _ _ _) in
     let on = goes _ path (w .same) in
-    did-not (lacks _ (unpassed (c .match2 .keys2) (c .before .expect .ensures)) on (prefix w (omega arith)) (omega arith))
+    did-not (lacks _ (unpassed (c .match2 .keys2) (known (After-expect t) (search) .expect .ensures)) on (prefix w (omega arith)) (omega arith))
 
 pub whiles-requires : (t : ℕ) → lts.Need-whiles-requires (calls t) (each-at t) reads.Post
-whiles-requires t c κs = let w = done (c .before .before .before .before .before .before .before .r .given .1) (c .before .before .before .before .before .before .before .before .before .before .before .lhs .ensures) in
-    let ps = passed (c .before .before .before .s .given .1) (c .before .before .before .before .before .expect .ensures) in
+whiles-requires t c κs = let w = done (known (After-r t) (search) .r .given .1) (after-lhs-of-at-match-keys1 t (search) .lhs .ensures) in
+    let ps = passed (known (After-s t) (search) .s .given .1) (known (After-expect t) (search) .expect .ensures) in
     let g = ps .got in
     let gon = g .on in
     let gwithin = g .within in
@@ -60,11 +85,18 @@ pub same-length-3 : (t : ℕ) → lts.Need-same-length-3 (calls t) (each-at t) r
 same-length-3 t c = search needs
 
 pub returns-3 : (t : ℕ) → lts.Need-returns-3 (calls t) (each-at t) reads.Post
-returns-3 t c = let w = done (c .before .before .before .before .before .before .before .before .before .before .r .given .1) (c .before .before .before .before .before .before .before .before .before .before .before .before .before .before .lhs .ensures) in
+returns-3 t c =
+    let after-whiles : After-whiles t = search in
+    let after-s : After-s t = search in
+    let after-expect : After-expect t = search in
+    let after-r : After-r t = search in
+    let after-lhs : After-lhs t = search in
+    let start : Start t = search in
+    let w = done (after-r .r .given .1) (after-lhs .lhs .ensures) in
     let path = way _ (for-step _ _ _ _) in
     let on = goes _ path (w .same) in
-    let ps = passed (c .before .before .before .before .before .before .s .given .1) (c .before .before .before .before .before .before .before .before .expect .ensures) in
+    let ps = passed (after-s .s .given .1) (after-expect .expect .ensures) in
     let g = ps .got in
     let gon = g .on in
     let gwithin = g .within in
-    renamed (λ x. Node.for-loop (c .before .before .before .before .before .before .before .before .before .before .before .before .before .before .before .before .before .before .before .args .label) (w .what) (x .over) (stmt-list-of (x .run))) (records (w .what)) (c .before .before .whiles .ensures) (link (gets _ g on) (way _ (turning-as _ _ _ (λ iter b. Node.for-loop (c .before .before .before .before .before .before .before .before .before .before .before .before .before .before .before .before .before .before .before .args .label) (w .what) iter (stmt-list-of b))))) (w .text) (λ x. three-words 5 _ _ _ _) (prefix w (omega (arith, c .before .before .before .before .before .before .before .before .before .before .before .before .before .before .before .before .before .before .before .pre, w .moved, w .room))) (omega (arith, c .before .before .before .before .before .before .before .before .before .before .before .before .before .before .before .before .before .before .before .pre, w .moved, w .room, gon, gwithin))
+    renamed (λ x. Node.for-loop (start .args .label) (w .what) (x .over) (stmt-list-of (x .run))) (records (w .what)) (after-whiles .whiles .ensures) (link (gets _ g on) (way _ (turning-as _ _ _ (λ iter b. Node.for-loop (start .args .label) (w .what) iter (stmt-list-of b))))) (w .text) (λ x. three-words 5 _ _ _ _) (prefix w (omega (arith, start .pre, w .moved, w .room))) (omega (arith, start .pre, w .moved, w .room, gon, gwithin))

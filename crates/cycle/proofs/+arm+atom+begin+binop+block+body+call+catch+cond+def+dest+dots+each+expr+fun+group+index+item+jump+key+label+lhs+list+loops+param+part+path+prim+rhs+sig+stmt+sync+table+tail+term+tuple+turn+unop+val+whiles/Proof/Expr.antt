@@ -28,6 +28,7 @@ use Rattle.scan.proofs.tokens.look.Reads as look-reads
 use Rattle.scan.proofs.tokens.unassigned.Reads as unassigned-reads
 use Rattle.tree.proofs.emit.Reads as emit-reads
 use Rattle.cycle.proofs.+arm+atom+begin+binop+block+body+call+catch+cond+def+dest+dots+each+expr+fun+group+index+item+jump+key+label+lhs+list+loops+param+part+path+prim+rhs+sig+stmt+sync+table+tail+term+tuple+turn+unop+val+whiles.Proof.Below.{expr-at, tuple-below, rhs-below}
+use Rattle.tree.proofs.Known.{known}
 
 -- what is known of the functions that it calls
 abbrev pub calls : ℕ → lts.Claims
@@ -37,6 +38,189 @@ action-le : (m : ℕ) → action m ≤ m
 action-le zero = omega arith
 action-le (suc m) = omega arith
 
+abbrev After-p : ℕ → Type 0
+After-p t = lts.After-p (calls t) (expr-at t) reads.Post
+
+abbrev After-assign-keyword : ℕ → Type 0
+After-assign-keyword t = lts.After-assign-keyword (calls t) (expr-at t) reads.Post
+
+abbrev After-tuple-arg2 : ℕ → Type 0
+After-tuple-arg2 t = lts.After-tuple-arg2 (calls t) (expr-at t) reads.Post
+
+abbrev At-match2-keys2 : ℕ → Type 0
+At-match2-keys2 t = lts.At-match2-keys2 (calls t) (expr-at t) reads.Post
+
+abbrev After-tuple : ℕ → Type 0
+After-tuple t = lts.After-tuple (calls t) (expr-at t) reads.Post
+
+abbrev After-l : ℕ → Type 0
+After-l t = lts.After-l (calls t) (expr-at t) reads.Post
+
+abbrev At-match3-keys1 : ℕ → Type 0
+At-match3-keys1 t = lts.At-match3-keys1 (calls t) (expr-at t) reads.Post
+
+abbrev After-kind : ℕ → Type 0
+After-kind t = lts.After-kind (calls t) (expr-at t) reads.Post
+
+abbrev After-look : ℕ → Type 0
+After-look t = lts.After-look (calls t) (expr-at t) reads.Post
+
+abbrev Start : ℕ → Type 0
+Start t = lts.Start (calls t) (expr-at t) reads.Post
+
+abbrev After-assign-code : ℕ → Type 0
+After-assign-code t = lts.After-assign-code (calls t) (expr-at t) reads.Post
+
+abbrev Then1 : ℕ → Type 0
+Then1 t = lts.Then1 (calls t) (expr-at t) reads.Post
+
+abbrev After-slice-known3 : ℕ → Type 0
+After-slice-known3 t = lts.After-slice-known3 (calls t) (expr-at t) reads.Post
+
+abbrev Else1 : ℕ → Type 0
+Else1 t = lts.Else1 (calls t) (expr-at t) reads.Post
+
+abbrev At-match4-keys2 : ℕ → Type 0
+At-match4-keys2 t = lts.At-match4-keys2 (calls t) (expr-at t) reads.Post
+
+abbrev After-expect-pattern : ℕ → Type 0
+After-expect-pattern t = lts.After-expect-pattern (calls t) (expr-at t) reads.Post
+
+abbrev After-t : ℕ → Type 0
+After-t t = lts.After-t (calls t) (expr-at t) reads.Post
+
+abbrev After-rhs : ℕ → Type 0
+After-rhs t = lts.After-rhs (calls t) (expr-at t) reads.Post
+
+abbrev After-slice-known4 : ℕ → Type 0
+After-slice-known4 t = lts.After-slice-known4 (calls t) (expr-at t) reads.Post
+
+abbrev At-match5-keys2 : ℕ → Type 0
+At-match5-keys2 t = lts.At-match5-keys2 (calls t) (expr-at t) reads.Post
+
+abbrev After-r : ℕ → Type 0
+After-r t = lts.After-r (calls t) (expr-at t) reads.Post
+
+abbrev After-emit : ℕ → Type 0
+After-emit t = lts.After-emit (calls t) (expr-at t) reads.Post
+
+abbrev After-action : ℕ → Type 0
+After-action t = lts.After-action (calls t) (expr-at t) reads.Post
+
+abbrev At-match3-keys2 : ℕ → Type 0
+At-match3-keys2 t = lts.At-match3-keys2 (calls t) (expr-at t) reads.Post
+
+abbrev After-s : ℕ → Type 0
+After-s t = lts.After-s (calls t) (expr-at t) reads.Post
+
+abbrev After-s2 : ℕ → Type 0
+After-s2 t = lts.After-s2 (calls t) (expr-at t) reads.Post
+
+abbrev after-assign-keyword-of-after-tuple-arg2 : (t : ℕ) → After-tuple-arg2 t → After-assign-keyword t
+after-assign-keyword-of-after-tuple-arg2 t c = search
+
+abbrev after-p-of-after-tuple-arg2 : (t : ℕ) → After-tuple-arg2 t → After-p t
+after-p-of-after-tuple-arg2 t c = search
+
+abbrev after-p-of-at-match3-keys1 : (t : ℕ) → At-match3-keys1 t → After-p t
+after-p-of-at-match3-keys1 t c = after-p-of-after-tuple-arg2 t (search)
+
+abbrev after-assign-keyword-of-at-match3-keys1 : (t : ℕ) → At-match3-keys1 t → After-assign-keyword t
+after-assign-keyword-of-at-match3-keys1 t c = after-assign-keyword-of-after-tuple-arg2 t (search)
+
+abbrev after-tuple-of-at-match3-keys1 : (t : ℕ) → At-match3-keys1 t → After-tuple t
+after-tuple-of-at-match3-keys1 t c = search
+
+abbrev start-of-after-tuple-arg2 : (t : ℕ) → After-tuple-arg2 t → Start t
+start-of-after-tuple-arg2 t c = search
+
+abbrev start-of-at-match3-keys1 : (t : ℕ) → At-match3-keys1 t → Start t
+start-of-at-match3-keys1 t c = start-of-after-tuple-arg2 t (search)
+
+abbrev after-p-of-after-slice-known3 : (t : ℕ) → After-slice-known3 t → After-p t
+after-p-of-after-slice-known3 t c = after-p-of-at-match3-keys1 t (search)
+
+abbrev after-assign-keyword-of-after-slice-known3 : (t : ℕ) → After-slice-known3 t → After-assign-keyword t
+after-assign-keyword-of-after-slice-known3 t c = after-assign-keyword-of-at-match3-keys1 t (search)
+
+abbrev after-l-of-at-match3-keys1 : (t : ℕ) → At-match3-keys1 t → After-l t
+after-l-of-at-match3-keys1 t c = search
+
+abbrev after-l-of-after-slice-known3 : (t : ℕ) → After-slice-known3 t → After-l t
+after-l-of-after-slice-known3 t c = after-l-of-at-match3-keys1 t (search)
+
+abbrev after-tuple-of-after-slice-known3 : (t : ℕ) → After-slice-known3 t → After-tuple t
+after-tuple-of-after-slice-known3 t c = after-tuple-of-at-match3-keys1 t (search)
+
+abbrev after-kind-of-after-slice-known3 : (t : ℕ) → After-slice-known3 t → After-kind t
+after-kind-of-after-slice-known3 t c = search
+
+abbrev after-look-of-at-match3-keys1 : (t : ℕ) → At-match3-keys1 t → After-look t
+after-look-of-at-match3-keys1 t c = search
+
+abbrev after-look-of-after-slice-known3 : (t : ℕ) → After-slice-known3 t → After-look t
+after-look-of-after-slice-known3 t c = after-look-of-at-match3-keys1 t (search)
+
+abbrev start-of-after-slice-known3 : (t : ℕ) → After-slice-known3 t → Start t
+start-of-after-slice-known3 t c = start-of-at-match3-keys1 t (search)
+
+abbrev after-expect-pattern-of-after-slice-known3 : (t : ℕ) → After-slice-known3 t → After-expect-pattern t
+after-expect-pattern-of-after-slice-known3 t c = search
+
+abbrev after-expect-pattern-of-after-slice-known4 : (t : ℕ) → After-slice-known4 t → After-expect-pattern t
+after-expect-pattern-of-after-slice-known4 t c = after-expect-pattern-of-after-slice-known3 t (search)
+
+abbrev after-tuple-of-after-slice-known4 : (t : ℕ) → After-slice-known4 t → After-tuple t
+after-tuple-of-after-slice-known4 t c = after-tuple-of-after-slice-known3 t (search)
+
+abbrev after-p-of-after-slice-known4 : (t : ℕ) → After-slice-known4 t → After-p t
+after-p-of-after-slice-known4 t c = after-p-of-after-slice-known3 t (search)
+
+abbrev after-assign-keyword-of-after-slice-known4 : (t : ℕ) → After-slice-known4 t → After-assign-keyword t
+after-assign-keyword-of-after-slice-known4 t c = after-assign-keyword-of-after-slice-known3 t (search)
+
+abbrev after-l-of-after-slice-known4 : (t : ℕ) → After-slice-known4 t → After-l t
+after-l-of-after-slice-known4 t c = after-l-of-after-slice-known3 t (search)
+
+abbrev after-kind-of-after-slice-known4 : (t : ℕ) → After-slice-known4 t → After-kind t
+after-kind-of-after-slice-known4 t c = after-kind-of-after-slice-known3 t (search)
+
+abbrev after-look-of-after-slice-known4 : (t : ℕ) → After-slice-known4 t → After-look t
+after-look-of-after-slice-known4 t c = after-look-of-after-slice-known3 t (search)
+
+abbrev start-of-after-slice-known4 : (t : ℕ) → After-slice-known4 t → Start t
+start-of-after-slice-known4 t c = start-of-after-slice-known3 t (search)
+
+abbrev after-assign-code-of-after-slice-known3 : (t : ℕ) → After-slice-known3 t → After-assign-code t
+after-assign-code-of-after-slice-known3 t c = search
+
+abbrev after-assign-code-of-after-slice-known4 : (t : ℕ) → After-slice-known4 t → After-assign-code t
+after-assign-code-of-after-slice-known4 t c = after-assign-code-of-after-slice-known3 t (search)
+
+abbrev else1-of-after-slice-known3 : (t : ℕ) → After-slice-known3 t → Else1 t
+else1-of-after-slice-known3 t c = search
+
+abbrev else1-of-after-slice-known4 : (t : ℕ) → After-slice-known4 t → Else1 t
+else1-of-after-slice-known4 t c = else1-of-after-slice-known3 t (search)
+
+abbrev after-t-of-after-slice-known4 : (t : ℕ) → After-slice-known4 t → After-t t
+after-t-of-after-slice-known4 t c = search
+
+abbrev after-rhs-of-after-slice-known4 : (t : ℕ) → After-slice-known4 t → After-rhs t
+after-rhs-of-after-slice-known4 t c = search
+
+abbrev after-p-of-at-match3-keys2 : (t : ℕ) → At-match3-keys2 t → After-p t
+after-p-of-at-match3-keys2 t c = after-p-of-after-tuple-arg2 t (search)
+
+abbrev after-assign-keyword-of-at-match3-keys2 : (t : ℕ) → At-match3-keys2 t → After-assign-keyword t
+after-assign-keyword-of-at-match3-keys2 t c = after-assign-keyword-of-after-tuple-arg2 t (search)
+
+abbrev after-tuple-of-at-match3-keys2 : (t : ℕ) → At-match3-keys2 t → After-tuple t
+after-tuple-of-at-match3-keys2 t c = search
+
+abbrev start-of-at-match3-keys2 : (t : ℕ) → At-match3-keys2 t → Start t
+start-of-at-match3-keys2 t c = start-of-after-tuple-arg2 t (search)
+
 pub assign-keyword-requires : (t : ℕ) → lts.Need-assign-keyword-requires (calls t) (expr-at t) reads.Post
 assign-keyword-requires t c κs = search needs
 
@@ -44,7 +228,7 @@ pub enum-known-p : (t : ℕ) → lts.Need-enum-known-p (calls t) (expr-at t) rea
 enum-known-p t c = search needs
 
 pub tuple-requires : (t : ℕ) → lts.Need-tuple-requires (calls t) (expr-at t) reads.Post
-tuple-requires t c κs = let x = found (c .before .before .before .p .given .1) (c .before .before .before .before .before .assign-keyword .ensures) in
+tuple-requires t c κs = let x = found (known (After-p t) (search) .p .given .1) (known (After-assign-keyword t) (search) .assign-keyword .ensures) in
     let xo = x .got .on in
     let xw = x .got .within in
     omega arith
@@ -59,14 +243,14 @@ pub same-length : (t : ℕ) → lts.Need-same-length (calls t) (expr-at t) reads
 same-length t c = search needs
 
 pub returns : (t : ℕ) → lts.Need-returns (calls t) (expr-at t) reads.Post
-returns t c = let x = found (c .before .before .before .before .before .before .before .before .p .given .1) (c .before .before .before .before .before .before .before .before .before .before .assign-keyword .ensures) in
+returns t c = let x = found (known (After-p t) (search) .p .given .1) (after-assign-keyword-of-after-tuple-arg2 t (search) .assign-keyword .ensures) in
     let xo = x .got .on in
     let xw = x .got .within in
     let s0 = told _ x (way _ (expr-step _ _ _)) in
-    anew (c .again .ensures) (did-not (fails _ s0 (undone (c .before .match2 .keys2) (c .before .before .before .before .tuple .ensures)) refl (omega arith)))
+    anew (c .again .ensures) (did-not (fails _ s0 (undone (known (At-match2-keys2 t) (search) .match2 .keys2) (known (After-tuple t) (search) .tuple .ensures)) refl (omega arith)))
 
 pub look-requires : (t : ℕ) → lts.Need-look-requires (calls t) (expr-at t) reads.Post
-look-requires t c κs = let w = done (c .before .l .given .1) (c .before .before .before .before .before .tuple .ensures) in
+look-requires t c κs = let w = done (known (After-l t) (search) .l .given .1) (known (After-tuple t) (search) .tuple .ensures) in
     w .moved .within
 
 pub enum-known-kind : (t : ℕ) → lts.Need-enum-known-kind (calls t) (expr-at t) reads.Post
@@ -83,30 +267,30 @@ same-length-2 t c = search needs
 
 pub returns-2 : (t : ℕ) → lts.Need-returns-2 (calls t) (expr-at t) reads.Post
 unfolding unassigned-step
-returns-2 t c = let x = found (c .before .before .before .before .before .before .before .before .before .before .before .before .before .before .before .before .p .given .1) (c .before .before .before .before .before .before .before .before .before .before .before .before .before .before .before .before .before .before .assign-keyword .ensures) in
+returns-2 t c = let x = found (after-p-of-at-match3-keys1 t (search) .p .given .1) (after-assign-keyword-of-at-match3-keys1 t (search) .assign-keyword .ensures) in
     let xo = x .got .on in
     let xw = x .got .within in
     let s0 = told _ x (way _ (expr-step _ _ _)) in
-    let w = done (c .before .before .before .before .before .before .before .before .l .given .1) (c .before .before .before .before .before .before .before .before .before .before .before .before .tuple .ensures) in
+    let w = done (known (After-l t) (search) .l .given .1) (after-tuple-of-at-match3-keys1 t (search) .tuple .ensures) in
     let s1 = goes _ s0 (w .same) in
-    let tk = taken (c .before .before .before .before .kind .given .1) (c .before .before .before .before .before .before .look .ensures) in
-    either-way (eqb (c .before .before .before .before .before .before .before .before .before .before .before .before .before .before .before .before .p .given .0 .1 .0) 0)
-    (λ e. record { how = relabel w (w .what) refl (link s1 (way _ (expr-plain (at-depth (c .before .before .before .before .before .before .before .before .before .before .before .before .before .before .before .before .before .before .before .before .before .args .depth)) (c .before .before .before .before .before .before .before .before .before .before .before .before .before .before .before .before .p .given .0 .1 .0) (w .what) _ tk (c .before .before .assign-code .ensures .0) (c .before .if1 .taken) (eqb-true _ _ e)))) (omega (arith, c .before .before .before .before .before .before .before .before .before .before .before .before .before .before .before .before .before .before .before .before .before .pre, w .moved, xo)) (omega (arith, c .before .before .before .before .before .before .before .before .before .before .before .before .before .before .before .before .before .before .before .before .before .pre, w .moved, w .room, xo)) })
-    (λ e. record { how = record { how = record { same = link s1 (way _ (expr-alone (at-depth (c .before .before .before .before .before .before .before .before .before .before .before .before .before .before .before .before .before .before .before .before .before .args .depth)) (c .before .before .before .before .before .before .before .before .before .before .before .before .before .before .before .before .p .given .0 .1 .0) (w .what) _ tk (c .before .before .assign-code .ensures .0) (c .before .if1 .taken) (eqb-false _ _ e))); moved = omega (arith, c .before .before .before .before .before .before .before .before .before .before .before .before .before .before .before .before .before .before .before .before .before .pre, w .moved, xo); far = omega (arith, c .before .before .before .before .before .before .before .before .before .before .before .before .before .before .before .before .before .before .before .before .before .pre, w .moved, xo); text = prefix w (omega (arith, c .before .before .before .before .before .before .before .before .before .before .before .before .before .before .before .before .before .before .before .before .before .pre)) } } })
+    let tk = taken (known (After-kind t) (search) .kind .given .1) (known (After-look t) (search) .look .ensures) in
+    either-way (eqb (after-p-of-at-match3-keys1 t (search) .p .given .0 .1 .0) 0)
+    (λ e. record { how = relabel w (w .what) refl (link s1 (way _ (expr-plain (at-depth (start-of-at-match3-keys1 t (search) .args .depth)) (after-p-of-at-match3-keys1 t (search) .p .given .0 .1 .0) (w .what) _ tk (known (After-assign-code t) (search) .assign-code .ensures .0) (known (Then1 t) (search) .if1 .taken) (eqb-true _ _ e)))) (omega (arith, start-of-at-match3-keys1 t (search) .pre, w .moved, xo)) (omega (arith, start-of-at-match3-keys1 t (search) .pre, w .moved, w .room, xo)) })
+    (λ e. record { how = record { how = record { same = link s1 (way _ (expr-alone (at-depth (start-of-at-match3-keys1 t (search) .args .depth)) (after-p-of-at-match3-keys1 t (search) .p .given .0 .1 .0) (w .what) _ tk (known (After-assign-code t) (search) .assign-code .ensures .0) (known (Then1 t) (search) .if1 .taken) (eqb-false _ _ e))); moved = omega (arith, start-of-at-match3-keys1 t (search) .pre, w .moved, xo); far = omega (arith, start-of-at-match3-keys1 t (search) .pre, w .moved, xo); text = prefix w (omega (arith, start-of-at-match3-keys1 t (search) .pre)) } } })
     (c .unassigned .ensures)
 
 pub add-expect-pattern : (t : ℕ) → lts.Need-add-expect-pattern (calls t) (expr-at t) reads.Post
-add-expect-pattern t c = let tk = taken (c .before .before .before .before .kind .given .1) (c .before .before .before .before .before .before .look .ensures) in
+add-expect-pattern t c = let tk = taken (known (After-kind t) (search) .kind .given .1) (known (After-look t) (search) .look .ensures) in
     omega arith
 
 pub expect-pattern-requires : (t : ℕ) → lts.Need-expect-pattern-requires (calls t) (expr-at t) reads.Post
-expect-pattern-requires t c κs = let x = found (c .before .before .before .before .before .before .before .before .before .before .before .before .before .before .before .before .p .given .1) (c .before .before .before .before .before .before .before .before .before .before .before .before .before .before .before .before .before .before .assign-keyword .ensures) in
+expect-pattern-requires t c κs = let x = found (after-p-of-at-match3-keys1 t (search) .p .given .1) (after-assign-keyword-of-at-match3-keys1 t (search) .assign-keyword .ensures) in
     let xo = x .got .on in
     let xw = x .got .within in
-    let w = done (c .before .before .before .before .before .before .before .before .l .given .1) (c .before .before .before .before .before .before .before .before .before .before .before .before .tuple .ensures) in
-    let tk = taken (c .before .before .before .before .kind .given .1) (c .before .before .before .before .before .before .look .ensures) in
+    let w = done (known (After-l t) (search) .l .given .1) (after-tuple-of-at-match3-keys1 t (search) .tuple .ensures) in
+    let tk = taken (known (After-kind t) (search) .kind .given .1) (known (After-look t) (search) .look .ensures) in
     let small = shape-small (given (tuple-shape _ _ _) (w .same)) in
-    record { tree = w .what; whole = stands w small (omega (arith, c .before .before .before .before .before .before .before .before .before .before .before .before .before .before .before .before .before .before .before .before .before .pre)) (omega (arith, c .before .before .before .before .before .before .before .before .before .before .before .before .before .before .before .before .before .before .before .before .before .pre, w .moved, w .room, xo, xw, c .before .before .before .before .before .before .before .before .before .before .before .before .tuple .kept .1 .0)) }
+    record { tree = w .what; whole = stands w small (omega (arith, start-of-at-match3-keys1 t (search) .pre)) (omega (arith, start-of-at-match3-keys1 t (search) .pre, w .moved, w .room, xo, xw, after-tuple-of-at-match3-keys1 t (search) .tuple .kept .1 .0)) }
 
 pub enum-known-t : (t : ℕ) → lts.Need-enum-known-t (calls t) (expr-at t) reads.Post
 enum-known-t t c = search needs
@@ -118,31 +302,31 @@ pub same-length-3 : (t : ℕ) → lts.Need-same-length-3 (calls t) (expr-at t) r
 same-length-3 t c = search needs
 
 pub returns-3 : (t : ℕ) → lts.Need-returns-3 (calls t) (expr-at t) reads.Post
-returns-3 t c = let x = found (c .before .before .before .before .before .before .before .before .before .before .before .before .before .before .before .before .before .before .before .before .before .p .given .1) (c .before .before .before .before .before .before .before .before .before .before .before .before .before .before .before .before .before .before .before .before .before .before .before .assign-keyword .ensures) in
+returns-3 t c = let x = found (after-p-of-after-slice-known3 t (search) .p .given .1) (after-assign-keyword-of-after-slice-known3 t (search) .assign-keyword .ensures) in
     let xo = x .got .on in
     let xw = x .got .within in
     let s0 = told _ x (way _ (expr-step _ _ _)) in
-    let w = done (c .before .before .before .before .before .before .before .before .before .before .before .before .before .l .given .1) (c .before .before .before .before .before .before .before .before .before .before .before .before .before .before .before .before .before .tuple .ensures) in
+    let w = done (after-l-of-after-slice-known3 t (search) .l .given .1) (after-tuple-of-after-slice-known3 t (search) .tuple .ensures) in
     let s1 = goes _ s0 (w .same) in
-    let tk = taken (c .before .before .before .before .before .before .before .before .before .kind .given .1) (c .before .before .before .before .before .before .before .before .before .before .before .look .ensures) in
+    let tk = taken (after-kind-of-after-slice-known3 t (search) .kind .given .1) (after-look-of-after-slice-known3 t (search) .look .ensures) in
     let small = shape-small (given (tuple-shape _ _ _) (w .same)) in
-    let whole = stands w small (omega (arith, c .before .before .before .before .before .before .before .before .before .before .before .before .before .before .before .before .before .before .before .before .before .before .before .before .before .before .pre)) (omega (arith, c .before .before .before .before .before .before .before .before .before .before .before .before .before .before .before .before .before .before .before .before .before .before .before .before .before .before .pre, w .moved, w .room, xo, xw, c .before .before .before .before .before .before .before .before .before .before .before .before .before .before .before .before .before .tuple .kept .1 .0)) in
-    let q2 = link s1 (way _ (expr-assign (at-depth (c .before .before .before .before .before .before .before .before .before .before .before .before .before .before .before .before .before .before .before .before .before .before .before .before .before .before .args .depth)) (c .before .before .before .before .before .before .before .before .before .before .before .before .before .before .before .before .before .before .before .before .before .p .given .0 .1 .0) (w .what) _ tk (c .before .before .before .before .before .before .before .assign-code .ensures .0) (c .before .before .before .before .before .before .if1 .left) refl)) in
-    let kept = prefix w (omega (arith, c .before .before .before .before .before .before .before .before .before .before .before .before .before .before .before .before .before .before .before .before .before .before .before .before .before .before .pre)) in
-    anew (c .again2 .ensures) (did-not (unwrote _ (unstored (c .before .match4 .keys2) (c .before .before .before .before .expect-pattern .ensures (w .what) (c .before .before .before .before .before .before .before .before .before .before .before .before .before .before .before .before .before .before .before .before .before .before .before .before .before .before .args .tokens .now) whole (tk .within))) q2 kept (omega (arith, c .before .before .before .before .before .before .before .before .before .before .before .before .before .before .before .before .before .before .before .before .before .before .before .before .before .before .pre, w .moved, xo))))
+    let whole = stands w small (omega (arith, start-of-after-slice-known3 t (search) .pre)) (omega (arith, start-of-after-slice-known3 t (search) .pre, w .moved, w .room, xo, xw, after-tuple-of-after-slice-known3 t (search) .tuple .kept .1 .0)) in
+    let q2 = link s1 (way _ (expr-assign (at-depth (start-of-after-slice-known3 t (search) .args .depth)) (after-p-of-after-slice-known3 t (search) .p .given .0 .1 .0) (w .what) _ tk (known (After-assign-code t) (search) .assign-code .ensures .0) (known (Else1 t) (search) .if1 .left) refl)) in
+    let kept = prefix w (omega (arith, start-of-after-slice-known3 t (search) .pre)) in
+    anew (c .again2 .ensures) (did-not (unwrote _ (unstored (known (At-match4-keys2 t) (search) .match4 .keys2) (known (After-expect-pattern t) (search) .expect-pattern .ensures (w .what) (start-of-after-slice-known3 t (search) .args .tokens .now) whole (tk .within))) q2 kept (omega (arith, start-of-after-slice-known3 t (search) .pre, w .moved, xo))))
 
 pub rhs-requires : (t : ℕ) → lts.Need-rhs-requires (calls t) (expr-at t) reads.Post
-rhs-requires t c κs = let x = found (c .before .before .before .before .before .before .before .before .before .before .before .before .before .before .before .before .before .before .before .before .before .before .before .before .p .given .1) (c .before .before .before .before .before .before .before .before .before .before .before .before .before .before .before .before .before .before .before .before .before .before .before .before .before .before .assign-keyword .ensures) in
+rhs-requires t c κs = let x = found (after-p-of-after-slice-known3 t (search) .p .given .1) (after-assign-keyword-of-after-slice-known3 t (search) .assign-keyword .ensures) in
     let xo = x .got .on in
     let xw = x .got .within in
-    let w = done (c .before .before .before .before .before .before .before .before .before .before .before .before .before .before .before .before .l .given .1) (c .before .before .before .before .before .before .before .before .before .before .before .before .before .before .before .before .before .before .before .before .tuple .ensures) in
-    let tk = taken (c .before .before .before .before .before .before .before .before .before .before .before .before .kind .given .1) (c .before .before .before .before .before .before .before .before .before .before .before .before .before .before .look .ensures) in
+    let w = done (after-l-of-after-slice-known3 t (search) .l .given .1) (after-tuple-of-after-slice-known3 t (search) .tuple .ensures) in
+    let tk = taken (after-kind-of-after-slice-known3 t (search) .kind .given .1) (after-look-of-after-slice-known3 t (search) .look .ensures) in
     let small = shape-small (given (tuple-shape _ _ _) (w .same)) in
-    let whole = stands w small (omega (arith, c .before .before .before .before .before .before .before .before .before .before .before .before .before .before .before .before .before .before .before .before .before .before .before .before .before .before .before .before .before .pre)) (omega (arith, c .before .before .before .before .before .before .before .before .before .before .before .before .before .before .before .before .before .before .before .before .before .before .before .before .before .before .before .before .before .pre, w .moved, w .room, xo, xw, c .before .before .before .before .before .before .before .before .before .before .before .before .before .before .before .before .before .before .before .before .tuple .kept .1 .0)) in
-    let pt = stored (c .before .before .before .t .given .1) (c .before .before .before .before .before .before .before .expect-pattern .ensures (w .what) (c .before .before .before .before .before .before .before .before .before .before .before .before .before .before .before .before .before .before .before .before .before .before .before .before .before .before .before .before .before .args .tokens .now) whole (tk .within)) in
+    let whole = stands w small (omega (arith, start-of-after-slice-known3 t (search) .pre)) (omega (arith, start-of-after-slice-known3 t (search) .pre, w .moved, w .room, xo, xw, after-tuple-of-after-slice-known3 t (search) .tuple .kept .1 .0)) in
+    let pt = stored (known (After-t t) (search) .t .given .1) (known (After-expect-pattern t) (search) .expect-pattern .ensures (w .what) (start-of-after-slice-known3 t (search) .args .tokens .now) whole (tk .within)) in
     let po = pt .got .on in
     let pw = pt .got .within in
-    omega (arith, c .before .before .before .before .before .before .before .before .before .before .before .before .before .before .before .before .before .before .before .before .before .before .before .before .before .before .before .before .before .pre, w .moved, w .room, xo, xw, po, pw, pt .far, c .before .before .before .before .before .before .before .before .before .before .before .before .before .before .before .before .before .before .before .before .tuple .kept .1 .0, c .before .before .before .before .before .before .before .expect-pattern .kept .0)
+    omega (arith, start-of-after-slice-known3 t (search) .pre, w .moved, w .room, xo, xw, po, pw, pt .far, after-tuple-of-after-slice-known3 t (search) .tuple .kept .1 .0, known (After-expect-pattern t) (search) .expect-pattern .kept .0)
 
 pub enum-known-r : (t : ℕ) → lts.Need-enum-known-r (calls t) (expr-at t) reads.Post
 enum-known-r t c = search needs
@@ -151,27 +335,27 @@ pub again-requires-3 : (t : ℕ) → lts.Need-again-requires-3 (calls t) (expr-a
 again-requires-3 t c κs = search needs
 
 pub same-length-4 : (t : ℕ) → lts.Need-same-length-4 (calls t) (expr-at t) reads.Post
-same-length-4 t c = c .before .before .before .before .rhs .kept .1 .0 ∙ c .before .before .before .before .before .before .before .before .before .before .before .before .expect-pattern .kept .0 ∙ c .before .before .before .before .before .before .before .before .before .before .before .before .before .before .before .before .before .before .before .before .before .before .before .before .before .tuple .kept .1 .0
+same-length-4 t c = known (After-rhs t) (search) .rhs .kept .1 .0 ∙ after-expect-pattern-of-after-slice-known4 t (search) .expect-pattern .kept .0 ∙ after-tuple-of-after-slice-known4 t (search) .tuple .kept .1 .0
 
 pub returns-4 : (t : ℕ) → lts.Need-returns-4 (calls t) (expr-at t) reads.Post
-returns-4 t c = let x = found (c .before .before .before .before .before .before .before .before .before .before .before .before .before .before .before .before .before .before .before .before .before .before .before .before .before .before .before .before .before .p .given .1) (c .before .before .before .before .before .before .before .before .before .before .before .before .before .before .before .before .before .before .before .before .before .before .before .before .before .before .before .before .before .before .before .assign-keyword .ensures) in
+returns-4 t c = let x = found (after-p-of-after-slice-known4 t (search) .p .given .1) (after-assign-keyword-of-after-slice-known4 t (search) .assign-keyword .ensures) in
     let xo = x .got .on in
     let xw = x .got .within in
     let s0 = told _ x (way _ (expr-step _ _ _)) in
-    let w = done (c .before .before .before .before .before .before .before .before .before .before .before .before .before .before .before .before .before .before .before .before .before .l .given .1) (c .before .before .before .before .before .before .before .before .before .before .before .before .before .before .before .before .before .before .before .before .before .before .before .before .before .tuple .ensures) in
+    let w = done (after-l-of-after-slice-known4 t (search) .l .given .1) (after-tuple-of-after-slice-known4 t (search) .tuple .ensures) in
     let s1 = goes _ s0 (w .same) in
-    let tk = taken (c .before .before .before .before .before .before .before .before .before .before .before .before .before .before .before .before .before .kind .given .1) (c .before .before .before .before .before .before .before .before .before .before .before .before .before .before .before .before .before .before .before .look .ensures) in
+    let tk = taken (after-kind-of-after-slice-known4 t (search) .kind .given .1) (after-look-of-after-slice-known4 t (search) .look .ensures) in
     let small = shape-small (given (tuple-shape _ _ _) (w .same)) in
-    let whole = stands w small (omega (arith, c .before .before .before .before .before .before .before .before .before .before .before .before .before .before .before .before .before .before .before .before .before .before .before .before .before .before .before .before .before .before .before .before .before .before .pre)) (omega (arith, c .before .before .before .before .before .before .before .before .before .before .before .before .before .before .before .before .before .before .before .before .before .before .before .before .before .before .before .before .before .before .before .before .before .before .pre, w .moved, w .room, xo, xw, c .before .before .before .before .before .before .before .before .before .before .before .before .before .before .before .before .before .before .before .before .before .before .before .before .before .tuple .kept .1 .0)) in
-    let pt = stored (c .before .before .before .before .before .before .before .before .t .given .1) (c .before .before .before .before .before .before .before .before .before .before .before .before .expect-pattern .ensures (w .what) (c .before .before .before .before .before .before .before .before .before .before .before .before .before .before .before .before .before .before .before .before .before .before .before .before .before .before .before .before .before .before .before .before .before .before .args .tokens .now) whole (tk .within)) in
+    let whole = stands w small (omega (arith, start-of-after-slice-known4 t (search) .pre)) (omega (arith, start-of-after-slice-known4 t (search) .pre, w .moved, w .room, xo, xw, after-tuple-of-after-slice-known4 t (search) .tuple .kept .1 .0)) in
+    let pt = stored (known (After-t t) (search) .t .given .1) (after-expect-pattern-of-after-slice-known4 t (search) .expect-pattern .ensures (w .what) (start-of-after-slice-known4 t (search) .args .tokens .now) whole (tk .within)) in
     let po = pt .got .on in
     let pw = pt .got .within in
-    let q2 = link s1 (way _ (expr-assign (at-depth (c .before .before .before .before .before .before .before .before .before .before .before .before .before .before .before .before .before .before .before .before .before .before .before .before .before .before .before .before .before .before .before .before .before .before .args .depth)) (c .before .before .before .before .before .before .before .before .before .before .before .before .before .before .before .before .before .before .before .before .before .before .before .before .before .before .before .before .before .p .given .0 .1 .0) (w .what) _ tk (c .before .before .before .before .before .before .before .before .before .before .before .before .before .before .before .assign-code .ensures .0) (c .before .before .before .before .before .before .before .before .before .before .before .before .before .before .if1 .left) refl)) in
+    let q2 = link s1 (way _ (expr-assign (at-depth (start-of-after-slice-known4 t (search) .args .depth)) (after-p-of-after-slice-known4 t (search) .p .given .0 .1 .0) (w .what) _ tk (after-assign-code-of-after-slice-known4 t (search) .assign-code .ensures .0) (else1-of-after-slice-known4 t (search) .if1 .left) refl)) in
     let s3 = gets _ (pt .got) q2 in
-    let kept = prefix w (omega (arith, c .before .before .before .before .before .before .before .before .before .before .before .before .before .before .before .before .before .before .before .before .before .before .before .before .before .before .before .before .before .before .before .before .before .before .pre)) in
-    let stays = before (c .before .before .before .before .before .before .before .before .before .before .before .before .before .before .before .before .before .before .before .before .before .before .before .before .before .before .before .before .before .before .before .before .before .before .args .at) (c .before .before .before .before .before .before .before .before .before .before .before .before .before .before .before .before .before .before .before .before .before .before .before .before .before .tuple .last .1 .0) pt (omega (arith, c .before .before .before .before .before .before .before .before .before .before .before .before .before .before .before .before .before .before .before .before .before .before .before .before .before .before .before .before .before .before .before .before .before .before .pre, c .before .before .before .before .before .before .before .before .before .before .before .before .before .before .before .before .before .before .before .before .before .before .before .before .before .tuple .kept .1 .0)) ∙ kept in
-    let up = reaches (c .before .before .before .before .before .before .before .before .before .before .before .before .before .before .before .before .before .before .before .before .before .before .before .before .before .tuple .last .1 .0) (c .before .before .before .before .before .before .before .before .before .before .before .before .expect-pattern .last .0) (records (pt .got .what)) (c .before .before .before .before .before .before .before .before .before .before .before .before .before .before .before .before .before .before .before .before .before .before .before .before .before .before .before .before .before .before .before .before .before .before .args .at) (c .before .before .before .before .before .before .before .before .t .given .0 .1 .0) (pt .text) (omega (arith, c .before .before .before .before .before .before .before .before .before .before .before .before .before .before .before .before .before .before .before .before .before .before .before .before .before .before .before .before .before .before .before .before .before .before .pre, c .before .before .before .before .before .before .before .before .before .before .before .before .before .before .before .before .before .before .before .before .before .before .before .before .before .tuple .kept .1 .0)) in
-    anew (c .again3 .ensures) (did-not (fails _ s3 (undone (c .before .match5 .keys2) (c .before .before .before .before .rhs .ensures)) stays (omega (arith, c .before .before .before .before .before .before .before .before .before .before .before .before .before .before .before .before .before .before .before .before .before .before .before .before .before .before .before .before .before .before .before .before .before .before .pre, w .moved, w .room, xo, xw, po, pw, up))))
+    let kept = prefix w (omega (arith, start-of-after-slice-known4 t (search) .pre)) in
+    let stays = before (start-of-after-slice-known4 t (search) .args .at) (after-tuple-of-after-slice-known4 t (search) .tuple .last .1 .0) pt (omega (arith, start-of-after-slice-known4 t (search) .pre, after-tuple-of-after-slice-known4 t (search) .tuple .kept .1 .0)) ∙ kept in
+    let up = reaches (after-tuple-of-after-slice-known4 t (search) .tuple .last .1 .0) (after-expect-pattern-of-after-slice-known4 t (search) .expect-pattern .last .0) (records (pt .got .what)) (start-of-after-slice-known4 t (search) .args .at) (known (After-t t) (search) .t .given .0 .1 .0) (pt .text) (omega (arith, start-of-after-slice-known4 t (search) .pre, after-tuple-of-after-slice-known4 t (search) .tuple .kept .1 .0)) in
+    anew (c .again3 .ensures) (did-not (fails _ s3 (undone (known (At-match5-keys2 t) (search) .match5 .keys2) (known (After-rhs t) (search) .rhs .ensures)) stays (omega (arith, start-of-after-slice-known4 t (search) .pre, w .moved, w .room, xo, xw, po, pw, up))))
 
 pub action-requires : (t : ℕ) → lts.Need-action-requires (calls t) (expr-at t) reads.Post
 action-requires t c κs = search needs
@@ -183,25 +367,25 @@ pub mul-emit : (t : ℕ) → lts.Need-mul-emit (calls t) (expr-at t) reads.Post
 mul-emit t c = search needs
 
 pub add-emit : (t : ℕ) → lts.Need-add-emit (calls t) (expr-at t) reads.Post
-add-emit t c = let x = found (c .before .before .before .before .before .before .before .before .before .before .before .before .before .before .before .before .before .before .before .before .before .before .before .before .before .before .before .before .before .before .before .before .p .given .1) (c .before .before .before .before .before .before .before .before .before .before .before .before .before .before .before .before .before .before .before .before .before .before .before .before .before .before .before .before .before .before .before .before .before .before .assign-keyword .ensures) in
+add-emit t c = let x = found (after-p-of-after-slice-known4 t (search) .p .given .1) (after-assign-keyword-of-after-slice-known4 t (search) .assign-keyword .ensures) in
     let m = x .below in
-    let a = action-le (c .before .before .before .before .before .before .before .before .before .before .before .before .before .before .before .before .before .before .before .before .before .before .before .before .before .before .before .before .before .before .before .before .p .given .0 .1 .0) in
+    let a = action-le (after-p-of-after-slice-known4 t (search) .p .given .0 .1 .0) in
     let e = c .action .ensures in
-    omega (arith, m, a, e, c .before .before .before .before .before .before .before .before .before .before .before .before .before .before .before .before .before .before .assign-code .ensures .1)
+    omega (arith, m, a, e, after-assign-code-of-after-slice-known4 t (search) .assign-code .ensures .1)
 
 pub emit-requires : (t : ℕ) → lts.Need-emit-requires (calls t) (expr-at t) reads.Post
-emit-requires t c κs = let x = found (c .before .before .before .before .before .before .before .before .before .before .before .before .before .before .before .before .before .before .before .before .before .before .before .before .before .before .before .before .before .before .before .before .p .given .1) (c .before .before .before .before .before .before .before .before .before .before .before .before .before .before .before .before .before .before .before .before .before .before .before .before .before .before .before .before .before .before .before .before .before .before .assign-keyword .ensures) in
+emit-requires t c κs = let x = found (after-p-of-after-slice-known4 t (search) .p .given .1) (after-assign-keyword-of-after-slice-known4 t (search) .assign-keyword .ensures) in
     let xo = x .got .on in
     let xw = x .got .within in
-    let w = done (c .before .before .before .before .before .before .before .before .before .before .before .before .before .before .before .before .before .before .before .before .before .before .before .before .l .given .1) (c .before .before .before .before .before .before .before .before .before .before .before .before .before .before .before .before .before .before .before .before .before .before .before .before .before .before .before .before .tuple .ensures) in
-    let tk = taken (c .before .before .before .before .before .before .before .before .before .before .before .before .before .before .before .before .before .before .before .before .kind .given .1) (c .before .before .before .before .before .before .before .before .before .before .before .before .before .before .before .before .before .before .before .before .before .before .look .ensures) in
+    let w = done (after-l-of-after-slice-known4 t (search) .l .given .1) (after-tuple-of-after-slice-known4 t (search) .tuple .ensures) in
+    let tk = taken (after-kind-of-after-slice-known4 t (search) .kind .given .1) (after-look-of-after-slice-known4 t (search) .look .ensures) in
     let small = shape-small (given (tuple-shape _ _ _) (w .same)) in
-    let whole = stands w small (omega (arith, c .before .before .before .before .before .before .before .before .before .before .before .before .before .before .before .before .before .before .before .before .before .before .before .before .before .before .before .before .before .before .before .before .before .before .before .before .before .pre)) (omega (arith, c .before .before .before .before .before .before .before .before .before .before .before .before .before .before .before .before .before .before .before .before .before .before .before .before .before .before .before .before .before .before .before .before .before .before .before .before .before .pre, w .moved, w .room, xo, xw, c .before .before .before .before .before .before .before .before .before .before .before .before .before .before .before .before .before .before .before .before .before .before .before .before .before .before .before .before .tuple .kept .1 .0)) in
-    let pt = stored (c .before .before .before .before .before .before .before .before .before .before .before .t .given .1) (c .before .before .before .before .before .before .before .before .before .before .before .before .before .before .before .expect-pattern .ensures (w .what) (c .before .before .before .before .before .before .before .before .before .before .before .before .before .before .before .before .before .before .before .before .before .before .before .before .before .before .before .before .before .before .before .before .before .before .before .before .before .args .tokens .now) whole (tk .within)) in
+    let whole = stands w small (omega (arith, start-of-after-slice-known4 t (search) .pre)) (omega (arith, start-of-after-slice-known4 t (search) .pre, w .moved, w .room, xo, xw, after-tuple-of-after-slice-known4 t (search) .tuple .kept .1 .0)) in
+    let pt = stored (after-t-of-after-slice-known4 t (search) .t .given .1) (after-expect-pattern-of-after-slice-known4 t (search) .expect-pattern .ensures (w .what) (start-of-after-slice-known4 t (search) .args .tokens .now) whole (tk .within)) in
     let po = pt .got .on in
     let pw = pt .got .within in
-    let u = done (c .before .before .before .r .given .1) (c .before .before .before .before .before .before .before .rhs .ensures) in
-    omega (arith, c .before .before .before .before .before .before .before .before .before .before .before .before .before .before .before .before .before .before .before .before .before .before .before .before .before .before .before .before .before .before .before .before .before .before .before .before .before .pre, w .moved, w .room, xo, xw, po, pw, pt .far, u .moved, u .room, c .before .before .before .before .before .before .before .before .before .before .before .before .before .before .before .before .before .before .before .before .before .before .before .before .before .before .before .before .tuple .kept .1 .0, c .before .before .before .before .before .before .before .before .before .before .before .before .before .before .before .expect-pattern .kept .0, c .before .before .before .before .before .before .before .rhs .kept .1 .0)
+    let u = done (known (After-r t) (search) .r .given .1) (known (After-rhs t) (search) .rhs .ensures) in
+    omega (arith, start-of-after-slice-known4 t (search) .pre, w .moved, w .room, xo, xw, po, pw, pt .far, u .moved, u .room, after-tuple-of-after-slice-known4 t (search) .tuple .kept .1 .0, after-expect-pattern-of-after-slice-known4 t (search) .expect-pattern .kept .0, known (After-rhs t) (search) .rhs .kept .1 .0)
 
 pub enum-known-s : (t : ℕ) → lts.Need-enum-known-s (calls t) (expr-at t) reads.Post
 enum-known-s t c = search needs
@@ -210,42 +394,58 @@ pub enum-known-s-2 : (t : ℕ) → lts.Need-enum-known-s-2 (calls t) (expr-at t)
 enum-known-s-2 t c = search needs
 
 pub same-length-5 : (t : ℕ) → lts.Need-same-length-5 (calls t) (expr-at t) reads.Post
-same-length-5 t c = c .before .before .emit .kept .0 ∙ c .before .before .before .before .before .before .before .before .before .before .rhs .kept .1 .0 ∙ c .before .before .before .before .before .before .before .before .before .before .before .before .before .before .before .before .before .before .expect-pattern .kept .0 ∙ c .before .before .before .before .before .before .before .before .before .before .before .before .before .before .before .before .before .before .before .before .before .before .before .before .before .before .before .before .before .before .before .tuple .kept .1 .0
+same-length-5 t c = known (After-emit t) (search) .emit .kept .0 ∙ after-rhs-of-after-slice-known4 t (search) .rhs .kept .1 .0 ∙ after-expect-pattern-of-after-slice-known4 t (search) .expect-pattern .kept .0 ∙ after-tuple-of-after-slice-known4 t (search) .tuple .kept .1 .0
 
 pub returns-5 : (t : ℕ) → lts.Need-returns-5 (calls t) (expr-at t) reads.Post
 unfolding count
-returns-5 t c = let x = found (c .before .before .before .before .before .before .before .before .before .before .before .before .before .before .before .before .before .before .before .before .before .before .before .before .before .before .before .before .before .before .before .before .before .before .before .p .given .1) (c .before .before .before .before .before .before .before .before .before .before .before .before .before .before .before .before .before .before .before .before .before .before .before .before .before .before .before .before .before .before .before .before .before .before .before .before .before .assign-keyword .ensures) in
+returns-5 t c =
+    let after-emit : After-emit t = search in
+    let after-action : After-action t = search in
+    let after-r : After-r t = search in
+    let after-rhs : After-rhs t = search in
+    let after-t : After-t t = search in
+    let after-expect-pattern : After-expect-pattern t = search in
+    let else1 : Else1 t = search in
+    let after-assign-code : After-assign-code t = search in
+    let after-kind : After-kind t = search in
+    let after-look : After-look t = search in
+    let after-l : After-l t = search in
+    let after-tuple : After-tuple t = search in
+    let after-p : After-p t = search in
+    let after-assign-keyword : After-assign-keyword t = search in
+    let start : Start t = search in
+    let x = found (after-p .p .given .1) (after-assign-keyword .assign-keyword .ensures) in
     let xo = x .got .on in
     let xw = x .got .within in
     let s0 = told _ x (way _ (expr-step _ _ _)) in
-    let w = done (c .before .before .before .before .before .before .before .before .before .before .before .before .before .before .before .before .before .before .before .before .before .before .before .before .before .before .before .l .given .1) (c .before .before .before .before .before .before .before .before .before .before .before .before .before .before .before .before .before .before .before .before .before .before .before .before .before .before .before .before .before .before .before .tuple .ensures) in
+    let w = done (after-l .l .given .1) (after-tuple .tuple .ensures) in
     let s1 = goes _ s0 (w .same) in
-    let tk = taken (c .before .before .before .before .before .before .before .before .before .before .before .before .before .before .before .before .before .before .before .before .before .before .before .kind .given .1) (c .before .before .before .before .before .before .before .before .before .before .before .before .before .before .before .before .before .before .before .before .before .before .before .before .before .look .ensures) in
+    let tk = taken (after-kind .kind .given .1) (after-look .look .ensures) in
     let small = shape-small (given (tuple-shape _ _ _) (w .same)) in
-    let whole = stands w small (omega (arith, c .before .before .before .before .before .before .before .before .before .before .before .before .before .before .before .before .before .before .before .before .before .before .before .before .before .before .before .before .before .before .before .before .before .before .before .before .before .before .before .before .pre)) (omega (arith, c .before .before .before .before .before .before .before .before .before .before .before .before .before .before .before .before .before .before .before .before .before .before .before .before .before .before .before .before .before .before .before .before .before .before .before .before .before .before .before .before .pre, w .moved, w .room, xo, xw, c .before .before .before .before .before .before .before .before .before .before .before .before .before .before .before .before .before .before .before .before .before .before .before .before .before .before .before .before .before .before .before .tuple .kept .1 .0)) in
-    let pt = stored (c .before .before .before .before .before .before .before .before .before .before .before .before .before .before .t .given .1) (c .before .before .before .before .before .before .before .before .before .before .before .before .before .before .before .before .before .before .expect-pattern .ensures (w .what) (c .before .before .before .before .before .before .before .before .before .before .before .before .before .before .before .before .before .before .before .before .before .before .before .before .before .before .before .before .before .before .before .before .before .before .before .before .before .before .before .before .args .tokens .now) whole (tk .within)) in
+    let whole = stands w small (omega (arith, start .pre)) (omega (arith, start .pre, w .moved, w .room, xo, xw, after-tuple .tuple .kept .1 .0)) in
+    let pt = stored (after-t .t .given .1) (after-expect-pattern .expect-pattern .ensures (w .what) (start .args .tokens .now) whole (tk .within)) in
     let po = pt .got .on in
     let pw = pt .got .within in
-    let kept = prefix w (omega (arith, c .before .before .before .before .before .before .before .before .before .before .before .before .before .before .before .before .before .before .before .before .before .before .before .before .before .before .before .before .before .before .before .before .before .before .before .before .before .before .before .before .pre)) in
-    let up = reaches (c .before .before .before .before .before .before .before .before .before .before .before .before .before .before .before .before .before .before .before .before .before .before .before .before .before .before .before .before .before .before .before .tuple .last .1 .0) (c .before .before .before .before .before .before .before .before .before .before .before .before .before .before .before .before .before .before .expect-pattern .last .0) (records (pt .got .what)) (c .before .before .before .before .before .before .before .before .before .before .before .before .before .before .before .before .before .before .before .before .before .before .before .before .before .before .before .before .before .before .before .before .before .before .before .before .before .before .before .before .args .at) (c .before .before .before .before .before .before .before .before .before .before .before .before .before .before .t .given .0 .1 .0) (pt .text) (omega (arith, c .before .before .before .before .before .before .before .before .before .before .before .before .before .before .before .before .before .before .before .before .before .before .before .before .before .before .before .before .before .before .before .before .before .before .before .before .before .before .before .before .pre, c .before .before .before .before .before .before .before .before .before .before .before .before .before .before .before .before .before .before .before .before .before .before .before .before .before .before .before .before .before .before .before .tuple .kept .1 .0)) in
-    let u = done (c .before .before .before .before .before .before .r .given .1) (c .before .before .before .before .before .before .before .before .before .before .rhs .ensures) in
-    let q4 = link s1 (way _ (expr-assign (at-depth (c .before .before .before .before .before .before .before .before .before .before .before .before .before .before .before .before .before .before .before .before .before .before .before .before .before .before .before .before .before .before .before .before .before .before .before .before .before .before .before .before .args .depth)) (c .before .before .before .before .before .before .before .before .before .before .before .before .before .before .before .before .before .before .before .before .before .before .before .before .before .before .before .before .before .before .before .before .before .before .before .p .given .0 .1 .0) (w .what) _ tk (c .before .before .before .before .before .before .before .before .before .before .before .before .before .before .before .before .before .before .before .before .before .assign-code .ensures .0) (c .before .before .before .before .before .before .before .before .before .before .before .before .before .before .before .before .before .before .before .before .if1 .left) (c .before .before .before .action .ensures))) in
-    let e = c .before .before .emit .ensures in
+    let kept = prefix w (omega (arith, start .pre)) in
+    let up = reaches (after-tuple .tuple .last .1 .0) (after-expect-pattern .expect-pattern .last .0) (records (pt .got .what)) (start .args .at) (after-t .t .given .0 .1 .0) (pt .text) (omega (arith, start .pre, after-tuple .tuple .kept .1 .0)) in
+    let u = done (after-r .r .given .1) (after-rhs .rhs .ensures) in
+    let q4 = link s1 (way _ (expr-assign (at-depth (start .args .depth)) (after-p .p .given .0 .1 .0) (w .what) _ tk (after-assign-code .assign-code .ensures .0) (else1 .if1 .left) (after-action .action .ensures))) in
+    let e = after-emit .emit .ensures in
     let en = e .next in
     let text = pt .text ∙ ap (λ (l : List ℕ). l ++ records (pt .got .what)) kept in
-    record { how = made-over 14 (two (pt .got .what) (u .what)) e (kids-two (take (c .before .before .before .before .before .before .before .before .before .before .before .before .before .before .before .before .before .before .before .before .before .before .before .before .before .before .before .before .before .before .before .before .before .before .before .before .before .before .before .before .args .at) (c .before .before .before .before .before .before .before .before .before .before .before .before .before .before .before .before .before .before .before .before .before .before .before .before .before .before .before .before .before .before .before .before .before .before .before .before .before .before .before .before .args .store .now)) (pt .got .what) (u .what) text (u .text)) (goes _ (gets _ (pt .got) q4) (u .same)) (omega (arith, c .before .before .before .before .before .before .before .before .before .before .before .before .before .before .before .before .before .before .before .before .before .before .before .before .before .before .before .before .before .before .before .before .before .before .before .before .before .before .before .before .pre, w .moved, xo, po, u .moved)) (omega (arith, c .before .before .before .before .before .before .before .before .before .before .before .before .before .before .before .before .before .before .before .before .before .before .before .before .before .before .before .before .before .before .before .before .before .before .before .before .before .before .before .before .pre, w .moved, w .room, xo, xw, po, pw, pt .far, up, u .moved, u .room, en)) refl }
+    record { how = made-over 14 (two (pt .got .what) (u .what)) e (kids-two (take (start .args .at) (start .args .store .now)) (pt .got .what) (u .what) text (u .text)) (goes _ (gets _ (pt .got) q4) (u .same)) (omega (arith, start .pre, w .moved, xo, po, u .moved)) (omega (arith, start .pre, w .moved, w .room, xo, xw, po, pw, pt .far, up, u .moved, u .room, en)) refl }
 
 pub same-length-6 : (t : ℕ) → lts.Need-same-length-6 (calls t) (expr-at t) reads.Post
 same-length-6 t c = search needs
 
 pub returns-6 : (t : ℕ) → lts.Need-returns-6 (calls t) (expr-at t) reads.Post
-returns-6 t c = let x = found (c .before .before .before .before .before .before .before .before .before .before .before .before .before .p .given .1) (c .before .before .before .before .before .before .before .before .before .before .before .before .before .before .before .assign-keyword .ensures) in
+returns-6 t c = let x = found (after-p-of-at-match3-keys2 t (search) .p .given .1) (after-assign-keyword-of-at-match3-keys2 t (search) .assign-keyword .ensures) in
     let xo = x .got .on in
     let xw = x .got .within in
     let s0 = told _ x (way _ (expr-step _ _ _)) in
-    let w = done (c .before .before .before .before .before .l .given .1) (c .before .before .before .before .before .before .before .before .before .tuple .ensures) in
+    let w = done (known (After-l t) (search) .l .given .1) (after-tuple-of-at-match3-keys2 t (search) .tuple .ensures) in
     let s1 = goes _ s0 (w .same) in
-    did-not (blind s1 (record { go = _; is = refl }) (not-taken (c .before .s .given .1) (c .before .before .before .look .ensures)) (prefix w (omega (arith, c .before .before .before .before .before .before .before .before .before .before .before .before .before .before .before .before .before .before .pre))) (omega (arith, c .before .before .before .before .before .before .before .before .before .before .before .before .before .before .before .before .before .before .pre, w .moved, xo)))
+    did-not (blind s1 (record { go = _; is = refl }) (not-taken (known (After-s t) (search) .s .given .1) (known (After-look t) (search) .look .ensures)) (prefix w (omega (arith, start-of-at-match3-keys2 t (search) .pre))) (omega (arith, start-of-at-match3-keys2 t (search) .pre, w .moved, xo)))
 
 pub returns-7 : (t : ℕ) → lts.Need-returns-7 (calls t) (expr-at t) reads.Post
-returns-7 t c = did-not (lacks _ (unfound (c .before .s2 .given .1) (c .before .before .before .assign-keyword .ensures)) (way _ (expr-step _ _ _)) refl (omega arith))
+returns-7 t c = did-not (lacks _ (unfound (known (After-s2 t) (search) .s2 .given .1) (known (After-assign-keyword t) (search) .assign-keyword .ensures)) (way _ (expr-step _ _ _)) refl (omega arith))

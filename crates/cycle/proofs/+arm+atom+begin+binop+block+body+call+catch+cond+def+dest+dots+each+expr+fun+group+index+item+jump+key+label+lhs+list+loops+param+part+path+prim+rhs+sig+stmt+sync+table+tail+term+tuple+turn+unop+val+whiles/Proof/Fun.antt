@@ -19,10 +19,116 @@ use Rattle.scan.proofs.tokens.look.Reads as look-reads
 use Rattle.tree.proofs.emit.Reads as emit-reads
 use Rattle.cycle.proofs.+arm+atom+begin+binop+block+body+call+catch+cond+def+dest+dots+each+expr+fun+group+index+item+jump+key+label+lhs+list+loops+param+part+path+prim+rhs+sig+stmt+sync+table+tail+term+tuple+turn+unop+val+whiles.Proof.Below.{fun-at, def-below, dest-below}
 use Rattle.cycle.proofs.Shapes.{given}
+use Rattle.tree.proofs.Known.{known}
 
 -- what is known of the functions that it calls
 abbrev pub calls : ℕ → lts.Claims
 calls t = (look-reads.Asked, look-reads.Learnt, def-below t, def-reads.Post, dest-below t, dest-reads.Post, target-name-reads.Asked, target-name-reads.Learnt, emit-reads.Asked, emit-reads.Learnt)
+
+abbrev After-kind : ℕ → Type 0
+After-kind t = lts.After-kind (calls t) (fun-at t) reads.Post
+
+abbrev After-def-arg : ℕ → Type 0
+After-def-arg t = lts.After-def-arg (calls t) (fun-at t) reads.Post
+
+abbrev After-look : ℕ → Type 0
+After-look t = lts.After-look (calls t) (fun-at t) reads.Post
+
+abbrev Then1 : ℕ → Type 0
+Then1 t = lts.Then1 (calls t) (fun-at t) reads.Post
+
+abbrev After-def : ℕ → Type 0
+After-def t = lts.After-def (calls t) (fun-at t) reads.Post
+
+abbrev After-dest-arg : ℕ → Type 0
+After-dest-arg t = lts.After-dest-arg (calls t) (fun-at t) reads.Post
+
+abbrev Else1 : ℕ → Type 0
+Else1 t = lts.Else1 (calls t) (fun-at t) reads.Post
+
+abbrev After-dest : ℕ → Type 0
+After-dest t = lts.After-dest (calls t) (fun-at t) reads.Post
+
+abbrev Start : ℕ → Type 0
+Start t = lts.Start (calls t) (fun-at t) reads.Post
+
+abbrev After-t : ℕ → Type 0
+After-t t = lts.After-t (calls t) (fun-at t) reads.Post
+
+abbrev After-target-name-arg : ℕ → Type 0
+After-target-name-arg t = lts.After-target-name-arg (calls t) (fun-at t) reads.Post
+
+abbrev After-target-name : ℕ → Type 0
+After-target-name t = lts.After-target-name (calls t) (fun-at t) reads.Post
+
+abbrev After-def2 : ℕ → Type 0
+After-def2 t = lts.After-def2 (calls t) (fun-at t) reads.Post
+
+abbrev After-r : ℕ → Type 0
+After-r t = lts.After-r (calls t) (fun-at t) reads.Post
+
+abbrev After-emit : ℕ → Type 0
+After-emit t = lts.After-emit (calls t) (fun-at t) reads.Post
+
+abbrev After-s : ℕ → Type 0
+After-s t = lts.After-s (calls t) (fun-at t) reads.Post
+
+abbrev after-look-of-after-def-arg : (t : ℕ) → After-def-arg t → After-look t
+after-look-of-after-def-arg t c = search
+
+abbrev after-look-of-after-dest-arg : (t : ℕ) → After-dest-arg t → After-look t
+after-look-of-after-dest-arg t c = search
+
+abbrev start-of-after-dest-arg : (t : ℕ) → After-dest-arg t → Start t
+start-of-after-dest-arg t c = search
+
+abbrev after-kind-of-after-dest-arg : (t : ℕ) → After-dest-arg t → After-kind t
+after-kind-of-after-dest-arg t c = search
+
+abbrev else1-of-after-dest-arg : (t : ℕ) → After-dest-arg t → Else1 t
+else1-of-after-dest-arg t c = search
+
+abbrev after-dest-of-after-target-name-arg : (t : ℕ) → After-target-name-arg t → After-dest t
+after-dest-of-after-target-name-arg t c = search
+
+abbrev start-of-after-target-name-arg : (t : ℕ) → After-target-name-arg t → Start t
+start-of-after-target-name-arg t c = start-of-after-dest-arg t (search)
+
+abbrev after-kind-of-after-target-name-arg : (t : ℕ) → After-target-name-arg t → After-kind t
+after-kind-of-after-target-name-arg t c = after-kind-of-after-dest-arg t (search)
+
+abbrev after-look-of-after-target-name-arg : (t : ℕ) → After-target-name-arg t → After-look t
+after-look-of-after-target-name-arg t c = after-look-of-after-dest-arg t (search)
+
+abbrev after-t-of-after-target-name-arg : (t : ℕ) → After-target-name-arg t → After-t t
+after-t-of-after-target-name-arg t c = search
+
+abbrev else1-of-after-target-name-arg : (t : ℕ) → After-target-name-arg t → Else1 t
+else1-of-after-target-name-arg t c = else1-of-after-dest-arg t (search)
+
+abbrev after-t-of-after-r : (t : ℕ) → After-r t → After-t t
+after-t-of-after-r t c = after-t-of-after-target-name-arg t (search)
+
+abbrev after-dest-of-after-r : (t : ℕ) → After-r t → After-dest t
+after-dest-of-after-r t c = after-dest-of-after-target-name-arg t (search)
+
+abbrev start-of-after-r : (t : ℕ) → After-r t → Start t
+start-of-after-r t c = start-of-after-target-name-arg t (search)
+
+abbrev after-kind-of-after-r : (t : ℕ) → After-r t → After-kind t
+after-kind-of-after-r t c = after-kind-of-after-target-name-arg t (search)
+
+abbrev after-look-of-after-r : (t : ℕ) → After-r t → After-look t
+after-look-of-after-r t c = after-look-of-after-target-name-arg t (search)
+
+abbrev after-def2-of-after-r : (t : ℕ) → After-r t → After-def2 t
+after-def2-of-after-r t c = search
+
+abbrev else1-of-after-r : (t : ℕ) → After-r t → Else1 t
+else1-of-after-r t c = else1-of-after-target-name-arg t (search)
+
+abbrev after-target-name-of-after-r : (t : ℕ) → After-r t → After-target-name t
+after-target-name-of-after-r t c = search
 
 pub look-requires : (t : ℕ) → lts.Need-look-requires (calls t) (fun-at t) reads.Post
 look-requires t c κs = omega arith
@@ -37,8 +143,8 @@ pub same-length : (t : ℕ) → lts.Need-same-length (calls t) (fun-at t) reads.
 same-length t c = search needs
 
 pub returns : (t : ℕ) → lts.Need-returns (calls t) (fun-at t) reads.Post
-returns t c = let tk = taken (c .before .before .before .before .before .before .before .kind .given .1) (c .before .before .before .before .before .before .before .before .before .look .ensures) in
-    later (decl-open _ _ tk (c .before .before .before .before .before .if1 .taken)) (c .before .before .def .ensures) (omega arith) (omega arith) (omega arith)
+returns t c = let tk = taken (known (After-kind t) (search) .kind .given .1) (after-look-of-after-def-arg t (search) .look .ensures) in
+    later (decl-open _ _ tk (known (Then1 t) (search) .if1 .taken)) (known (After-def t) (search) .def .ensures) (omega arith) (omega arith) (omega arith)
 
 pub dest-requires : (t : ℕ) → lts.Need-dest-requires (calls t) (fun-at t) reads.Post
 dest-requires t c κs = omega arith
@@ -50,21 +156,21 @@ pub same-length-2 : (t : ℕ) → lts.Need-same-length-2 (calls t) (fun-at t) re
 same-length-2 t c = search needs
 
 pub returns-2 : (t : ℕ) → lts.Need-returns-2 (calls t) (fun-at t) reads.Post
-returns-2 t c = let tk = taken (c .before .before .before .before .before .before .before .before .kind .given .1) (c .before .before .before .before .before .before .before .before .before .before .look .ensures) in
-    let path = way _ (decl-target _ _ tk (c .before .before .before .before .before .before .if1 .left)) in
-    did-not (fails _ path (undone (c .match2 .keys2) (c .before .before .before .dest .ensures)) refl (omega (arith, c .before .before .before .before .before .before .before .before .before .before .before .before .before .pre)))
+returns-2 t c = let tk = taken (known (After-kind t) (search) .kind .given .1) (after-look-of-after-dest-arg t (search) .look .ensures) in
+    let path = way _ (decl-target _ _ tk (known (Else1 t) (search) .if1 .left)) in
+    did-not (fails _ path (undone (c .match2 .keys2) (known (After-dest t) (search) .dest .ensures)) refl (omega (arith, start-of-after-dest-arg t (search) .pre)))
 
 pub target-name-requires : (t : ℕ) → lts.Need-target-name-requires (calls t) (fun-at t) reads.Post
-target-name-requires t c κs = let tk = taken (c .before .before .before .before .before .before .before .before .before .before .before .kind .given .1) (c .before .before .before .before .before .before .before .before .before .before .before .before .before .look .ensures) in
-    let g = done (c .before .before .t .given .1) (c .before .before .before .before .before .before .dest .ensures) in
-    let small = given (target-small (c .before .before .before .before .before .before .before .before .before .before .before .before .before .before .before .before .args .depth) _ _) (g .same) in
-    let names = given (target-named _ _ tk (c .before .before .before .before .before .before .before .before .before .if1 .left)) (g .same) in
-    let l = taller g (omega (arith, c .before .before .before .before .before .before .before .before .before .before .before .before .before .before .before .before .pre)) in
-    (omega (arith, l), omega (arith, c .before .before .before .before .before .before .before .before .before .before .before .before .before .before .before .before .pre, g .moved, g .room, c .before .before .before .before .before .before .dest .kept .1 .0), λ e. name-small (tk .fits) (names (sym (kind-read (c .before .before .before .before .before .before .dest .last .1 .0) (take (c .before .before .before .before .before .before .before .before .before .before .before .before .before .before .before .before .args .at) (c .before .before .before .before .before .before .before .before .before .before .before .before .before .before .before .before .args .store .now)) (c .before .before .t .given .0 .1 .0) (g .what) small (g .text) (omega (arith, c .before .before .before .before .before .before .before .before .before .before .before .before .before .before .before .before .pre, g .moved, g .room, c .before .before .before .before .before .before .dest .kept .1 .0))) ∙ e) .0))
+target-name-requires t c κs = let tk = taken (after-kind-of-after-dest-arg t (search) .kind .given .1) (after-look-of-after-dest-arg t (search) .look .ensures) in
+    let g = done (known (After-t t) (search) .t .given .1) (known (After-dest t) (search) .dest .ensures) in
+    let small = given (target-small (start-of-after-dest-arg t (search) .args .depth) _ _) (g .same) in
+    let names = given (target-named _ _ tk (else1-of-after-dest-arg t (search) .if1 .left)) (g .same) in
+    let l = taller g (omega (arith, start-of-after-dest-arg t (search) .pre)) in
+    (omega (arith, l), omega (arith, start-of-after-dest-arg t (search) .pre, g .moved, g .room, known (After-dest t) (search) .dest .kept .1 .0), λ e. name-small (tk .fits) (names (sym (kind-read (known (After-dest t) (search) .dest .last .1 .0) (take (start-of-after-dest-arg t (search) .args .at) (start-of-after-dest-arg t (search) .args .store .now)) (known (After-t t) (search) .t .given .0 .1 .0) (g .what) small (g .text) (omega (arith, start-of-after-dest-arg t (search) .pre, g .moved, g .room, known (After-dest t) (search) .dest .kept .1 .0))) ∙ e) .0))
 
 pub def-requires-2 : (t : ℕ) → lts.Need-def-requires-2 (calls t) (fun-at t) reads.Post
-def-requires-2 t c κs = let g = done (c .before .before .before .before .before .t .given .1) (c .before .before .before .before .before .before .before .before .before .dest .ensures) in
-    omega (arith, c .before .before .before .before .before .before .before .before .before .before .before .before .before .before .before .before .before .before .before .pre)
+def-requires-2 t c κs = let g = done (known (After-t t) (search) .t .given .1) (after-dest-of-after-target-name-arg t (search) .dest .ensures) in
+    omega (arith, start-of-after-target-name-arg t (search) .pre)
 
 pub enum-known-r : (t : ℕ) → lts.Need-enum-known-r (calls t) (fun-at t) reads.Post
 enum-known-r t c = search needs
@@ -73,20 +179,20 @@ pub same-length-3 : (t : ℕ) → lts.Need-same-length-3 (calls t) (fun-at t) re
 same-length-3 t c = search needs
 
 pub returns-3 : (t : ℕ) → lts.Need-returns-3 (calls t) (fun-at t) reads.Post
-returns-3 t c = let tk = taken (c .before .before .before .before .before .before .before .before .before .before .before .before .before .before .before .before .before .before .kind .given .1) (c .before .before .before .before .before .before .before .before .before .before .before .before .before .before .before .before .before .before .before .before .look .ensures) in
-    let g = done (c .before .before .before .before .before .before .before .before .before .t .given .1) (c .before .before .before .before .before .before .before .before .before .before .before .before .before .dest .ensures) in
-    let path = way _ (decl-target _ _ tk (c .before .before .before .before .before .before .before .before .before .before .before .before .before .before .before .before .if1 .left)) in
+returns-3 t c = let tk = taken (after-kind-of-after-target-name-arg t (search) .kind .given .1) (after-look-of-after-target-name-arg t (search) .look .ensures) in
+    let g = done (after-t-of-after-target-name-arg t (search) .t .given .1) (after-dest-of-after-target-name-arg t (search) .dest .ensures) in
+    let path = way _ (decl-target _ _ tk (else1-of-after-target-name-arg t (search) .if1 .left)) in
     let on = goes _ path (g .same) in
-    let small = given (target-small (c .before .before .before .before .before .before .before .before .before .before .before .before .before .before .before .before .before .before .before .before .before .before .before .args .depth) _ _) (g .same) in
-    let names = given (target-named _ _ tk (c .before .before .before .before .before .before .before .before .before .before .before .before .before .before .before .before .if1 .left)) (g .same) in
-    let name = c .before .before .before .before .before .before .target-name .ensures (take (c .before .before .before .before .before .before .before .before .before .before .before .before .before .before .before .before .before .before .before .before .before .before .before .args .at) (c .before .before .before .before .before .before .before .before .before .before .before .before .before .before .before .before .before .before .before .before .before .before .before .args .store .now)) (g .what) small (g .text) (λ e. names e .1) in
+    let small = given (target-small (start-of-after-target-name-arg t (search) .args .depth) _ _) (g .same) in
+    let names = given (target-named _ _ tk (else1-of-after-target-name-arg t (search) .if1 .left)) (g .same) in
+    let name = known (After-target-name t) (search) .target-name .ensures (take (start-of-after-target-name-arg t (search) .args .at) (start-of-after-target-name-arg t (search) .args .store .now)) (g .what) small (g .text) (λ e. names e .1) in
     let last = link on (way _ (decl-name _ (g .what) name _ _)) in
-    did-not (fails _ last (undone (c .match3 .keys2) (c .before .before .before .def2 .ensures)) (prefix g (omega (arith, c .before .before .before .before .before .before .before .before .before .before .before .before .before .before .before .before .before .before .before .before .before .before .before .pre))) (omega (arith, c .before .before .before .before .before .before .before .before .before .before .before .before .before .before .before .before .before .before .before .before .before .before .before .pre, g .moved, g .room)))
+    did-not (fails _ last (undone (c .match3 .keys2) (known (After-def2 t) (search) .def2 .ensures)) (prefix g (omega (arith, start-of-after-target-name-arg t (search) .pre))) (omega (arith, start-of-after-target-name-arg t (search) .pre, g .moved, g .room)))
 
 pub emit-requires : (t : ℕ) → lts.Need-emit-requires (calls t) (fun-at t) reads.Post
-emit-requires t c κs = let g = done (c .before .before .before .before .before .before .before .before .before .before .before .before .t .given .1) (c .before .before .before .before .before .before .before .before .before .before .before .before .before .before .before .before .dest .ensures) in
-    let h = done (c .before .before .r .given .1) (c .before .before .before .before .before .before .def2 .ensures) in
-    omega (arith, c .before .before .before .before .before .before .before .before .before .before .before .before .before .before .before .before .before .before .before .before .before .before .before .before .before .before .pre)
+emit-requires t c κs = let g = done (after-t-of-after-r t (search) .t .given .1) (after-dest-of-after-r t (search) .dest .ensures) in
+    let h = done (known (After-r t) (search) .r .given .1) (known (After-def2 t) (search) .def2 .ensures) in
+    omega (arith, start-of-after-r t (search) .pre)
 
 pub enum-known-s : (t : ℕ) → lts.Need-enum-known-s (calls t) (fun-at t) reads.Post
 enum-known-s t c = search needs
@@ -95,17 +201,17 @@ pub same-length-4 : (t : ℕ) → lts.Need-same-length-4 (calls t) (fun-at t) re
 same-length-4 t c = search needs
 
 pub returns-4 : (t : ℕ) → lts.Need-returns-4 (calls t) (fun-at t) reads.Post
-returns-4 t c = let tk = taken (c .before .before .before .before .before .before .before .before .before .before .before .before .before .before .before .before .before .before .before .before .before .before .before .before .kind .given .1) (c .before .before .before .before .before .before .before .before .before .before .before .before .before .before .before .before .before .before .before .before .before .before .before .before .before .before .look .ensures) in
-    let g = done (c .before .before .before .before .before .before .before .before .before .before .before .before .before .before .before .t .given .1) (c .before .before .before .before .before .before .before .before .before .before .before .before .before .before .before .before .before .before .before .dest .ensures) in
-    let h = done (c .before .before .before .before .before .r .given .1) (c .before .before .before .before .before .before .before .before .before .def2 .ensures) in
-    let path = way _ (decl-target _ _ tk (c .before .before .before .before .before .before .before .before .before .before .before .before .before .before .before .before .before .before .before .before .before .before .if1 .left)) in
+returns-4 t c = let tk = taken (after-kind-of-after-r t (search) .kind .given .1) (after-look-of-after-r t (search) .look .ensures) in
+    let g = done (after-t-of-after-r t (search) .t .given .1) (after-dest-of-after-r t (search) .dest .ensures) in
+    let h = done (known (After-r t) (search) .r .given .1) (after-def2-of-after-r t (search) .def2 .ensures) in
+    let path = way _ (decl-target _ _ tk (else1-of-after-r t (search) .if1 .left)) in
     let on = goes _ path (g .same) in
-    let small = given (target-small (c .before .before .before .before .before .before .before .before .before .before .before .before .before .before .before .before .before .before .before .before .before .before .before .before .before .before .before .before .before .args .depth) _ _) (g .same) in
-    let names = given (target-named _ _ tk (c .before .before .before .before .before .before .before .before .before .before .before .before .before .before .before .before .before .before .before .before .before .before .if1 .left)) (g .same) in
-    let name = c .before .before .before .before .before .before .before .before .before .before .before .before .target-name .ensures (take (c .before .before .before .before .before .before .before .before .before .before .before .before .before .before .before .before .before .before .before .before .before .before .before .before .before .before .before .before .before .args .at) (c .before .before .before .before .before .before .before .before .before .before .before .before .before .before .before .before .before .before .before .before .before .before .before .before .before .before .before .before .before .args .store .now)) (g .what) small (g .text) (λ e. names e .1) in
+    let small = given (target-small (start-of-after-r t (search) .args .depth) _ _) (g .same) in
+    let names = given (target-named _ _ tk (else1-of-after-r t (search) .if1 .left)) (g .same) in
+    let name = after-target-name-of-after-r t (search) .target-name .ensures (take (start-of-after-r t (search) .args .at) (start-of-after-r t (search) .args .store .now)) (g .what) small (g .text) (λ e. names e .1) in
     let last = link on (way _ (decl-name _ (g .what) name _ _)) in
-    let e = c .before .before .emit .ensures in
-    record { how = made-two 14 g h e (goes _ last (h .same)) (omega (arith, c .before .before .before .before .before .before .before .before .before .before .before .before .before .before .before .before .before .before .before .before .before .before .before .before .before .before .before .before .before .pre, g .moved, h .moved)) (omega (arith, c .before .before .before .before .before .before .before .before .before .before .before .before .before .before .before .before .before .before .before .before .before .before .before .before .before .before .before .before .before .pre, g .moved, g .room, h .moved, h .room, e .next)) refl }
+    let e = known (After-emit t) (search) .emit .ensures in
+    record { how = made-two 14 g h e (goes _ last (h .same)) (omega (arith, start-of-after-r t (search) .pre, g .moved, h .moved)) (omega (arith, start-of-after-r t (search) .pre, g .moved, g .room, h .moved, h .room, e .next)) refl }
 
 pub returns-5 : (t : ℕ) → lts.Need-returns-5 (calls t) (fun-at t) reads.Post
-returns-5 t c = did-not (blind here (decl-looks _ _ _) (not-taken (c .before .s .given .1) (c .before .before .before .look .ensures)) refl (omega arith))
+returns-5 t c = did-not (blind here (decl-looks _ _ _) (not-taken (known (After-s t) (search) .s .given .1) (known (After-look t) (search) .look .ensures)) refl (omega arith))

@@ -20,10 +20,119 @@ use Rattle.scan.proofs.tokens.expect.Reads as expect-reads
 use Rattle.scan.proofs.tokens.look.Reads as look-reads
 use Rattle.tree.proofs.emit.Reads as emit-reads
 use Rattle.cycle.proofs.+arm+atom+begin+binop+block+body+call+catch+cond+def+dest+dots+each+expr+fun+group+index+item+jump+key+label+lhs+list+loops+param+part+path+prim+rhs+sig+stmt+sync+table+tail+term+tuple+turn+unop+val+whiles.Proof.Below.{group-at, expr-below}
+use Rattle.tree.proofs.Known.{known}
 
 -- what is known of the functions that it calls
 abbrev pub calls : ℕ → lts.Claims
 calls t = (look-reads.Asked, look-reads.Learnt, emit-reads.Asked, emit-reads.Learnt, assign-keyword-reads.Asked, assign-keyword-reads.Learnt, expr-below t, expr-reads.Post, expect-reads.Asked, expect-reads.Learnt, group-end-reads.Asked, group-end-reads.Learnt)
+
+abbrev After-kind : ℕ → Type 0
+After-kind t = lts.After-kind (calls t) (group-at t) reads.Post
+
+abbrev After-look : ℕ → Type 0
+After-look t = lts.After-look (calls t) (group-at t) reads.Post
+
+abbrev After-emit : ℕ → Type 0
+After-emit t = lts.After-emit (calls t) (group-at t) reads.Post
+
+abbrev Then1 : ℕ → Type 0
+Then1 t = lts.Then1 (calls t) (group-at t) reads.Post
+
+abbrev After-p : ℕ → Type 0
+After-p t = lts.After-p (calls t) (group-at t) reads.Post
+
+abbrev After-assign-keyword : ℕ → Type 0
+After-assign-keyword t = lts.After-assign-keyword (calls t) (group-at t) reads.Post
+
+abbrev After-slice-known3 : ℕ → Type 0
+After-slice-known3 t = lts.After-slice-known3 (calls t) (group-at t) reads.Post
+
+abbrev Else1 : ℕ → Type 0
+Else1 t = lts.Else1 (calls t) (group-at t) reads.Post
+
+abbrev After-expr : ℕ → Type 0
+After-expr t = lts.After-expr (calls t) (group-at t) reads.Post
+
+abbrev After-r : ℕ → Type 0
+After-r t = lts.After-r (calls t) (group-at t) reads.Post
+
+abbrev After-expect : ℕ → Type 0
+After-expect t = lts.After-expect (calls t) (group-at t) reads.Post
+
+abbrev Start : ℕ → Type 0
+Start t = lts.Start (calls t) (group-at t) reads.Post
+
+abbrev After-s : ℕ → Type 0
+After-s t = lts.After-s (calls t) (group-at t) reads.Post
+
+abbrev After-group-end-arg : ℕ → Type 0
+After-group-end-arg t = lts.After-group-end-arg (calls t) (group-at t) reads.Post
+
+abbrev After-group-end : ℕ → Type 0
+After-group-end t = lts.After-group-end (calls t) (group-at t) reads.Post
+
+abbrev After-s2 : ℕ → Type 0
+After-s2 t = lts.After-s2 (calls t) (group-at t) reads.Post
+
+abbrev After-s3 : ℕ → Type 0
+After-s3 t = lts.After-s3 (calls t) (group-at t) reads.Post
+
+abbrev after-kind-of-after-assign-keyword : (t : ℕ) → After-assign-keyword t → After-kind t
+after-kind-of-after-assign-keyword t c = search
+
+abbrev after-kind-of-after-slice-known3 : (t : ℕ) → After-slice-known3 t → After-kind t
+after-kind-of-after-slice-known3 t c = after-kind-of-after-assign-keyword t (search)
+
+abbrev after-look-of-after-assign-keyword : (t : ℕ) → After-assign-keyword t → After-look t
+after-look-of-after-assign-keyword t c = search
+
+abbrev after-look-of-after-slice-known3 : (t : ℕ) → After-slice-known3 t → After-look t
+after-look-of-after-slice-known3 t c = after-look-of-after-assign-keyword t (search)
+
+abbrev after-assign-keyword-of-after-slice-known3 : (t : ℕ) → After-slice-known3 t → After-assign-keyword t
+after-assign-keyword-of-after-slice-known3 t c = search
+
+abbrev else1-of-after-assign-keyword : (t : ℕ) → After-assign-keyword t → Else1 t
+else1-of-after-assign-keyword t c = search
+
+abbrev else1-of-after-slice-known3 : (t : ℕ) → After-slice-known3 t → Else1 t
+else1-of-after-slice-known3 t c = else1-of-after-assign-keyword t (search)
+
+abbrev after-p-of-after-slice-known3 : (t : ℕ) → After-slice-known3 t → After-p t
+after-p-of-after-slice-known3 t c = search
+
+abbrev start-of-after-assign-keyword : (t : ℕ) → After-assign-keyword t → Start t
+start-of-after-assign-keyword t c = search
+
+abbrev start-of-after-slice-known3 : (t : ℕ) → After-slice-known3 t → Start t
+start-of-after-slice-known3 t c = start-of-after-assign-keyword t (search)
+
+abbrev after-expr-of-after-slice-known3 : (t : ℕ) → After-slice-known3 t → After-expr t
+after-expr-of-after-slice-known3 t c = search
+
+abbrev after-kind-of-after-group-end-arg : (t : ℕ) → After-group-end-arg t → After-kind t
+after-kind-of-after-group-end-arg t c = after-kind-of-after-slice-known3 t (search)
+
+abbrev after-look-of-after-group-end-arg : (t : ℕ) → After-group-end-arg t → After-look t
+after-look-of-after-group-end-arg t c = after-look-of-after-slice-known3 t (search)
+
+abbrev after-p-of-after-group-end-arg : (t : ℕ) → After-group-end-arg t → After-p t
+after-p-of-after-group-end-arg t c = after-p-of-after-slice-known3 t (search)
+
+abbrev after-assign-keyword-of-after-group-end-arg : (t : ℕ) → After-group-end-arg t → After-assign-keyword t
+after-assign-keyword-of-after-group-end-arg t c = after-assign-keyword-of-after-slice-known3 t (search)
+
+abbrev else1-of-after-group-end-arg : (t : ℕ) → After-group-end-arg t → Else1 t
+else1-of-after-group-end-arg t c = else1-of-after-slice-known3 t (search)
+
+abbrev after-r-of-after-group-end-arg : (t : ℕ) → After-group-end-arg t → After-r t
+after-r-of-after-group-end-arg t c = search
+
+abbrev after-expr-of-after-group-end-arg : (t : ℕ) → After-group-end-arg t → After-expr t
+after-expr-of-after-group-end-arg t c = after-expr-of-after-slice-known3 t (search)
+
+abbrev start-of-after-group-end-arg : (t : ℕ) → After-group-end-arg t → Start t
+start-of-after-group-end-arg t c = start-of-after-slice-known3 t (search)
 
 pub look-requires : (t : ℕ) → lts.Need-look-requires (calls t) (group-at t) reads.Post
 look-requires t c κs = search needs
@@ -32,19 +141,19 @@ pub enum-known-kind : (t : ℕ) → lts.Need-enum-known-kind (calls t) (group-at
 enum-known-kind t c = search needs
 
 pub add-t22 : (t : ℕ) → lts.Need-add-t22 (calls t) (group-at t) reads.Post
-add-t22 t c = let tk = taken (c .before .before .kind .given .1) (c .before .before .before .before .look .ensures) in
+add-t22 t c = let tk = taken (known (After-kind t) (search) .kind .given .1) (known (After-look t) (search) .look .ensures) in
     omega arith
 
 pub emit-requires : (t : ℕ) → lts.Need-emit-requires (calls t) (group-at t) reads.Post
-emit-requires t c κs = let tk = taken (c .before .before .before .kind .given .1) (c .before .before .before .before .before .look .ensures) in
+emit-requires t c κs = let tk = taken (known (After-kind t) (search) .kind .given .1) (known (After-look t) (search) .look .ensures) in
     omega arith
 
 pub same-length : (t : ℕ) → lts.Need-same-length (calls t) (group-at t) reads.Post
 same-length t c = search needs
 
 pub returns : (t : ℕ) → lts.Need-returns (calls t) (group-at t) reads.Post
-returns t c = let tk = taken (c .before .before .before .before .before .before .kind .given .1) (c .before .before .before .before .before .before .before .before .look .ensures) in
-    record { how = made-none 30 (c .before .before .emit .ensures) (way _ (group-empty _ _ tk (c .before .before .before .before .if1 .taken))) (omega arith) (omega arith) refl }
+returns t c = let tk = taken (known (After-kind t) (search) .kind .given .1) (known (After-look t) (search) .look .ensures) in
+    record { how = made-none 30 (known (After-emit t) (search) .emit .ensures) (way _ (group-empty _ _ tk (known (Then1 t) (search) .if1 .taken))) (omega arith) (omega arith) refl }
 
 pub assign-keyword-requires : (t : ℕ) → lts.Need-assign-keyword-requires (calls t) (group-at t) reads.Post
 assign-keyword-requires t c κs = search needs
@@ -53,7 +162,7 @@ pub enum-known-p : (t : ℕ) → lts.Need-enum-known-p (calls t) (group-at t) re
 enum-known-p t c = search needs
 
 pub expr-requires : (t : ℕ) → lts.Need-expr-requires (calls t) (group-at t) reads.Post
-expr-requires t c κs = let x = found (c .before .before .before .p .given .1) (c .before .before .before .before .before .assign-keyword .ensures) in
+expr-requires t c κs = let x = found (known (After-p t) (search) .p .given .1) (known (After-assign-keyword t) (search) .assign-keyword .ensures) in
     let xo = x .got .on in
     let xw = x .got .within in
     omega arith
@@ -65,16 +174,16 @@ pub same-length-2 : (t : ℕ) → lts.Need-same-length-2 (calls t) (group-at t) 
 same-length-2 t c = search needs
 
 pub returns-2 : (t : ℕ) → lts.Need-returns-2 (calls t) (group-at t) reads.Post
-returns-2 t c = let tk = taken (c .before .before .before .before .before .before .before .before .before .before .before .before .kind .given .1) (c .before .before .before .before .before .before .before .before .before .before .before .before .before .before .look .ensures) in
-    let x = found (c .before .before .before .before .before .before .before .p .given .1) (c .before .before .before .before .before .before .before .before .before .assign-keyword .ensures) in
+returns-2 t c = let tk = taken (after-kind-of-after-slice-known3 t (search) .kind .given .1) (after-look-of-after-slice-known3 t (search) .look .ensures) in
+    let x = found (known (After-p t) (search) .p .given .1) (after-assign-keyword-of-after-slice-known3 t (search) .assign-keyword .ensures) in
     let xo = x .got .on in
     let xw = x .got .within in
-    let path = way _ (group-more _ _ tk (c .before .before .before .before .before .before .before .before .before .before .if1 .left)) in
+    let path = way _ (group-more _ _ tk (else1-of-after-slice-known3 t (search) .if1 .left)) in
     let s0 = told _ x path in
-    did-not (fails _ s0 (undone (c .match3 .keys2) (c .before .before .before .expr .ensures)) refl (omega arith))
+    did-not (fails _ s0 (undone (c .match3 .keys2) (known (After-expr t) (search) .expr .ensures)) refl (omega arith))
 
 pub expect-requires : (t : ℕ) → lts.Need-expect-requires (calls t) (group-at t) reads.Post
-expect-requires t c κs = let w = done (c .before .r .given .1) (c .before .before .before .before .before .expr .ensures) in
+expect-requires t c κs = let w = done (known (After-r t) (search) .r .given .1) (known (After-expr t) (search) .expr .ensures) in
     w .moved .within
 
 pub enum-known-s : (t : ℕ) → lts.Need-enum-known-s (calls t) (group-at t) reads.Post
@@ -84,27 +193,27 @@ pub same-length-3 : (t : ℕ) → lts.Need-same-length-3 (calls t) (group-at t) 
 same-length-3 t c = search needs
 
 pub returns-3 : (t : ℕ) → lts.Need-returns-3 (calls t) (group-at t) reads.Post
-returns-3 t c = let tk = taken (c .before .before .before .before .before .before .before .before .before .before .before .before .before .before .before .before .kind .given .1) (c .before .before .before .before .before .before .before .before .before .before .before .before .before .before .before .before .before .before .look .ensures) in
-    let x = found (c .before .before .before .before .before .before .before .before .before .before .before .p .given .1) (c .before .before .before .before .before .before .before .before .before .before .before .before .before .assign-keyword .ensures) in
+returns-3 t c = let tk = taken (after-kind-of-after-slice-known3 t (search) .kind .given .1) (after-look-of-after-slice-known3 t (search) .look .ensures) in
+    let x = found (after-p-of-after-slice-known3 t (search) .p .given .1) (after-assign-keyword-of-after-slice-known3 t (search) .assign-keyword .ensures) in
     let xo = x .got .on in
     let xw = x .got .within in
-    let path = way _ (group-more _ _ tk (c .before .before .before .before .before .before .before .before .before .before .before .before .before .before .if1 .left)) in
+    let path = way _ (group-more _ _ tk (else1-of-after-slice-known3 t (search) .if1 .left)) in
     let s0 = told _ x path in
-    let w = done (c .before .before .before .r .given .1) (c .before .before .before .before .before .before .before .expr .ensures) in
+    let w = done (known (After-r t) (search) .r .given .1) (known (After-expr t) (search) .expr .ensures) in
     let s1 = goes _ s0 (w .same) in
-    did-not (lacks _ (unpassed (c .match4 .keys2) (c .before .expect .ensures)) s1 (prefix w (omega (arith, c .before .before .before .before .before .before .before .before .before .before .before .before .before .before .before .before .before .before .before .before .before .pre))) (omega (arith, c .before .before .before .before .before .before .before .before .before .before .before .before .before .before .before .before .before .before .before .before .before .pre, w .moved, xo)))
+    did-not (lacks _ (unpassed (c .match4 .keys2) (known (After-expect t) (search) .expect .ensures)) s1 (prefix w (omega (arith, start-of-after-slice-known3 t (search) .pre))) (omega (arith, start-of-after-slice-known3 t (search) .pre, w .moved, xo)))
 
 pub group-end-requires : (t : ℕ) → lts.Need-group-end-requires (calls t) (group-at t) reads.Post
-group-end-requires t c κs = let tk = taken (c .before .before .before .before .before .before .before .before .before .before .before .before .before .before .before .before .before .before .before .kind .given .1) (c .before .before .before .before .before .before .before .before .before .before .before .before .before .before .before .before .before .before .before .before .before .look .ensures) in
-    let x = found (c .before .before .before .before .before .before .before .before .before .before .before .before .before .before .p .given .1) (c .before .before .before .before .before .before .before .before .before .before .before .before .before .before .before .before .assign-keyword .ensures) in
+group-end-requires t c κs = let tk = taken (after-kind-of-after-slice-known3 t (search) .kind .given .1) (after-look-of-after-slice-known3 t (search) .look .ensures) in
+    let x = found (after-p-of-after-slice-known3 t (search) .p .given .1) (after-assign-keyword-of-after-slice-known3 t (search) .assign-keyword .ensures) in
     let xo = x .got .on in
     let xw = x .got .within in
-    let w = done (c .before .before .before .before .before .before .r .given .1) (c .before .before .before .before .before .before .before .before .before .before .expr .ensures) in
-    let y = passed (c .before .before .s .given .1) (c .before .before .before .before .expect .ensures) in
+    let w = done (known (After-r t) (search) .r .given .1) (after-expr-of-after-slice-known3 t (search) .expr .ensures) in
+    let y = passed (known (After-s t) (search) .s .given .1) (known (After-expect t) (search) .expect .ensures) in
     let yo = y .got .on in
     let yw = y .got .within in
-    let h = taller w (omega (arith, c .before .before .before .before .before .before .before .before .before .before .before .before .before .before .before .before .before .before .before .before .before .before .before .before .pre)) in
-    omega (arith, c .before .before .before .before .before .before .before .before .before .before .before .before .before .before .before .before .before .before .before .before .before .before .before .before .pre, h, w .moved, w .room, xo, yo, yw, x .below, c .before .before .before .before .before .before .before .before .before .before .expr .kept .1 .0)
+    let h = taller w (omega (arith, start-of-after-slice-known3 t (search) .pre)) in
+    omega (arith, start-of-after-slice-known3 t (search) .pre, h, w .moved, w .room, xo, yo, yw, x .below, after-expr-of-after-slice-known3 t (search) .expr .kept .1 .0)
 
 pub enum-known-s-2 : (t : ℕ) → lts.Need-enum-known-s-2 (calls t) (group-at t) reads.Post
 enum-known-s-2 t c = search needs
@@ -116,24 +225,24 @@ pub same-length-4 : (t : ℕ) → lts.Need-same-length-4 (calls t) (group-at t) 
 same-length-4 t c = search needs
 
 pub returns-4 : (t : ℕ) → lts.Need-returns-4 (calls t) (group-at t) reads.Post
-returns-4 t c = let tk = taken (c .before .before .before .before .before .before .before .before .before .before .before .before .before .before .before .before .before .before .before .before .before .before .kind .given .1) (c .before .before .before .before .before .before .before .before .before .before .before .before .before .before .before .before .before .before .before .before .before .before .before .before .look .ensures) in
-    let x = found (c .before .before .before .before .before .before .before .before .before .before .before .before .before .before .before .before .before .p .given .1) (c .before .before .before .before .before .before .before .before .before .before .before .before .before .before .before .before .before .before .before .assign-keyword .ensures) in
+returns-4 t c = let tk = taken (after-kind-of-after-group-end-arg t (search) .kind .given .1) (after-look-of-after-group-end-arg t (search) .look .ensures) in
+    let x = found (after-p-of-after-group-end-arg t (search) .p .given .1) (after-assign-keyword-of-after-group-end-arg t (search) .assign-keyword .ensures) in
     let xo = x .got .on in
     let xw = x .got .within in
-    let path = way _ (group-more _ _ tk (c .before .before .before .before .before .before .before .before .before .before .before .before .before .before .before .before .before .before .before .before .if1 .left)) in
+    let path = way _ (group-more _ _ tk (else1-of-after-group-end-arg t (search) .if1 .left)) in
     let s0 = told _ x path in
-    let w = done (c .before .before .before .before .before .before .before .before .before .r .given .1) (c .before .before .before .before .before .before .before .before .before .before .before .before .before .expr .ensures) in
+    let w = done (after-r-of-after-group-end-arg t (search) .r .given .1) (after-expr-of-after-group-end-arg t (search) .expr .ensures) in
     let s1 = goes _ s0 (w .same) in
-    let y = passed (c .before .before .before .before .before .s .given .1) (c .before .before .before .before .before .before .before .expect .ensures) in
+    let y = passed (known (After-s t) (search) .s .given .1) (known (After-expect t) (search) .expect .ensures) in
     let yo = y .got .on in
     let yw = y .got .within in
-    let e = c .before .before .group-end .ensures in
-    record { how = remade w e (shape-small (given (expr-shape _ _ _) (w .same))) (gets _ (y .got) s1) (omega (arith, c .before .before .before .before .before .before .before .before .before .before .before .before .before .before .before .before .before .before .before .before .before .before .before .before .before .before .before .pre, w .moved, xo, yo, yw)) (omega (arith, c .before .before .before .before .before .before .before .before .before .before .before .before .before .before .before .before .before .before .before .before .before .before .before .before .before .before .before .pre, w .moved, w .room, xo, yo, yw, e .up, e .far)) }
+    let e = known (After-group-end t) (search) .group-end .ensures in
+    record { how = remade w e (shape-small (given (expr-shape _ _ _) (w .same))) (gets _ (y .got) s1) (omega (arith, start-of-after-group-end-arg t (search) .pre, w .moved, xo, yo, yw)) (omega (arith, start-of-after-group-end-arg t (search) .pre, w .moved, w .room, xo, yo, yw, e .up, e .far)) }
 
 pub returns-5 : (t : ℕ) → lts.Need-returns-5 (calls t) (group-at t) reads.Post
-returns-5 t c = let tk = taken (c .before .before .before .before .before .before .kind .given .1) (c .before .before .before .before .before .before .before .before .look .ensures) in
-    let path = way _ (group-more _ _ tk (c .before .before .before .before .if1 .left)) in
-    did-not (lacks _ (unfound (c .before .s2 .given .1) (c .before .before .before .assign-keyword .ensures)) path refl (omega arith))
+returns-5 t c = let tk = taken (known (After-kind t) (search) .kind .given .1) (known (After-look t) (search) .look .ensures) in
+    let path = way _ (group-more _ _ tk (known (Else1 t) (search) .if1 .left)) in
+    did-not (lacks _ (unfound (known (After-s2 t) (search) .s2 .given .1) (known (After-assign-keyword t) (search) .assign-keyword .ensures)) path refl (omega arith))
 
 pub returns-6 : (t : ℕ) → lts.Need-returns-6 (calls t) (group-at t) reads.Post
-returns-6 t c = did-not (blind here (group-looks _ _ _) (not-taken (c .before .s3 .given .1) (c .before .before .before .look .ensures)) refl (omega arith))
+returns-6 t c = did-not (blind here (group-looks _ _ _) (not-taken (known (After-s3 t) (search) .s3 .given .1) (known (After-look t) (search) .look .ensures)) refl (omega arith))

@@ -14,10 +14,26 @@ use Rattle.cycle.proofs.+arm+atom+begin+binop+block+body+call+catch+con
 use Rattle.cycle.proofs.expr.Reads as expr-reads
 use Rattle.scan.proofs.tokens.expect.Reads as expect-reads
 use Rattle.cycle.proofs.+arm+atom+begin+binop+block+body+call+catch+cond+def+dest+dots+each+expr+fun+group+index+item+jump+key+label+lhs+list+loops+param+part+path+prim+rhs+sig+stmt+sync+table+tail+term+tuple+turn+unop+val+whiles.Proof.Below.{index-at, expr-below}
+use Rattle.tree.proofs.Known.{known}
 
 -- what is known of the functions that it calls
 abbrev pub calls : ℕ → lts.Claims
 calls t = (expr-below t, expr-reads.Post, expect-reads.Asked, expect-reads.Learnt)
+
+abbrev After-expr : ℕ → Type 0
+After-expr t = lts.After-expr (calls t) (index-at t) reads.Post
+
+abbrev After-r : ℕ → Type 0
+After-r t = lts.After-r (calls t) (index-at t) reads.Post
+
+abbrev At-match-keys1 : ℕ → Type 0
+At-match-keys1 t = lts.At-match-keys1 (calls t) (index-at t) reads.Post
+
+abbrev Start : ℕ → Type 0
+Start t = lts.Start (calls t) (index-at t) reads.Post
+
+abbrev start-of-at-match-keys1 : (t : ℕ) → At-match-keys1 t → Start t
+start-of-at-match-keys1 t c = search
 
 pub expr-requires : (t : ℕ) → lts.Need-expr-requires (calls t) (index-at t) reads.Post
 expr-requires t c κs = omega arith
@@ -29,16 +45,16 @@ pub same-length : (t : ℕ) → lts.Need-same-length (calls t) (index-at t) read
 same-length t c = search needs
 
 pub returns : (t : ℕ) → lts.Need-returns (calls t) (index-at t) reads.Post
-returns t c = did-not (fails _ (way _ (index-step _ _ _)) (undone (c .match .keys2) (c .before .before .before .expr .ensures)) refl (omega arith))
+returns t c = did-not (fails _ (way _ (index-step _ _ _)) (undone (c .match .keys2) (known (After-expr t) (search) .expr .ensures)) refl (omega arith))
 
 pub expect-requires : (t : ℕ) → lts.Need-expect-requires (calls t) (index-at t) reads.Post
-expect-requires t c κs = let w = done (c .before .r .given .1) (c .before .before .before .before .before .expr .ensures) in
+expect-requires t c κs = let w = done (known (After-r t) (search) .r .given .1) (known (After-expr t) (search) .expr .ensures) in
     w .moved .within
 
 pub same-length-2 : (t : ℕ) → lts.Need-same-length-2 (calls t) (index-at t) reads.Post
 same-length-2 t c = search needs
 
 pub returns-2 : (t : ℕ) → lts.Need-returns-2 (calls t) (index-at t) reads.Post
-returns-2 t c = let w = done (c .before .before .r .given .1) (c .before .before .before .before .before .before .expr .ensures) in
+returns-2 t c = let w = done (known (After-r t) (search) .r .given .1) (known (After-expr t) (search) .expr .ensures) in
     let on = goes _ (way _ (index-step _ _ _)) (w .same) in
-    closed-by w (omega (arith, c .before .before .before .before .before .before .before .before .before .before .before .pre)) on (c .expect .ensures) (omega arith) (omega arith)
+    closed-by w (omega (arith, start-of-at-match-keys1 t (search) .pre)) on (c .expect .ensures) (omega arith) (omega arith)

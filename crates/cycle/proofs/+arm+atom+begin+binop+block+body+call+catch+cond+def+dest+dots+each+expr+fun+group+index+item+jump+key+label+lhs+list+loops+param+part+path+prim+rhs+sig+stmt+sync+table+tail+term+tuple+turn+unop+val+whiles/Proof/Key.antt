@@ -15,10 +15,80 @@ use Rattle.nodes.proofs.fields.named_field.Reads as named-field-reads
 use Rattle.scan.proofs.tokens.look.Reads as look-reads
 use Rattle.tree.proofs.emit.Reads as emit-reads
 use Rattle.cycle.proofs.+arm+atom+begin+binop+block+body+call+catch+cond+def+dest+dots+each+expr+fun+group+index+item+jump+key+label+lhs+list+loops+param+part+path+prim+rhs+sig+stmt+sync+table+tail+term+tuple+turn+unop+val+whiles.Proof.Below.{key-at, index-below}
+use Rattle.tree.proofs.Known.{known}
 
 -- what is known of the functions that it calls
 abbrev pub calls : ℕ → lts.Claims
 calls t = (look-reads.Asked, look-reads.Learnt, named-field-reads.Asked, named-field-reads.Learnt, index-below t, index-reads.Post, emit-reads.Asked, emit-reads.Learnt)
+
+abbrev After-kind : ℕ → Type 0
+After-kind t = lts.After-kind (calls t) (key-at t) reads.Post
+
+abbrev After-look : ℕ → Type 0
+After-look t = lts.After-look (calls t) (key-at t) reads.Post
+
+abbrev After-named-field : ℕ → Type 0
+After-named-field t = lts.After-named-field (calls t) (key-at t) reads.Post
+
+abbrev Then1 : ℕ → Type 0
+Then1 t = lts.Then1 (calls t) (key-at t) reads.Post
+
+abbrev After-named-field-arg : ℕ → Type 0
+After-named-field-arg t = lts.After-named-field-arg (calls t) (key-at t) reads.Post
+
+abbrev Start : ℕ → Type 0
+Start t = lts.Start (calls t) (key-at t) reads.Post
+
+abbrev After-index-arg : ℕ → Type 0
+After-index-arg t = lts.After-index-arg (calls t) (key-at t) reads.Post
+
+abbrev Else1 : ℕ → Type 0
+Else1 t = lts.Else1 (calls t) (key-at t) reads.Post
+
+abbrev After-index : ℕ → Type 0
+After-index t = lts.After-index (calls t) (key-at t) reads.Post
+
+abbrev After-r : ℕ → Type 0
+After-r t = lts.After-r (calls t) (key-at t) reads.Post
+
+abbrev After-emit-arg : ℕ → Type 0
+After-emit-arg t = lts.After-emit-arg (calls t) (key-at t) reads.Post
+
+abbrev After-emit : ℕ → Type 0
+After-emit t = lts.After-emit (calls t) (key-at t) reads.Post
+
+abbrev After-s : ℕ → Type 0
+After-s t = lts.After-s (calls t) (key-at t) reads.Post
+
+abbrev start-of-after-named-field-arg : (t : ℕ) → After-named-field-arg t → Start t
+start-of-after-named-field-arg t c = search
+
+abbrev after-look-of-after-index-arg : (t : ℕ) → After-index-arg t → After-look t
+after-look-of-after-index-arg t c = search
+
+abbrev after-kind-of-after-index-arg : (t : ℕ) → After-index-arg t → After-kind t
+after-kind-of-after-index-arg t c = search
+
+abbrev start-of-after-index-arg : (t : ℕ) → After-index-arg t → Start t
+start-of-after-index-arg t c = search
+
+abbrev after-kind-of-after-emit-arg : (t : ℕ) → After-emit-arg t → After-kind t
+after-kind-of-after-emit-arg t c = after-kind-of-after-index-arg t (search)
+
+abbrev after-look-of-after-emit-arg : (t : ℕ) → After-emit-arg t → After-look t
+after-look-of-after-emit-arg t c = after-look-of-after-index-arg t (search)
+
+abbrev else1-of-after-index-arg : (t : ℕ) → After-index-arg t → Else1 t
+else1-of-after-index-arg t c = search
+
+abbrev else1-of-after-emit-arg : (t : ℕ) → After-emit-arg t → Else1 t
+else1-of-after-emit-arg t c = else1-of-after-index-arg t (search)
+
+abbrev after-index-of-after-emit-arg : (t : ℕ) → After-emit-arg t → After-index t
+after-index-of-after-emit-arg t c = search
+
+abbrev start-of-after-emit-arg : (t : ℕ) → After-emit-arg t → Start t
+start-of-after-emit-arg t c = start-of-after-index-arg t (search)
 
 pub look-requires : (t : ℕ) → lts.Need-look-requires (calls t) (key-at t) reads.Post
 look-requires t c κs = search needs
@@ -27,26 +97,26 @@ pub enum-known-kind : (t : ℕ) → lts.Need-enum-known-kind (calls t) (key-at t
 enum-known-kind t c = search needs
 
 pub add-named-field : (t : ℕ) → lts.Need-add-named-field (calls t) (key-at t) reads.Post
-add-named-field t c = let tk = taken (c .before .before .before .kind .given .1) (c .before .before .before .before .before .look .ensures) in
+add-named-field t c = let tk = taken (known (After-kind t) (search) .kind .given .1) (known (After-look t) (search) .look .ensures) in
     omega arith
 
 pub named-field-requires : (t : ℕ) → lts.Need-named-field-requires (calls t) (key-at t) reads.Post
-named-field-requires t c κs = let tk = taken (c .before .before .before .kind .given .1) (c .before .before .before .before .before .look .ensures) in
+named-field-requires t c κs = let tk = taken (known (After-kind t) (search) .kind .given .1) (known (After-look t) (search) .look .ensures) in
     (omega arith, omega arith, λ e. name-small (tk .fits) e)
 
 pub same-length : (t : ℕ) → lts.Need-same-length (calls t) (key-at t) reads.Post
 same-length t c = search needs
 
 pub returns : (t : ℕ) → lts.Need-returns (calls t) (key-at t) reads.Post
-returns t c = let tk = taken (c .before .before .before .before .before .before .kind .given .1) (c .before .before .before .before .before .before .before .before .look .ensures) in
-    writing (c .before .before .named-field .ensures) (way _ (field-named _ _ tk (c .before .before .before .before .if1 .taken))) refl (omega (arith, c .before .before .before .before .before .before .before .before .before .before .before .pre, tk .within)) (omega (arith, c .before .before .before .before .before .before .before .before .before .before .before .pre)) (omega (arith, c .before .before .before .before .before .before .before .before .before .before .before .pre, tk .within, c .before .before .named-field .kept .1 .0)) (omega arith)
+returns t c = let tk = taken (known (After-kind t) (search) .kind .given .1) (known (After-look t) (search) .look .ensures) in
+    writing (known (After-named-field t) (search) .named-field .ensures) (way _ (field-named _ _ tk (known (Then1 t) (search) .if1 .taken))) refl (omega (arith, start-of-after-named-field-arg t (search) .pre, tk .within)) (omega (arith, start-of-after-named-field-arg t (search) .pre)) (omega (arith, start-of-after-named-field-arg t (search) .pre, tk .within, known (After-named-field t) (search) .named-field .kept .1 .0)) (omega arith)
 
 pub add-index : (t : ℕ) → lts.Need-add-index (calls t) (key-at t) reads.Post
-add-index t c = let tk = taken (c .before .before .before .before .kind .given .1) (c .before .before .before .before .before .before .look .ensures) in
+add-index t c = let tk = taken (known (After-kind t) (search) .kind .given .1) (known (After-look t) (search) .look .ensures) in
     omega arith
 
 pub index-requires : (t : ℕ) → lts.Need-index-requires (calls t) (key-at t) reads.Post
-index-requires t c κs = let tk = taken (c .before .before .before .before .kind .given .1) (c .before .before .before .before .before .before .look .ensures) in
+index-requires t c κs = let tk = taken (known (After-kind t) (search) .kind .given .1) (known (After-look t) (search) .look .ensures) in
     omega arith
 
 pub enum-known-r : (t : ℕ) → lts.Need-enum-known-r (calls t) (key-at t) reads.Post
@@ -56,14 +126,14 @@ pub same-length-2 : (t : ℕ) → lts.Need-same-length-2 (calls t) (key-at t) re
 same-length-2 t c = search needs
 
 pub returns-2 : (t : ℕ) → lts.Need-returns-2 (calls t) (key-at t) reads.Post
-returns-2 t c = let tk = taken (c .before .before .before .before .before .before .before .before .kind .given .1) (c .before .before .before .before .before .before .before .before .before .before .look .ensures) in
-    let path = way _ (field-square _ _ tk (c .before .before .before .before .before .before .if1 .left)) in
-    did-not (fails _ path (undone (c .match2 .keys2) (c .before .before .before .index .ensures)) refl (omega arith))
+returns-2 t c = let tk = taken (known (After-kind t) (search) .kind .given .1) (after-look-of-after-index-arg t (search) .look .ensures) in
+    let path = way _ (field-square _ _ tk (known (Else1 t) (search) .if1 .left)) in
+    did-not (fails _ path (undone (c .match2 .keys2) (known (After-index t) (search) .index .ensures)) refl (omega arith))
 
 pub emit-requires : (t : ℕ) → lts.Need-emit-requires (calls t) (key-at t) reads.Post
-emit-requires t c κs = let tk = taken (c .before .before .before .before .before .before .before .before .before .before .before .kind .given .1) (c .before .before .before .before .before .before .before .before .before .before .before .before .before .look .ensures) in
-    let w = done (c .before .before .r .given .1) (c .before .before .before .before .before .before .index .ensures) in
-    omega (arith, c .before .before .before .before .before .before .before .before .before .before .before .before .before .before .before .before .pre, tk .within, w .moved, w .room, c .before .before .before .before .before .before .index .kept .1 .0)
+emit-requires t c κs = let tk = taken (after-kind-of-after-index-arg t (search) .kind .given .1) (after-look-of-after-index-arg t (search) .look .ensures) in
+    let w = done (known (After-r t) (search) .r .given .1) (known (After-index t) (search) .index .ensures) in
+    omega (arith, start-of-after-index-arg t (search) .pre, tk .within, w .moved, w .room, known (After-index t) (search) .index .kept .1 .0)
 
 pub enum-known-s : (t : ℕ) → lts.Need-enum-known-s (calls t) (key-at t) reads.Post
 enum-known-s t c = search needs
@@ -72,10 +142,10 @@ pub same-length-3 : (t : ℕ) → lts.Need-same-length-3 (calls t) (key-at t) re
 same-length-3 t c = search needs
 
 pub returns-3 : (t : ℕ) → lts.Need-returns-3 (calls t) (key-at t) reads.Post
-returns-3 t c = let tk = taken (c .before .before .before .before .before .before .before .before .before .before .before .before .before .before .kind .given .1) (c .before .before .before .before .before .before .before .before .before .before .before .before .before .before .before .before .look .ensures) in
-    let path = way _ (field-square _ _ tk (c .before .before .before .before .before .before .before .before .before .before .before .before .if1 .left)) in
-    let w = done (c .before .before .before .before .before .r .given .1) (c .before .before .before .before .before .before .before .before .before .index .ensures) in
-    record { how = made-one 28 w (c .before .before .emit .ensures) (goes _ path (w .same)) (omega (arith, c .before .before .before .before .before .before .before .before .before .before .before .before .before .before .before .before .before .before .before .pre, tk .within, w .moved)) (omega (arith, w .room, c .before .before .emit .ensures .next)) refl }
+returns-3 t c = let tk = taken (after-kind-of-after-emit-arg t (search) .kind .given .1) (after-look-of-after-emit-arg t (search) .look .ensures) in
+    let path = way _ (field-square _ _ tk (else1-of-after-emit-arg t (search) .if1 .left)) in
+    let w = done (known (After-r t) (search) .r .given .1) (after-index-of-after-emit-arg t (search) .index .ensures) in
+    record { how = made-one 28 w (known (After-emit t) (search) .emit .ensures) (goes _ path (w .same)) (omega (arith, start-of-after-emit-arg t (search) .pre, tk .within, w .moved)) (omega (arith, w .room, known (After-emit t) (search) .emit .ensures .next)) refl }
 
 pub returns-4 : (t : ℕ) → lts.Need-returns-4 (calls t) (key-at t) reads.Post
-returns-4 t c = did-not (blind here (field-looks _ _ _) (not-taken (c .before .s .given .1) (c .before .before .before .look .ensures)) refl (omega arith))
+returns-4 t c = did-not (blind here (field-looks _ _ _) (not-taken (known (After-s t) (search) .s .given .1) (known (After-look t) (search) .look .ensures)) refl (omega arith))

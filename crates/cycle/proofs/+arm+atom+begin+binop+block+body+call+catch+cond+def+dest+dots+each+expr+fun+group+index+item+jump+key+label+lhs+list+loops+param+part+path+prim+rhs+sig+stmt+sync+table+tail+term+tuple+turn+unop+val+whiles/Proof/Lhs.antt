@@ -18,10 +18,86 @@ use Rattle.scan.proofs.tokens.assign_keyword.Reads as assign-keyword-reads
 use Rattle.cycle.proofs.+arm+atom+begin+binop+block+body+call+catch+cond+def+dest+dots+each+expr+fun+group+index+item+jump+key+label+lhs+list+loops+param+part+path+prim+rhs+sig+stmt+sync+table+tail+term+tuple+turn+unop+val+whiles.Proof.Below.{lhs-at, tuple-below}
 use Rattle.cycle.proofs.Shapes.{given}
 use Rattle.cycle.proofs.Writing.{stored, unstored}
+use Rattle.tree.proofs.Known.{known}
 
 -- what is known of the functions that it calls
 abbrev pub calls : ℕ → lts.Claims
 calls t = (assign-keyword-reads.Asked, assign-keyword-reads.Learnt, tuple-below t, tuple-reads.Post, expect-pattern-reads.Asked, expect-pattern-reads.Learnt, modified-reads.Asked, modified-reads.Learnt)
+
+abbrev After-p : ℕ → Type 0
+After-p t = lts.After-p (calls t) (lhs-at t) reads.Post
+
+abbrev After-assign-keyword : ℕ → Type 0
+After-assign-keyword t = lts.After-assign-keyword (calls t) (lhs-at t) reads.Post
+
+abbrev After-tuple-arg2 : ℕ → Type 0
+After-tuple-arg2 t = lts.After-tuple-arg2 (calls t) (lhs-at t) reads.Post
+
+abbrev After-tuple : ℕ → Type 0
+After-tuple t = lts.After-tuple (calls t) (lhs-at t) reads.Post
+
+abbrev After-r : ℕ → Type 0
+After-r t = lts.After-r (calls t) (lhs-at t) reads.Post
+
+abbrev Start : ℕ → Type 0
+Start t = lts.Start (calls t) (lhs-at t) reads.Post
+
+abbrev After-expect-pattern : ℕ → Type 0
+After-expect-pattern t = lts.After-expect-pattern (calls t) (lhs-at t) reads.Post
+
+abbrev After-t : ℕ → Type 0
+After-t t = lts.After-t (calls t) (lhs-at t) reads.Post
+
+abbrev After-store3 : ℕ → Type 0
+After-store3 t = lts.After-store3 (calls t) (lhs-at t) reads.Post
+
+abbrev After-modified : ℕ → Type 0
+After-modified t = lts.After-modified (calls t) (lhs-at t) reads.Post
+
+abbrev After-s : ℕ → Type 0
+After-s t = lts.After-s (calls t) (lhs-at t) reads.Post
+
+abbrev after-assign-keyword-of-after-tuple-arg2 : (t : ℕ) → After-tuple-arg2 t → After-assign-keyword t
+after-assign-keyword-of-after-tuple-arg2 t c = search
+
+abbrev after-p-of-after-tuple-arg2 : (t : ℕ) → After-tuple-arg2 t → After-p t
+after-p-of-after-tuple-arg2 t c = search
+
+abbrev start-of-after-tuple-arg2 : (t : ℕ) → After-tuple-arg2 t → Start t
+start-of-after-tuple-arg2 t c = search
+
+abbrev after-p-of-after-expect-pattern : (t : ℕ) → After-expect-pattern t → After-p t
+after-p-of-after-expect-pattern t c = after-p-of-after-tuple-arg2 t (search)
+
+abbrev after-assign-keyword-of-after-expect-pattern : (t : ℕ) → After-expect-pattern t → After-assign-keyword t
+after-assign-keyword-of-after-expect-pattern t c = after-assign-keyword-of-after-tuple-arg2 t (search)
+
+abbrev after-tuple-of-after-expect-pattern : (t : ℕ) → After-expect-pattern t → After-tuple t
+after-tuple-of-after-expect-pattern t c = search
+
+abbrev start-of-after-expect-pattern : (t : ℕ) → After-expect-pattern t → Start t
+start-of-after-expect-pattern t c = start-of-after-tuple-arg2 t (search)
+
+abbrev after-r-of-after-expect-pattern : (t : ℕ) → After-expect-pattern t → After-r t
+after-r-of-after-expect-pattern t c = search
+
+abbrev after-p-of-after-store3 : (t : ℕ) → After-store3 t → After-p t
+after-p-of-after-store3 t c = after-p-of-after-expect-pattern t (search)
+
+abbrev after-assign-keyword-of-after-store3 : (t : ℕ) → After-store3 t → After-assign-keyword t
+after-assign-keyword-of-after-store3 t c = after-assign-keyword-of-after-expect-pattern t (search)
+
+abbrev after-r-of-after-store3 : (t : ℕ) → After-store3 t → After-r t
+after-r-of-after-store3 t c = after-r-of-after-expect-pattern t (search)
+
+abbrev after-tuple-of-after-store3 : (t : ℕ) → After-store3 t → After-tuple t
+after-tuple-of-after-store3 t c = after-tuple-of-after-expect-pattern t (search)
+
+abbrev start-of-after-store3 : (t : ℕ) → After-store3 t → Start t
+start-of-after-store3 t c = start-of-after-expect-pattern t (search)
+
+abbrev after-expect-pattern-of-after-store3 : (t : ℕ) → After-store3 t → After-expect-pattern t
+after-expect-pattern-of-after-store3 t c = search
 
 pub assign-keyword-requires : (t : ℕ) → lts.Need-assign-keyword-requires (calls t) (lhs-at t) reads.Post
 assign-keyword-requires t c κs = search needs
@@ -30,7 +106,7 @@ pub enum-known-p : (t : ℕ) → lts.Need-enum-known-p (calls t) (lhs-at t) read
 enum-known-p t c = search needs
 
 pub tuple-requires : (t : ℕ) → lts.Need-tuple-requires (calls t) (lhs-at t) reads.Post
-tuple-requires t c κs = let f = found (c .before .before .before .p .given .1) (c .before .before .before .before .before .assign-keyword .ensures) in
+tuple-requires t c κs = let f = found (known (After-p t) (search) .p .given .1) (known (After-assign-keyword t) (search) .assign-keyword .ensures) in
     let g = f .got in
     let gon = g .on in
     let gwithin = g .within in
@@ -43,22 +119,22 @@ pub same-length : (t : ℕ) → lts.Need-same-length (calls t) (lhs-at t) reads.
 same-length t c = search needs
 
 pub returns : (t : ℕ) → lts.Need-returns (calls t) (lhs-at t) reads.Post
-returns t c = let f = found (c .before .before .before .before .before .before .before .p .given .1) (c .before .before .before .before .before .before .before .before .before .assign-keyword .ensures) in
+returns t c = let f = found (known (After-p t) (search) .p .given .1) (after-assign-keyword-of-after-tuple-arg2 t (search) .assign-keyword .ensures) in
     let g = f .got in
     let gon = g .on in
     let gwithin = g .within in
     let path = way _ (lvalue-step _ _ _) in
     let on = gets _ g path in
-    did-not (fails _ on (undone (c .match2 .keys2) (c .before .before .before .tuple .ensures)) refl (omega arith))
+    did-not (fails _ on (undone (c .match2 .keys2) (known (After-tuple t) (search) .tuple .ensures)) refl (omega arith))
 
 pub expect-pattern-requires : (t : ℕ) → lts.Need-expect-pattern-requires (calls t) (lhs-at t) reads.Post
-expect-pattern-requires t c κs = let f = found (c .before .before .before .before .before .before .before .before .before .before .p .given .1) (c .before .before .before .before .before .before .before .before .before .before .before .before .assign-keyword .ensures) in
+expect-pattern-requires t c κs = let f = found (after-p-of-after-tuple-arg2 t (search) .p .given .1) (after-assign-keyword-of-after-tuple-arg2 t (search) .assign-keyword .ensures) in
     let g = f .got in
     let gon = g .on in
     let gwithin = g .within in
-    let w = done (c .before .before .r .given .1) (c .before .before .before .before .before .before .tuple .ensures) in
+    let w = done (known (After-r t) (search) .r .given .1) (known (After-tuple t) (search) .tuple .ensures) in
     let small = given (tuple-small _ (depth-small _) _ _) (w .same) in
-    record { tree = w .what; whole = whole-of w small (omega (arith, c .before .before .before .before .before .before .before .before .before .before .before .before .before .before .before .pre, gon, gwithin)) (omega (arith, c .before .before .before .before .before .before .before .before .before .before .before .before .before .before .before .pre, gon, gwithin, w .moved, w .room, c .before .before .before .before .before .before .tuple .kept .1 .0)) }
+    record { tree = w .what; whole = whole-of w small (omega (arith, start-of-after-tuple-arg2 t (search) .pre, gon, gwithin)) (omega (arith, start-of-after-tuple-arg2 t (search) .pre, gon, gwithin, w .moved, w .room, known (After-tuple t) (search) .tuple .kept .1 .0)) }
 
 pub enum-known-t : (t : ℕ) → lts.Need-enum-known-t (calls t) (lhs-at t) reads.Post
 enum-known-t t c = search needs
@@ -67,32 +143,32 @@ pub same-length-2 : (t : ℕ) → lts.Need-same-length-2 (calls t) (lhs-at t) re
 same-length-2 t c = search needs
 
 pub returns-2 : (t : ℕ) → lts.Need-returns-2 (calls t) (lhs-at t) reads.Post
-returns-2 t c = let f = found (c .before .before .before .before .before .before .before .before .before .before .before .before .before .before .p .given .1) (c .before .before .before .before .before .before .before .before .before .before .before .before .before .before .before .before .assign-keyword .ensures) in
+returns-2 t c = let f = found (after-p-of-after-expect-pattern t (search) .p .given .1) (after-assign-keyword-of-after-expect-pattern t (search) .assign-keyword .ensures) in
     let g = f .got in
     let gon = g .on in
     let gwithin = g .within in
     let path = way _ (lvalue-step _ _ _) in
     let on = gets _ g path in
-    let w = done (c .before .before .before .before .before .before .r .given .1) (c .before .before .before .before .before .before .before .before .before .before .tuple .ensures) in
+    let w = done (known (After-r t) (search) .r .given .1) (after-tuple-of-after-expect-pattern t (search) .tuple .ensures) in
     let on2 = goes _ on (w .same) in
     let small = given (tuple-small _ (depth-small _) _ _) (w .same) in
-    let inside = whole-of w small (omega (arith, c .before .before .before .before .before .before .before .before .before .before .before .before .before .before .before .before .before .before .before .pre, gon, gwithin)) (omega (arith, c .before .before .before .before .before .before .before .before .before .before .before .before .before .before .before .before .before .before .before .pre, gon, gwithin, w .moved, w .room, c .before .before .before .before .before .before .before .before .before .before .tuple .kept .1 .0)) in
-    let ep = c .before .before .before .expect-pattern .ensures (w .what) (c .before .before .before .before .before .before .before .before .before .before .before .before .before .before .before .before .before .before .before .args .tokens .now) inside (w .moved .within) in
+    let inside = whole-of w small (omega (arith, start-of-after-expect-pattern t (search) .pre, gon, gwithin)) (omega (arith, start-of-after-expect-pattern t (search) .pre, gon, gwithin, w .moved, w .room, after-tuple-of-after-expect-pattern t (search) .tuple .kept .1 .0)) in
+    let ep = known (After-expect-pattern t) (search) .expect-pattern .ensures (w .what) (start-of-after-expect-pattern t (search) .args .tokens .now) inside (w .moved .within) in
     let u = unstored (c .match3 .keys2) ep in
-    did-not (lacks _ (u .unread) on2 (ap (take (c .before .before .before .before .before .before .before .before .before .before .before .before .before .before .before .before .before .before .before .args .at)) (u .text) ∙ prefix w (omega (arith, c .before .before .before .before .before .before .before .before .before .before .before .before .before .before .before .before .before .before .before .pre, gon, gwithin))) (omega (arith, c .before .before .before .before .before .before .before .before .before .before .before .before .before .before .before .before .before .before .before .pre, gon, gwithin, w .moved)))
+    did-not (lacks _ (u .unread) on2 (ap (take (start-of-after-expect-pattern t (search) .args .at)) (u .text) ∙ prefix w (omega (arith, start-of-after-expect-pattern t (search) .pre, gon, gwithin))) (omega (arith, start-of-after-expect-pattern t (search) .pre, gon, gwithin, w .moved)))
 
 pub modified-requires : (t : ℕ) → lts.Need-modified-requires (calls t) (lhs-at t) reads.Post
-modified-requires t c κs = let f = found (c .before .before .before .before .before .before .before .before .before .before .before .before .before .before .before .before .before .p .given .1) (c .before .before .before .before .before .before .before .before .before .before .before .before .before .before .before .before .before .before .before .assign-keyword .ensures) in
+modified-requires t c κs = let f = found (after-p-of-after-expect-pattern t (search) .p .given .1) (after-assign-keyword-of-after-expect-pattern t (search) .assign-keyword .ensures) in
     let g = f .got in
     let gon = g .on in
     let gwithin = g .within in
-    let w = done (c .before .before .before .before .before .before .before .before .before .r .given .1) (c .before .before .before .before .before .before .before .before .before .before .before .before .before .tuple .ensures) in
+    let w = done (after-r-of-after-expect-pattern t (search) .r .given .1) (after-tuple-of-after-expect-pattern t (search) .tuple .ensures) in
     let small = given (tuple-small _ (depth-small _) _ _) (w .same) in
-    let inside = whole-of w small (omega (arith, c .before .before .before .before .before .before .before .before .before .before .before .before .before .before .before .before .before .before .before .before .before .before .pre, gon, gwithin)) (omega (arith, c .before .before .before .before .before .before .before .before .before .before .before .before .before .before .before .before .before .before .before .before .before .before .pre, gon, gwithin, w .moved, w .room, c .before .before .before .before .before .before .before .before .before .before .before .before .before .tuple .kept .1 .0)) in
-    let ep = c .before .before .before .before .before .before .expect-pattern .ensures (w .what) (c .before .before .before .before .before .before .before .before .before .before .before .before .before .before .before .before .before .before .before .before .before .before .args .tokens .now) inside (w .moved .within) in
-    let st = stored (c .before .before .t .given .1) ep in
+    let inside = whole-of w small (omega (arith, start-of-after-expect-pattern t (search) .pre, gon, gwithin)) (omega (arith, start-of-after-expect-pattern t (search) .pre, gon, gwithin, w .moved, w .room, after-tuple-of-after-expect-pattern t (search) .tuple .kept .1 .0)) in
+    let ep = known (After-expect-pattern t) (search) .expect-pattern .ensures (w .what) (start-of-after-expect-pattern t (search) .args .tokens .now) inside (w .moved .within) in
+    let st = stored (known (After-t t) (search) .t .given .1) ep in
     let below = f .below in
-    (omega (arith, c .before .before .before .before .before .before .before .before .before .before .before .before .before .before .before .before .before .before .before .before .before .before .pre, gon, gwithin, w .moved, w .room, st .far, c .before .before .before .before .before .before .before .before .before .before .before .before .before .tuple .kept .1 .0, c .before .before .before .before .before .before .expect-pattern .kept .0), omega (arith, below))
+    (omega (arith, start-of-after-expect-pattern t (search) .pre, gon, gwithin, w .moved, w .room, st .far, after-tuple-of-after-expect-pattern t (search) .tuple .kept .1 .0, known (After-expect-pattern t) (search) .expect-pattern .kept .0), omega (arith, below))
 
 pub enum-known-s : (t : ℕ) → lts.Need-enum-known-s (calls t) (lhs-at t) reads.Post
 enum-known-s t c = search needs
@@ -101,24 +177,24 @@ pub same-length-3 : (t : ℕ) → lts.Need-same-length-3 (calls t) (lhs-at t) re
 same-length-3 t c = search needs
 
 pub returns-3 : (t : ℕ) → lts.Need-returns-3 (calls t) (lhs-at t) reads.Post
-returns-3 t c = let f = found (c .before .before .before .before .before .before .before .before .before .before .before .before .before .before .before .before .before .before .before .before .p .given .1) (c .before .before .before .before .before .before .before .before .before .before .before .before .before .before .before .before .before .before .before .before .before .before .assign-keyword .ensures) in
+returns-3 t c = let f = found (after-p-of-after-store3 t (search) .p .given .1) (after-assign-keyword-of-after-store3 t (search) .assign-keyword .ensures) in
     let g = f .got in
     let gon = g .on in
     let gwithin = g .within in
     let path = way _ (lvalue-step _ _ _) in
     let on = gets _ g path in
-    let w = done (c .before .before .before .before .before .before .before .before .before .before .before .before .r .given .1) (c .before .before .before .before .before .before .before .before .before .before .before .before .before .before .before .before .tuple .ensures) in
+    let w = done (after-r-of-after-store3 t (search) .r .given .1) (after-tuple-of-after-store3 t (search) .tuple .ensures) in
     let on2 = goes _ on (w .same) in
     let small = given (tuple-small _ (depth-small _) _ _) (w .same) in
-    let inside = whole-of w small (omega (arith, c .before .before .before .before .before .before .before .before .before .before .before .before .before .before .before .before .before .before .before .before .before .before .before .before .before .pre, gon, gwithin)) (omega (arith, c .before .before .before .before .before .before .before .before .before .before .before .before .before .before .before .before .before .before .before .before .before .before .before .before .before .pre, gon, gwithin, w .moved, w .room, c .before .before .before .before .before .before .before .before .before .before .before .before .before .before .before .before .tuple .kept .1 .0)) in
-    let ep = c .before .before .before .before .before .before .before .before .before .expect-pattern .ensures (w .what) (c .before .before .before .before .before .before .before .before .before .before .before .before .before .before .before .before .before .before .before .before .before .before .before .before .before .args .tokens .now) inside (w .moved .within) in
-    let st = stored (c .before .before .before .before .before .t .given .1) ep in
-    let md = c .before .before .modified .ensures in
-    let up = up-of w st (omega (arith, c .before .before .before .before .before .before .before .before .before .before .before .before .before .before .before .before .before .before .before .before .before .before .before .before .before .pre, gon, gwithin, c .before .before .before .before .before .before .before .before .before .before .before .before .before .before .before .before .tuple .kept .1 .0)) in
+    let inside = whole-of w small (omega (arith, start-of-after-store3 t (search) .pre, gon, gwithin)) (omega (arith, start-of-after-store3 t (search) .pre, gon, gwithin, w .moved, w .room, after-tuple-of-after-store3 t (search) .tuple .kept .1 .0)) in
+    let ep = after-expect-pattern-of-after-store3 t (search) .expect-pattern .ensures (w .what) (start-of-after-store3 t (search) .args .tokens .now) inside (w .moved .within) in
+    let st = stored (known (After-t t) (search) .t .given .1) ep in
+    let md = known (After-modified t) (search) .modified .ensures in
+    let up = up-of w st (omega (arith, start-of-after-store3 t (search) .pre, gon, gwithin, after-tuple-of-after-store3 t (search) .tuple .kept .1 .0)) in
     let on3 = st .got .on in
     let in3 = st .got .within in
-    record { how = record { what = modified (g .what) (st .got .what); same = gets _ (st .got) on2; moved = omega (arith, c .before .before .before .before .before .before .before .before .before .before .before .before .before .before .before .before .before .before .before .before .before .before .before .before .before .pre, gon, gwithin, w .moved, on3, in3); room = omega (arith, c .before .before .before .before .before .before .before .before .before .before .before .before .before .before .before .before .before .before .before .before .before .before .before .before .before .pre, gon, gwithin, w .moved, w .room, st .far, md .up, md .far, up, on3, in3); text = modified-text (st .got .what) (ended-text md st) (prefix w (omega (arith, c .before .before .before .before .before .before .before .before .before .before .before .before .before .before .before .before .before .before .before .before .before .before .before .before .before .pre, gon, gwithin))) (f .is) } }
+    record { how = record { what = modified (g .what) (st .got .what); same = gets _ (st .got) on2; moved = omega (arith, start-of-after-store3 t (search) .pre, gon, gwithin, w .moved, on3, in3); room = omega (arith, start-of-after-store3 t (search) .pre, gon, gwithin, w .moved, w .room, st .far, md .up, md .far, up, on3, in3); text = modified-text (st .got .what) (ended-text md st) (prefix w (omega (arith, start-of-after-store3 t (search) .pre, gon, gwithin))) (f .is) } }
 
 pub returns-4 : (t : ℕ) → lts.Need-returns-4 (calls t) (lhs-at t) reads.Post
 returns-4 t c = let path = way _ (lvalue-step _ _ _) in
-    did-not (lacks _ (unfound (c .before .s .given .1) (c .before .before .before .assign-keyword .ensures)) path refl (omega arith))
+    did-not (lacks _ (unfound (known (After-s t) (search) .s .given .1) (known (After-assign-keyword t) (search) .assign-keyword .ensures)) path refl (omega arith))

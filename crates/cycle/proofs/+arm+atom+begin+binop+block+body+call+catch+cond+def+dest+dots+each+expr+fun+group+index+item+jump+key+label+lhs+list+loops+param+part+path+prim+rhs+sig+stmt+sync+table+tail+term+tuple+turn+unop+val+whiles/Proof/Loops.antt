@@ -13,19 +13,35 @@ use Rattle.cycle.proofs.+arm+atom+begin+binop+block+body+call+catch+con
 use Rattle.cycle.proofs.body.Reads as body-reads
 use Rattle.nodes.proofs.records.list_under.Reads as list-under-reads
 use Rattle.cycle.proofs.+arm+atom+begin+binop+block+body+call+catch+cond+def+dest+dots+each+expr+fun+group+index+item+jump+key+label+lhs+list+loops+param+part+path+prim+rhs+sig+stmt+sync+table+tail+term+tuple+turn+unop+val+whiles.Proof.Below.{loops-at, body-below}
+use Rattle.tree.proofs.Known.{known}
 
 -- what is known of the functions that it calls
 abbrev pub calls : ℕ → lts.Claims
 calls t = (body-below t, body-reads.Post, list-under-reads.Asked, list-under-reads.Learnt)
 
+abbrev After-body : ℕ → Type 0
+After-body t = lts.After-body (calls t) (loops-at t) reads.Post
+
+abbrev After-list-under-arg : ℕ → Type 0
+After-list-under-arg t = lts.After-list-under-arg (calls t) (loops-at t) reads.Post
+
+abbrev Start : ℕ → Type 0
+Start t = lts.Start (calls t) (loops-at t) reads.Post
+
+abbrev After-list-under : ℕ → Type 0
+After-list-under t = lts.After-list-under (calls t) (loops-at t) reads.Post
+
+abbrev start-of-after-list-under-arg : (t : ℕ) → After-list-under-arg t → Start t
+start-of-after-list-under-arg t c = search
+
 pub body-requires : (t : ℕ) → lts.Need-body-requires (calls t) (loops-at t) reads.Post
 body-requires t c κs = omega arith
 
 pub list-under-requires : (t : ℕ) → lts.Need-list-under-requires (calls t) (loops-at t) reads.Post
-list-under-requires t c κs = closable _ (c .before .before .before .body .ensures) (omega arith)
+list-under-requires t c κs = closable _ (known (After-body t) (search) .body .ensures) (omega arith)
 
 pub same-length : (t : ℕ) → lts.Need-same-length (calls t) (loops-at t) reads.Post
 same-length t c = search needs
 
 pub returns : (t : ℕ) → lts.Need-returns (calls t) (loops-at t) reads.Post
-returns t c = under (λ s. Node.loop (c .before .before .before .before .before .before .before .before .before .before .before .args .label) (stmt-list-of s)) [] (c .before .before .before .before .before .before .body .ensures) (c .before .before .list-under .ensures) (way _ (loop-step _ _ _ _)) (sym (append-nil _)) (λ s. one-words 3 _ _) refl (omega arith)
+returns t c = under (λ s. Node.loop (start-of-after-list-under-arg t (search) .args .label) (stmt-list-of s)) [] (known (After-body t) (search) .body .ensures) (known (After-list-under t) (search) .list-under .ensures) (way _ (loop-step _ _ _ _)) (sym (append-nil _)) (λ s. one-words 3 _ _) refl (omega arith)

@@ -22,6 +22,7 @@ use Rattle.nodes.proofs.records.path_end.Reads as path-end-reads
 use Rattle.scan.proofs.tokens.continues.Reads as continues-reads
 use Rattle.scan.proofs.tokens.look.Reads as look-reads
 use Rattle.cycle.proofs.+arm+atom+begin+binop+block+body+call+catch+cond+def+dest+dots+each+expr+fun+group+index+item+jump+key+label+lhs+list+loops+param+part+path+prim+rhs+sig+stmt+sync+table+tail+term+tuple+turn+unop+val+whiles.Proof.Below.{path-at, part-below}
+use Rattle.tree.proofs.Known.{known}
 
 -- what is known of the functions that it calls
 abbrev pub calls : ℕ → lts.Claims
@@ -43,12 +44,72 @@ Inv-loop tokens store₀ queue₀ depth calls pos at waiting p₀ a₀ w₀ n₀
 abbrev pub μ-loop : lts.MeasureT-loop
 μ-loop tokens store₀ queue₀ depth calls pos at waiting p₀ a₀ w₀ n₀ store queue p a w n = length tokens - p
 
+abbrev Start : ℕ → Type 0
+Start t = lts.Start (calls t) (path-at t) reads.Post Inv-loop μ-loop
+
+abbrev At-loop : ℕ → Type 0
+At-loop t = lts.At-loop (calls t) (path-at t) reads.Post Inv-loop μ-loop
+
+abbrev After-kind : ℕ → Type 0
+After-kind t = lts.After-kind (calls t) (path-at t) reads.Post Inv-loop μ-loop
+
+abbrev After-look : ℕ → Type 0
+After-look t = lts.After-look (calls t) (path-at t) reads.Post Inv-loop μ-loop
+
+abbrev After-continues : ℕ → Type 0
+After-continues t = lts.After-continues (calls t) (path-at t) reads.Post Inv-loop μ-loop
+
+abbrev Then1 : ℕ → Type 0
+Then1 t = lts.Then1 (calls t) (path-at t) reads.Post Inv-loop μ-loop
+
+abbrev After-path-end : ℕ → Type 0
+After-path-end t = lts.After-path-end (calls t) (path-at t) reads.Post Inv-loop μ-loop
+
+abbrev After-r : ℕ → Type 0
+After-r t = lts.After-r (calls t) (path-at t) reads.Post Inv-loop μ-loop
+
+abbrev After-part : ℕ → Type 0
+After-part t = lts.After-part (calls t) (path-at t) reads.Post Inv-loop μ-loop
+
+abbrev Else1 : ℕ → Type 0
+Else1 t = lts.Else1 (calls t) (path-at t) reads.Post Inv-loop μ-loop
+
+abbrev After-s : ℕ → Type 0
+After-s t = lts.After-s (calls t) (path-at t) reads.Post Inv-loop μ-loop
+
+abbrev start-of-after-continues : (t : ℕ) → After-continues t → Start t
+start-of-after-continues t c = search
+
+abbrev at-loop-of-after-continues : (t : ℕ) → After-continues t → At-loop t
+at-loop-of-after-continues t c = search
+
+abbrev after-look-of-after-continues : (t : ℕ) → After-continues t → After-look t
+after-look-of-after-continues t c = search
+
+abbrev at-loop-of-after-r : (t : ℕ) → After-r t → At-loop t
+at-loop-of-after-r t c = at-loop-of-after-continues t (search)
+
+abbrev after-kind-of-after-continues : (t : ℕ) → After-continues t → After-kind t
+after-kind-of-after-continues t c = search
+
+abbrev after-kind-of-after-r : (t : ℕ) → After-r t → After-kind t
+after-kind-of-after-r t c = after-kind-of-after-continues t (search)
+
+abbrev after-look-of-after-r : (t : ℕ) → After-r t → After-look t
+after-look-of-after-r t c = after-look-of-after-continues t (search)
+
+abbrev start-of-after-r : (t : ℕ) → After-r t → Start t
+start-of-after-r t c = start-of-after-continues t (search)
+
+abbrev after-continues-of-after-r : (t : ℕ) → After-r t → After-continues t
+after-continues-of-after-r t c = search
+
 pub loop-holds : (t : ℕ) → lts.Need-loop-holds (calls t) (path-at t) reads.Post Inv-loop μ-loop
 unfolding records count
 loop-holds t c = record {
-  fuel = length (drop (c .before .before .args .pos) (c .before .before .args .tokens .now));
+  fuel = length (drop (known (Start t) (search) .args .pos) (known (Start t) (search) .args .tokens .now));
   enough = rw length-drop (omega arith);
-  run = record { what = none; same = here; moved = omega arith; room = omega arith; text = sym (append-nil (take (c .before .before .args .at) (c .before .before .args .store .now))) };
+  run = record { what = none; same = here; moved = omega arith; room = omega arith; text = sym (append-nil (take (known (Start t) (search) .args .at) (known (Start t) (search) .args .store .now))) };
   many = refl;
   short = omega arith;
   spare = omega arith;
@@ -65,74 +126,74 @@ pub continues-requires : (t : ℕ) → lts.Need-continues-requires (calls t) (pa
 continues-requires t c κs = search needs
 
 pub path-end-requires : (t : ℕ) → lts.Need-path-end-requires (calls t) (path-at t) reads.Post Inv-loop μ-loop
-path-end-requires t c κs = let g = c .before .before .before .before .before .before .before .loop .inv in
+path-end-requires t c κs = let g = known (At-loop t) (search) .loop .inv in
     let gr = g .run in
-    let tk = taken (c .before .before .before .before .kind .given .1) (c .before .before .before .before .before .before .look .ensures) in
-    (omega (arith, c .before .before .before .before .before .before .before .before .before .before .pre, g .kept, gr .moved, gr .room, tk .within), omega (arith, c .before .before .before .before .before .before .before .before .before .before .pre, g .short, tk .within))
+    let tk = taken (known (After-kind t) (search) .kind .given .1) (known (After-look t) (search) .look .ensures) in
+    (omega (arith, start-of-after-continues t (search) .pre, g .kept, gr .moved, gr .room, tk .within), omega (arith, start-of-after-continues t (search) .pre, g .short, tk .within))
 
 pub same-length : (t : ℕ) → lts.Need-same-length (calls t) (path-at t) reads.Post Inv-loop μ-loop
 same-length t c = search needs
 
 pub returns : (t : ℕ) → lts.Need-returns (calls t) (path-at t) reads.Post Inv-loop μ-loop
-returns t c = let g = c .before .before .before .before .before .before .before .before .before .before .loop .inv in
+returns t c = let g = at-loop-of-after-continues t (search) .loop .inv in
     let gr = g .run in
-    let tk = taken (c .before .before .before .before .before .before .before .kind .given .1) (c .before .before .before .before .before .before .before .before .before .look .ensures) in
-    let out = link (gr .same) (way _ (path-ends _ _ (gr .what) _ (g .fuel) _ (g .enough) tk (sym (c .before .before .before .before .before .continues .ensures) ∙ not-true _ (c .before .before .before .before .if1 .taken)))) in
-    let e = c .before .before .path-end .ensures in
-    let Z = take (c .before .before .before .before .before .before .before .before .before .before .before .before .before .args .at) (c .before .before .before .before .before .before .before .before .before .before .before .before .before .args .store .now) in
+    let tk = taken (known (After-kind t) (search) .kind .given .1) (after-look-of-after-continues t (search) .look .ensures) in
+    let out = link (gr .same) (way _ (path-ends _ _ (gr .what) _ (g .fuel) _ (g .enough) tk (sym (known (After-continues t) (search) .continues .ensures) ∙ not-true _ (known (Then1 t) (search) .if1 .taken)))) in
+    let e = known (After-path-end t) (search) .path-end .ensures in
+    let Z = take (start-of-after-continues t (search) .args .at) (start-of-after-continues t (search) .args .store .now) in
     let x = e .text Z (gr .what) (g .many) (gr .text) in
-    let far = path-far (gr .what) _ _ Z _ _ (gr .text) x (omega (arith, c .before .before .before .before .before .before .before .before .before .before .before .before .before .pre, g .kept, gr .moved, gr .room, tk .within)) (omega (arith, c .before .before .before .before .before .before .before .before .before .before .before .before .before .pre, g .kept, gr .moved, gr .room, tk .within, e .far, c .before .before .path-end .kept .0)) (e .far) in
+    let far = path-far (gr .what) _ _ Z _ _ (gr .text) x (omega (arith, start-of-after-continues t (search) .pre, g .kept, gr .moved, gr .room, tk .within)) (omega (arith, start-of-after-continues t (search) .pre, g .kept, gr .moved, gr .room, tk .within, e .far, known (After-path-end t) (search) .path-end .kept .0)) (e .far) in
     record { how = record { what = gr .what; same = out; moved = gr .moved; room = omega (arith, g .spare, g .many, gr .room, e .up, far); text = x } }
 
 pub add-part : (t : ℕ) → lts.Need-add-part (calls t) (path-at t) reads.Post Inv-loop μ-loop
-add-part t c = let tk = taken (c .before .before .before .before .before .kind .given .1) (c .before .before .before .before .before .before .before .look .ensures) in
+add-part t c = let tk = taken (known (After-kind t) (search) .kind .given .1) (known (After-look t) (search) .look .ensures) in
     omega arith
 
 pub part-requires : (t : ℕ) → lts.Need-part-requires (calls t) (path-at t) reads.Post Inv-loop μ-loop
-part-requires t c κs = let g = c .before .before .before .before .before .before .before .before .loop .inv in
+part-requires t c κs = let g = known (At-loop t) (search) .loop .inv in
     let gr = g .run in
-    let tk = taken (c .before .before .before .before .before .kind .given .1) (c .before .before .before .before .before .before .before .look .ensures) in
-    (omega (arith, c .before .before .before .before .before .before .before .before .before .before .before .pre, g .kept, gr .moved, gr .room, tk .within), omega (arith, c .before .before .before .before .before .before .before .before .before .before .before .pre, g .kept, gr .moved, gr .room, tk .within))
+    let tk = taken (known (After-kind t) (search) .kind .given .1) (known (After-look t) (search) .look .ensures) in
+    (omega (arith, start-of-after-continues t (search) .pre, g .kept, gr .moved, gr .room, tk .within), omega (arith, start-of-after-continues t (search) .pre, g .kept, gr .moved, gr .room, tk .within))
 
 pub enum-known-r : (t : ℕ) → lts.Need-enum-known-r (calls t) (path-at t) reads.Post Inv-loop μ-loop
 enum-known-r t c = search needs
 
 pub add-n : (t : ℕ) → lts.Need-add-n (calls t) (path-at t) reads.Post Inv-loop μ-loop
-add-n t c = let g = c .before .before .before .before .before .before .before .before .before .before .before .before .before .before .loop .inv in
-    let tk = taken (c .before .before .before .before .before .before .before .before .before .before .before .kind .given .1) (c .before .before .before .before .before .before .before .before .before .before .before .before .before .look .ensures) in
-    let w = done (c .before .r .given .1) (c .before .before .before .before .before .part .ensures) in
-    omega (arith, c .before .before .before .before .before .before .before .before .before .before .before .before .before .before .before .before .before .pre, g .short, w .moved)
+add-n t c = let g = at-loop-of-after-r t (search) .loop .inv in
+    let tk = taken (after-kind-of-after-r t (search) .kind .given .1) (after-look-of-after-r t (search) .look .ensures) in
+    let w = done (known (After-r t) (search) .r .given .1) (known (After-part t) (search) .part .ensures) in
+    omega (arith, start-of-after-r t (search) .pre, g .short, w .moved)
 
 pub loop-less : (t : ℕ) → lts.Need-loop-less (calls t) (path-at t) reads.Post Inv-loop μ-loop
-loop-less t c = let tk = taken (c .before .before .before .before .before .before .before .before .before .before .before .kind .given .1) (c .before .before .before .before .before .before .before .before .before .before .before .before .before .look .ensures) in
-    let w = done (c .before .r .given .1) (c .before .before .before .before .before .part .ensures) in
+loop-less t c = let tk = taken (after-kind-of-after-r t (search) .kind .given .1) (after-look-of-after-r t (search) .look .ensures) in
+    let w = done (known (After-r t) (search) .r .given .1) (known (After-part t) (search) .part .ensures) in
     omega (arith, tk .within, w .moved)
 
 pub loop-again : (t : ℕ) → lts.Need-loop-again (calls t) (path-at t) reads.Post Inv-loop μ-loop
-loop-again t c = let g = c .before .before .before .before .before .before .before .before .before .before .before .before .before .before .loop .inv in
+loop-again t c = let g = at-loop-of-after-r t (search) .loop .inv in
     let gr = g .run in
-    let tk = taken (c .before .before .before .before .before .before .before .before .before .before .before .kind .given .1) (c .before .before .before .before .before .before .before .before .before .before .before .before .before .look .ensures) in
-    let on = link (gr .same) (way _ (path-more _ _ (gr .what) _ (g .fuel) _ (g .enough) tk (sym (c .before .before .before .before .before .before .before .before .before .continues .ensures) ∙ not-false _ (c .before .before .before .before .before .before .before .before .if1 .left)))) in
-    let w = done (c .before .r .given .1) (c .before .before .before .before .before .part .ensures) in
+    let tk = taken (after-kind-of-after-r t (search) .kind .given .1) (after-look-of-after-r t (search) .look .ensures) in
+    let on = link (gr .same) (way _ (path-more _ _ (gr .what) _ (g .fuel) _ (g .enough) tk (sym (after-continues-of-after-r t (search) .continues .ensures) ∙ not-false _ (known (Else1 t) (search) .if1 .left)))) in
+    let w = done (known (After-r t) (search) .r .given .1) (known (After-part t) (search) .part .ensures) in
     record {
       fuel = g .fuel - 1;
       enough = omega (arith, g .enough, w .moved, tk .within);
-      run = record { what = snoc (gr .what) (w .what); same = goes _ on (w .same); moved = omega (arith, gr .moved, w .moved); room = omega (arith, gr .room, w .room); text = joined (gr .what) (w .what) (take (c .before .before .before .before .before .before .before .before .before .before .before .before .before .before .before .before .before .args .at) (c .before .before .before .before .before .before .before .before .before .before .before .before .before .before .before .before .before .args .store .now)) (w .text) (gr .text) };
+      run = record { what = snoc (gr .what) (w .what); same = goes _ on (w .same); moved = omega (arith, gr .moved, w .moved); room = omega (arith, gr .room, w .room); text = joined (gr .what) (w .what) (take (start-of-after-r t (search) .args .at) (start-of-after-r t (search) .args .store .now)) (w .text) (gr .text) };
       many = count-snoc (gr .what) (w .what) ∙ ap (λ (i : ℕ). i + 1) (g .many);
       short = omega (arith, g .short, w .moved);
       spare = omega (arith, g .spare, w .room);
-      kept = omega (arith, g .kept, c .before .before .before .before .before .part .kept .1 .0);
+      kept = omega (arith, g .kept, known (After-part t) (search) .part .kept .1 .0);
     }
 
 pub same-length-2 : (t : ℕ) → lts.Need-same-length-2 (calls t) (path-at t) reads.Post Inv-loop μ-loop
 same-length-2 t c = search needs
 
 pub returns-2 : (t : ℕ) → lts.Need-returns-2 (calls t) (path-at t) reads.Post Inv-loop μ-loop
-returns-2 t c = let g = c .before .before .before .before .before .before .before .before .before .before .before .before .loop .inv in
+returns-2 t c = let g = at-loop-of-after-continues t (search) .loop .inv in
     let gr = g .run in
-    let tk = taken (c .before .before .before .before .before .before .before .before .before .kind .given .1) (c .before .before .before .before .before .before .before .before .before .before .before .look .ensures) in
-    let on = link (gr .same) (way _ (path-more _ _ (gr .what) _ (g .fuel) _ (g .enough) tk (sym (c .before .before .before .before .before .before .before .continues .ensures) ∙ not-false _ (c .before .before .before .before .before .before .if1 .left)))) in
-    did-not (fails _ on (undone (c .match2 .keys2) (c .before .before .before .part .ensures)) (prefix gr (omega (arith, c .before .before .before .before .before .before .before .before .before .before .before .before .before .before .before .pre))) (omega (arith, gr .moved, gr .room)))
+    let tk = taken (after-kind-of-after-continues t (search) .kind .given .1) (after-look-of-after-continues t (search) .look .ensures) in
+    let on = link (gr .same) (way _ (path-more _ _ (gr .what) _ (g .fuel) _ (g .enough) tk (sym (known (After-continues t) (search) .continues .ensures) ∙ not-false _ (known (Else1 t) (search) .if1 .left)))) in
+    did-not (fails _ on (undone (c .match2 .keys2) (known (After-part t) (search) .part .ensures)) (prefix gr (omega (arith, start-of-after-continues t (search) .pre))) (omega (arith, gr .moved, gr .room)))
 
 pub enum-known-s : (t : ℕ) → lts.Need-enum-known-s (calls t) (path-at t) reads.Post Inv-loop μ-loop
 enum-known-s t c = search needs
@@ -141,6 +202,6 @@ pub same-length-3 : (t : ℕ) → lts.Need-same-length-3 (calls t) (path-at t) r
 same-length-3 t c = search needs
 
 pub returns-3 : (t : ℕ) → lts.Need-returns-3 (calls t) (path-at t) reads.Post Inv-loop μ-loop
-returns-3 t c = let g = c .before .before .before .before .loop .inv in
+returns-3 t c = let g = known (At-loop t) (search) .loop .inv in
     let gr = g .run in
-    did-not (blind (gr .same) (path-looks _ _ (gr .what) _ _ (g .fuel) _ (g .enough)) (not-taken (c .before .s .given .1) (c .before .before .before .look .ensures)) (prefix gr (omega (arith, c .before .before .before .before .before .before .before .pre))) (omega (arith, gr .moved)))
+    did-not (blind (gr .same) (path-looks _ _ (gr .what) _ _ (g .fuel) _ (g .enough)) (not-taken (known (After-s t) (search) .s .given .1) (known (After-look t) (search) .look .ensures)) (prefix gr (omega (arith, known (Start t) (search) .pre))) (omega (arith, gr .moved)))

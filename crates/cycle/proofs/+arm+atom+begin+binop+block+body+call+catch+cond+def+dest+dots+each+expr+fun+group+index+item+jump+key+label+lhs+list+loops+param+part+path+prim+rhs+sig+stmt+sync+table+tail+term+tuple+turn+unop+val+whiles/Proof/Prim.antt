@@ -13,10 +13,35 @@ use Rattle.cycle.proofs.atom.Reads as atom-reads
 use Rattle.cycle.proofs.path.Reads as path-reads
 use Rattle.scan.proofs.again.Reads as again-reads
 use Rattle.cycle.proofs.+arm+atom+begin+binop+block+body+call+catch+cond+def+dest+dots+each+expr+fun+group+index+item+jump+key+label+lhs+list+loops+param+part+path+prim+rhs+sig+stmt+sync+table+tail+term+tuple+turn+unop+val+whiles.Proof.Below.{prim-at, atom-below, path-below}
+use Rattle.tree.proofs.Known.{known}
 
 -- what is known of the functions that it calls
 abbrev pub calls : ℕ → lts.Claims
 calls t = (atom-below t, atom-reads.Post, again-reads.Asked, again-reads.Learnt, path-below t, path-reads.Post)
+
+abbrev At-match-keys2 : ℕ → Type 0
+At-match-keys2 t = lts.At-match-keys2 (calls t) (prim-at t) reads.Post
+
+abbrev After-atom : ℕ → Type 0
+After-atom t = lts.After-atom (calls t) (prim-at t) reads.Post
+
+abbrev After-r : ℕ → Type 0
+After-r t = lts.After-r (calls t) (prim-at t) reads.Post
+
+abbrev At-match-keys1 : ℕ → Type 0
+At-match-keys1 t = lts.At-match-keys1 (calls t) (prim-at t) reads.Post
+
+abbrev After-path : ℕ → Type 0
+After-path t = lts.After-path (calls t) (prim-at t) reads.Post
+
+abbrev Start : ℕ → Type 0
+Start t = lts.Start (calls t) (prim-at t) reads.Post
+
+abbrev after-atom-of-at-match-keys1 : (t : ℕ) → At-match-keys1 t → After-atom t
+after-atom-of-at-match-keys1 t c = search
+
+abbrev start-of-at-match-keys1 : (t : ℕ) → At-match-keys1 t → Start t
+start-of-at-match-keys1 t c = search
 
 pub atom-requires : (t : ℕ) → lts.Need-atom-requires (calls t) (prim-at t) reads.Post
 atom-requires t c κs = omega arith
@@ -31,16 +56,16 @@ pub same-length : (t : ℕ) → lts.Need-same-length (calls t) (prim-at t) reads
 same-length t c = search needs
 
 pub returns : (t : ℕ) → lts.Need-returns (calls t) (prim-at t) reads.Post
-returns t c = anew (c .again .ensures) (did-not (fails _ (way _ (primary-step _ _ _)) (undone (c .before .match .keys2) (c .before .before .before .before .atom .ensures)) refl (omega arith)))
+returns t c = anew (c .again .ensures) (did-not (fails _ (way _ (primary-step _ _ _)) (undone (known (At-match-keys2 t) (search) .match .keys2) (known (After-atom t) (search) .atom .ensures)) refl (omega arith)))
 
 pub path-requires : (t : ℕ) → lts.Need-path-requires (calls t) (prim-at t) reads.Post
-path-requires t c κs = let f = done (c .before .before .before .r .given .1) (c .before .before .before .before .before .before .before .atom .ensures) in
+path-requires t c κs = let f = done (known (After-r t) (search) .r .given .1) (known (After-atom t) (search) .atom .ensures) in
     omega arith
 
 pub same-length-2 : (t : ℕ) → lts.Need-same-length-2 (calls t) (prim-at t) reads.Post
 same-length-2 t c = search needs
 
 pub returns-2 : (t : ℕ) → lts.Need-returns-2 (calls t) (prim-at t) reads.Post
-returns-2 t c = let f = done (c .before .before .before .before .before .before .r .given .1) (c .before .before .before .before .before .before .before .before .before .before .atom .ensures) in
+returns-2 t c = let f = done (known (After-r t) (search) .r .given .1) (after-atom-of-at-match-keys1 t (search) .atom .ensures) in
     let on = goes _ (way _ (primary-step _ _ _)) (f .same) in
-    mapped (with-path (f .what)) on (c .before .before .path .ensures) (λ x. path-under (take (c .before .before .before .before .before .before .before .before .before .before .before .before .before .before .before .args .at) (c .before .before .before .before .before .before .before .before .before .before .before .before .before .before .before .args .store .now)) (f .what) x (f .text)) (prefix f (omega (arith, c .before .before .before .before .before .before .before .before .before .before .before .before .before .before .before .pre))) (omega (arith, c .before .before .before .before .before .before .before .before .before .before .before .before .before .before .before .pre, f .moved, f .room)) (omega (arith, c .before .before .before .before .before .before .before .before .before .before .before .before .before .before .before .pre, f .moved, f .room))
+    mapped (with-path (f .what)) on (known (After-path t) (search) .path .ensures) (λ x. path-under (take (start-of-at-match-keys1 t (search) .args .at) (start-of-at-match-keys1 t (search) .args .store .now)) (f .what) x (f .text)) (prefix f (omega (arith, start-of-at-match-keys1 t (search) .pre))) (omega (arith, start-of-at-match-keys1 t (search) .pre, f .moved, f .room)) (omega (arith, start-of-at-match-keys1 t (search) .pre, f .moved, f .room))

@@ -9,10 +9,17 @@ use Rattle.cycle.proofs.rhs.Reads as reads
 use Rattle.cycle.proofs.+arm+atom+begin+binop+block+body+call+catch+cond+def+dest+dots+each+expr+fun+group+index+item+jump+key+label+lhs+list+loops+param+part+path+prim+rhs+sig+stmt+sync+table+tail+term+tuple+turn+unop+val+whiles.Lts-rhs as lts
 use Rattle.cycle.proofs.expr.Reads as expr-reads
 use Rattle.cycle.proofs.+arm+atom+begin+binop+block+body+call+catch+cond+def+dest+dots+each+expr+fun+group+index+item+jump+key+label+lhs+list+loops+param+part+path+prim+rhs+sig+stmt+sync+table+tail+term+tuple+turn+unop+val+whiles.Proof.Below.{rhs-at, expr-below}
+use Rattle.tree.proofs.Known.{known}
 
 -- what is known of the functions that it calls
 abbrev pub calls : ℕ → lts.Claims
 calls t = (expr-below t, expr-reads.Post)
+
+abbrev Else1 : ℕ → Type 0
+Else1 t = lts.Else1 (calls t) (rhs-at t) reads.Post
+
+abbrev After-expr : ℕ → Type 0
+After-expr t = lts.After-expr (calls t) (rhs-at t) reads.Post
 
 pub returns : (t : ℕ) → lts.Need-returns (calls t) (rhs-at t) reads.Post
 returns t c = record { how = record { how = ends (right-stops _ _ _ (c .if1 .taken)) } }
@@ -27,4 +34,4 @@ pub same-length : (t : ℕ) → lts.Need-same-length (calls t) (rhs-at t) reads.
 same-length t c = search needs
 
 pub returns-2 : (t : ℕ) → lts.Need-returns-2 (calls t) (rhs-at t) reads.Post
-returns-2 t c = as-agrees (right-step _ _ _ (c .before .before .before .before .before .if1 .left)) (c .before .before .expr .ensures)
+returns-2 t c = as-agrees (right-step _ _ _ (known (Else1 t) (search) .if1 .left)) (known (After-expr t) (search) .expr .ensures)

@@ -27,10 +27,164 @@ use Rattle.scan.proofs.tokens.look.Reads as look-reads
 use Rattle.scan.proofs.tokens.not_allowed.Reads as not-allowed-reads
 use Rattle.tree.proofs.emit.Reads as emit-reads
 use Rattle.cycle.proofs.+arm+atom+begin+binop+block+body+call+catch+cond+def+dest+dots+each+expr+fun+group+index+item+jump+key+label+lhs+list+loops+param+part+path+prim+rhs+sig+stmt+sync+table+tail+term+tuple+turn+unop+val+whiles.Proof.Below.{stmt-at, loops-below, whiles-below, each-below, label-below, expr-below}
+use Rattle.tree.proofs.Known.{known}
 
 -- what is known of the functions that it calls
 abbrev pub calls : ℕ → lts.Claims
 calls t = (look-reads.Asked, look-reads.Learnt, loops-below t, loops-reads.Post, whiles-below t, whiles-reads.Post, each-below t, each-reads.Post, label-below t, label-reads.Post, expr-below t, expr-reads.Post, emit-reads.Asked, emit-reads.Learnt, is-control-reads.Asked, is-control-reads.Learnt, not-allowed-reads.Asked, not-allowed-reads.Learnt, expression-end-reads.Asked, expression-end-reads.Learnt)
+
+abbrev After-kind : ℕ → Type 0
+After-kind t = lts.After-kind (calls t) (stmt-at t) reads.Post
+
+abbrev After-look : ℕ → Type 0
+After-look t = lts.After-look (calls t) (stmt-at t) reads.Post
+
+abbrev At-match2-keys4 : ℕ → Type 0
+At-match2-keys4 t = lts.At-match2-keys4 (calls t) (stmt-at t) reads.Post
+
+abbrev After-expr-arg : ℕ → Type 0
+After-expr-arg t = lts.After-expr-arg (calls t) (stmt-at t) reads.Post
+
+abbrev At-match2-keys5 : ℕ → Type 0
+At-match2-keys5 t = lts.At-match2-keys5 (calls t) (stmt-at t) reads.Post
+
+abbrev After-expr : ℕ → Type 0
+After-expr t = lts.After-expr (calls t) (stmt-at t) reads.Post
+
+abbrev After-r : ℕ → Type 0
+After-r t = lts.After-r (calls t) (stmt-at t) reads.Post
+
+abbrev At-match2-rest : ℕ → Type 0
+At-match2-rest t = lts.At-match2-rest (calls t) (stmt-at t) reads.Post
+
+abbrev After-is-control : ℕ → Type 0
+After-is-control t = lts.After-is-control (calls t) (stmt-at t) reads.Post
+
+abbrev Then1 : ℕ → Type 0
+Then1 t = lts.Then1 (calls t) (stmt-at t) reads.Post
+
+abbrev Else1 : ℕ → Type 0
+Else1 t = lts.Else1 (calls t) (stmt-at t) reads.Post
+
+abbrev After-expr2 : ℕ → Type 0
+After-expr2 t = lts.After-expr2 (calls t) (stmt-at t) reads.Post
+
+abbrev After-r2 : ℕ → Type 0
+After-r2 t = lts.After-r2 (calls t) (stmt-at t) reads.Post
+
+abbrev Start : ℕ → Type 0
+Start t = lts.Start (calls t) (stmt-at t) reads.Post
+
+abbrev After-loops-arg : ℕ → Type 0
+After-loops-arg t = lts.After-loops-arg (calls t) (stmt-at t) reads.Post
+
+abbrev At-match2-keys1 : ℕ → Type 0
+At-match2-keys1 t = lts.At-match2-keys1 (calls t) (stmt-at t) reads.Post
+
+abbrev After-loops : ℕ → Type 0
+After-loops t = lts.After-loops (calls t) (stmt-at t) reads.Post
+
+abbrev After-whiles-arg : ℕ → Type 0
+After-whiles-arg t = lts.After-whiles-arg (calls t) (stmt-at t) reads.Post
+
+abbrev After-whiles : ℕ → Type 0
+After-whiles t = lts.After-whiles (calls t) (stmt-at t) reads.Post
+
+abbrev At-match2-keys2 : ℕ → Type 0
+At-match2-keys2 t = lts.At-match2-keys2 (calls t) (stmt-at t) reads.Post
+
+abbrev After-each-arg : ℕ → Type 0
+After-each-arg t = lts.After-each-arg (calls t) (stmt-at t) reads.Post
+
+abbrev At-match2-keys3 : ℕ → Type 0
+At-match2-keys3 t = lts.At-match2-keys3 (calls t) (stmt-at t) reads.Post
+
+abbrev After-each : ℕ → Type 0
+After-each t = lts.After-each (calls t) (stmt-at t) reads.Post
+
+abbrev After-label-arg : ℕ → Type 0
+After-label-arg t = lts.After-label-arg (calls t) (stmt-at t) reads.Post
+
+abbrev After-label : ℕ → Type 0
+After-label t = lts.After-label (calls t) (stmt-at t) reads.Post
+
+abbrev After-emit-arg : ℕ → Type 0
+After-emit-arg t = lts.After-emit-arg (calls t) (stmt-at t) reads.Post
+
+abbrev After-emit : ℕ → Type 0
+After-emit t = lts.After-emit (calls t) (stmt-at t) reads.Post
+
+abbrev After-expression-end : ℕ → Type 0
+After-expression-end t = lts.After-expression-end (calls t) (stmt-at t) reads.Post
+
+abbrev After-s : ℕ → Type 0
+After-s t = lts.After-s (calls t) (stmt-at t) reads.Post
+
+abbrev after-look-of-after-expr-arg : (t : ℕ) → After-expr-arg t → After-look t
+after-look-of-after-expr-arg t c = search
+
+abbrev after-kind-of-after-expr-arg : (t : ℕ) → After-expr-arg t → After-kind t
+after-kind-of-after-expr-arg t c = search
+
+abbrev after-kind-of-after-is-control : (t : ℕ) → After-is-control t → After-kind t
+after-kind-of-after-is-control t c = search
+
+abbrev after-look-of-after-is-control : (t : ℕ) → After-is-control t → After-look t
+after-look-of-after-is-control t c = search
+
+abbrev after-kind-of-after-r2 : (t : ℕ) → After-r2 t → After-kind t
+after-kind-of-after-r2 t c = after-kind-of-after-is-control t (search)
+
+abbrev after-look-of-after-r2 : (t : ℕ) → After-r2 t → After-look t
+after-look-of-after-r2 t c = after-look-of-after-is-control t (search)
+
+abbrev start-of-after-is-control : (t : ℕ) → After-is-control t → Start t
+start-of-after-is-control t c = search
+
+abbrev start-of-after-r2 : (t : ℕ) → After-r2 t → Start t
+start-of-after-r2 t c = start-of-after-is-control t (search)
+
+abbrev after-look-of-after-loops-arg : (t : ℕ) → After-loops-arg t → After-look t
+after-look-of-after-loops-arg t c = search
+
+abbrev after-look-of-after-whiles-arg : (t : ℕ) → After-whiles-arg t → After-look t
+after-look-of-after-whiles-arg t c = search
+
+abbrev after-look-of-after-each-arg : (t : ℕ) → After-each-arg t → After-look t
+after-look-of-after-each-arg t c = search
+
+abbrev after-look-of-after-label-arg : (t : ℕ) → After-label-arg t → After-look t
+after-look-of-after-label-arg t c = search
+
+abbrev after-kind-of-after-emit-arg : (t : ℕ) → After-emit-arg t → After-kind t
+after-kind-of-after-emit-arg t c = after-kind-of-after-expr-arg t (search)
+
+abbrev after-look-of-after-emit-arg : (t : ℕ) → After-emit-arg t → After-look t
+after-look-of-after-emit-arg t c = after-look-of-after-expr-arg t (search)
+
+abbrev after-expr-of-after-emit-arg : (t : ℕ) → After-emit-arg t → After-expr t
+after-expr-of-after-emit-arg t c = search
+
+abbrev at-match2-keys5-of-after-expr-arg : (t : ℕ) → After-expr-arg t → At-match2-keys5 t
+at-match2-keys5-of-after-expr-arg t c = search
+
+abbrev at-match2-keys5-of-after-emit-arg : (t : ℕ) → After-emit-arg t → At-match2-keys5 t
+at-match2-keys5-of-after-emit-arg t c = at-match2-keys5-of-after-expr-arg t (search)
+
+abbrev after-expr2-of-after-r2 : (t : ℕ) → After-r2 t → After-expr2 t
+after-expr2-of-after-r2 t c = search
+
+abbrev at-match2-rest-of-after-is-control : (t : ℕ) → After-is-control t → At-match2-rest t
+at-match2-rest-of-after-is-control t c = search
+
+abbrev at-match2-rest-of-after-r2 : (t : ℕ) → After-r2 t → At-match2-rest t
+at-match2-rest-of-after-r2 t c = at-match2-rest-of-after-is-control t (search)
+
+abbrev after-is-control-of-after-r2 : (t : ℕ) → After-r2 t → After-is-control t
+after-is-control-of-after-r2 t c = search
+
+abbrev else1-of-after-r2 : (t : ℕ) → After-r2 t → Else1 t
+else1-of-after-r2 t c = search
 
 pub look-requires : (t : ℕ) → lts.Need-look-requires (calls t) (stmt-at t) reads.Post
 look-requires t c κs = search needs
@@ -39,47 +193,47 @@ pub enum-known-kind : (t : ℕ) → lts.Need-enum-known-kind (calls t) (stmt-at 
 enum-known-kind t c = search needs
 
 pub add-loops : (t : ℕ) → lts.Need-add-loops (calls t) (stmt-at t) reads.Post
-add-loops t c = let tk = taken (c .before .before .before .before .kind .given .1) (c .before .before .before .before .before .before .look .ensures) in
+add-loops t c = let tk = taken (known (After-kind t) (search) .kind .given .1) (known (After-look t) (search) .look .ensures) in
     omega arith
 
 pub loops-requires : (t : ℕ) → lts.Need-loops-requires (calls t) (stmt-at t) reads.Post
-loops-requires t c κs = let tk = taken (c .before .before .before .before .kind .given .1) (c .before .before .before .before .before .before .look .ensures) in
+loops-requires t c κs = let tk = taken (known (After-kind t) (search) .kind .given .1) (known (After-look t) (search) .look .ensures) in
     omega arith
 
 pub add-whiles : (t : ℕ) → lts.Need-add-whiles (calls t) (stmt-at t) reads.Post
-add-whiles t c = let tk = taken (c .before .before .before .before .kind .given .1) (c .before .before .before .before .before .before .look .ensures) in
+add-whiles t c = let tk = taken (known (After-kind t) (search) .kind .given .1) (known (After-look t) (search) .look .ensures) in
     omega arith
 
 pub whiles-requires : (t : ℕ) → lts.Need-whiles-requires (calls t) (stmt-at t) reads.Post
-whiles-requires t c κs = let tk = taken (c .before .before .before .before .kind .given .1) (c .before .before .before .before .before .before .look .ensures) in
+whiles-requires t c κs = let tk = taken (known (After-kind t) (search) .kind .given .1) (known (After-look t) (search) .look .ensures) in
     omega arith
 
 pub add-each : (t : ℕ) → lts.Need-add-each (calls t) (stmt-at t) reads.Post
-add-each t c = let tk = taken (c .before .before .before .before .kind .given .1) (c .before .before .before .before .before .before .look .ensures) in
+add-each t c = let tk = taken (known (After-kind t) (search) .kind .given .1) (known (After-look t) (search) .look .ensures) in
     omega arith
 
 pub each-requires : (t : ℕ) → lts.Need-each-requires (calls t) (stmt-at t) reads.Post
-each-requires t c κs = let tk = taken (c .before .before .before .before .kind .given .1) (c .before .before .before .before .before .before .look .ensures) in
+each-requires t c κs = let tk = taken (known (After-kind t) (search) .kind .given .1) (known (After-look t) (search) .look .ensures) in
     omega arith
 
 pub add-label : (t : ℕ) → lts.Need-add-label (calls t) (stmt-at t) reads.Post
-add-label t c = let tk = taken (c .before .before .before .before .kind .given .1) (c .before .before .before .before .before .before .look .ensures) in
-    omega (arith, label-below tk (c .before .before .match2 .keys4))
+add-label t c = let tk = taken (known (After-kind t) (search) .kind .given .1) (known (After-look t) (search) .look .ensures) in
+    omega (arith, label-below tk (known (At-match2-keys4 t) (search) .match2 .keys4))
 
 pub add-label-2 : (t : ℕ) → lts.Need-add-label-2 (calls t) (stmt-at t) reads.Post
-add-label-2 t c = let tk = taken (c .before .before .before .before .kind .given .1) (c .before .before .before .before .before .before .look .ensures) in
+add-label-2 t c = let tk = taken (known (After-kind t) (search) .kind .given .1) (known (After-look t) (search) .look .ensures) in
     omega arith
 
 pub label-requires : (t : ℕ) → lts.Need-label-requires (calls t) (stmt-at t) reads.Post
-label-requires t c κs = let tk = taken (c .before .before .before .before .kind .given .1) (c .before .before .before .before .before .before .look .ensures) in
+label-requires t c κs = let tk = taken (known (After-kind t) (search) .kind .given .1) (known (After-look t) (search) .look .ensures) in
     omega arith
 
 pub add-expr : (t : ℕ) → lts.Need-add-expr (calls t) (stmt-at t) reads.Post
-add-expr t c = let tk = taken (c .before .before .before .before .kind .given .1) (c .before .before .before .before .before .before .look .ensures) in
+add-expr t c = let tk = taken (known (After-kind t) (search) .kind .given .1) (known (After-look t) (search) .look .ensures) in
     omega arith
 
 pub expr-requires : (t : ℕ) → lts.Need-expr-requires (calls t) (stmt-at t) reads.Post
-expr-requires t c κs = let tk = taken (c .before .before .before .before .kind .given .1) (c .before .before .before .before .before .before .look .ensures) in
+expr-requires t c κs = let tk = taken (known (After-kind t) (search) .kind .given .1) (known (After-look t) (search) .look .ensures) in
     omega arith
 
 pub enum-known-r : (t : ℕ) → lts.Need-enum-known-r (calls t) (stmt-at t) reads.Post
@@ -89,13 +243,13 @@ pub same-length : (t : ℕ) → lts.Need-same-length (calls t) (stmt-at t) reads
 same-length t c = search needs
 
 pub returns : (t : ℕ) → lts.Need-returns (calls t) (stmt-at t) reads.Post
-returns t c = let tk = taken (c .before .before .before .before .before .before .before .before .kind .given .1) (c .before .before .before .before .before .before .before .before .before .before .look .ensures) in
-    let path = way _ (stmt-assert _ _ tk (c .before .before .before .before .before .before .match2 .keys5)) in
-    did-not (fails _ path (undone (c .match3 .keys2) (c .before .before .before .expr .ensures)) refl (omega arith))
+returns t c = let tk = taken (known (After-kind t) (search) .kind .given .1) (after-look-of-after-expr-arg t (search) .look .ensures) in
+    let path = way _ (stmt-assert _ _ tk (known (At-match2-keys5 t) (search) .match2 .keys5)) in
+    did-not (fails _ path (undone (c .match3 .keys2) (known (After-expr t) (search) .expr .ensures)) refl (omega arith))
 
 pub emit-requires : (t : ℕ) → lts.Need-emit-requires (calls t) (stmt-at t) reads.Post
-emit-requires t c κs = let tk = taken (c .before .before .before .before .before .before .before .before .before .before .before .kind .given .1) (c .before .before .before .before .before .before .before .before .before .before .before .before .before .look .ensures) in
-    let w = done (c .before .before .r .given .1) (c .before .before .before .before .before .before .expr .ensures) in
+emit-requires t c κs = let tk = taken (after-kind-of-after-expr-arg t (search) .kind .given .1) (after-look-of-after-expr-arg t (search) .look .ensures) in
+    let w = done (known (After-r t) (search) .r .given .1) (known (After-expr t) (search) .expr .ensures) in
     omega arith
 
 pub is-control-requires : (t : ℕ) → lts.Need-is-control-requires (calls t) (stmt-at t) reads.Post
@@ -105,14 +259,14 @@ pub not-allowed-requires : (t : ℕ) → lts.Need-not-allowed-requires (calls t)
 not-allowed-requires t c κs = search needs
 
 pub add-t47 : (t : ℕ) → lts.Need-add-t47 (calls t) (stmt-at t) reads.Post
-add-t47 t c = let tk = taken (c .before .before .before .before .before .kind .given .1) (c .before .before .before .before .before .before .before .look .ensures) in
+add-t47 t c = let tk = taken (known (After-kind t) (search) .kind .given .1) (known (After-look t) (search) .look .ensures) in
     omega arith
 
 pub returns-2 : (t : ℕ) → lts.Need-returns-2 (calls t) (stmt-at t) reads.Post
-returns-2 t c = let tk = taken (c .before .before .before .before .before .kind .given .1) (c .before .before .before .before .before .before .before .look .ensures) in
-    let r = c .before .before .before .match2 .rest in
+returns-2 t c = let tk = taken (known (After-kind t) (search) .kind .given .1) (known (After-look t) (search) .look .ensures) in
+    let r = known (At-match2-rest t) (search) .match2 .rest in
     let na = c .not-allowed .ensures in
-    fails-with (stmt-control _ _ tk (r .0 .0 .0 .0 .1) (r .0 .0 .0 .1) (r .0 .0 .1) (r .0 .1) (r .1) (c .before .before .is-control .ensures) (c .before .if1 .taken) ∙ rw (← na)) (omega arith) (omega arith)
+    fails-with (stmt-control _ _ tk (r .0 .0 .0 .0 .1) (r .0 .0 .0 .1) (r .0 .0 .1) (r .0 .1) (r .1) (known (After-is-control t) (search) .is-control .ensures) (known (Then1 t) (search) .if1 .taken) ∙ rw (← na)) (omega arith) (omega arith)
 
 pub expr-requires-2 : (t : ℕ) → lts.Need-expr-requires-2 (calls t) (stmt-at t) reads.Post
 expr-requires-2 t c κs = omega arith
@@ -124,16 +278,16 @@ pub same-length-2 : (t : ℕ) → lts.Need-same-length-2 (calls t) (stmt-at t) r
 same-length-2 t c = search needs
 
 pub returns-3 : (t : ℕ) → lts.Need-returns-3 (calls t) (stmt-at t) reads.Post
-returns-3 t c = let tk = taken (c .before .before .before .before .before .before .before .before .before .before .kind .given .1) (c .before .before .before .before .before .before .before .before .before .before .before .before .look .ensures) in
-    let r = c .before .before .before .before .before .before .before .before .match2 .rest in
-    let track = way _ (stmt-expr _ _ tk (r .0 .0 .0 .0 .1) (r .0 .0 .0 .1) (r .0 .0 .1) (r .0 .1) (r .1) (c .before .before .before .before .before .before .before .is-control .ensures) (c .before .before .before .before .before .before .if1 .left)) in
-    did-not (fails _ track (undone (c .match4 .keys2) (c .before .before .before .expr2 .ensures)) refl (omega arith))
+returns-3 t c = let tk = taken (after-kind-of-after-is-control t (search) .kind .given .1) (after-look-of-after-is-control t (search) .look .ensures) in
+    let r = known (At-match2-rest t) (search) .match2 .rest in
+    let track = way _ (stmt-expr _ _ tk (r .0 .0 .0 .0 .1) (r .0 .0 .0 .1) (r .0 .0 .1) (r .0 .1) (r .1) (known (After-is-control t) (search) .is-control .ensures) (known (Else1 t) (search) .if1 .left)) in
+    did-not (fails _ track (undone (c .match4 .keys2) (known (After-expr2 t) (search) .expr2 .ensures)) refl (omega arith))
 
 pub expression-end-requires : (t : ℕ) → lts.Need-expression-end-requires (calls t) (stmt-at t) reads.Post
-expression-end-requires t c κs = let tk = taken (c .before .before .before .before .before .before .before .before .before .before .before .before .before .kind .given .1) (c .before .before .before .before .before .before .before .before .before .before .before .before .before .before .before .look .ensures) in
-    let v = done (c .before .before .r2 .given .1) (c .before .before .before .before .before .before .expr2 .ensures) in
+expression-end-requires t c κs = let tk = taken (after-kind-of-after-r2 t (search) .kind .given .1) (after-look-of-after-r2 t (search) .look .ensures) in
+    let v = done (known (After-r2 t) (search) .r2 .given .1) (known (After-expr2 t) (search) .expr2 .ensures) in
     let sh = given (expr-shape _ _ _) (v .same) in
-    (record { before = take (c .before .before .before .before .before .before .before .before .before .before .before .before .before .before .before .before .before .before .args .at) (c .before .before .before .before .before .before .before .before .before .before .before .before .before .before .before .before .before .before .args .store .now); tree = v .what; shape = sh; text = v .text; within = omega arith }, omega arith)
+    (record { before = take (start-of-after-r2 t (search) .args .at) (start-of-after-r2 t (search) .args .store .now); tree = v .what; shape = sh; text = v .text; within = omega arith }, omega arith)
 
 pub enum-known-s : (t : ℕ) → lts.Need-enum-known-s (calls t) (stmt-at t) reads.Post
 enum-known-s t c = search needs
@@ -142,49 +296,49 @@ pub same-length-3 : (t : ℕ) → lts.Need-same-length-3 (calls t) (stmt-at t) r
 same-length-3 t c = search needs
 
 pub returns-4 : (t : ℕ) → lts.Need-returns-4 (calls t) (stmt-at t) reads.Post
-returns-4 t c = let tk = taken (c .before .before .before .before .before .before .before .kind .given .1) (c .before .before .before .before .before .before .before .before .before .look .ensures) in
-    later (stmt-loop _ _ tk (c .before .before .before .before .before .match2 .keys1)) (c .before .before .loops .ensures) (omega arith) (omega arith) (omega arith)
+returns-4 t c = let tk = taken (known (After-kind t) (search) .kind .given .1) (after-look-of-after-loops-arg t (search) .look .ensures) in
+    later (stmt-loop _ _ tk (known (At-match2-keys1 t) (search) .match2 .keys1)) (known (After-loops t) (search) .loops .ensures) (omega arith) (omega arith) (omega arith)
 
 pub same-length-4 : (t : ℕ) → lts.Need-same-length-4 (calls t) (stmt-at t) reads.Post
 same-length-4 t c = search needs
 
 pub returns-5 : (t : ℕ) → lts.Need-returns-5 (calls t) (stmt-at t) reads.Post
-returns-5 t c = let tk = taken (c .before .before .before .before .before .before .before .kind .given .1) (c .before .before .before .before .before .before .before .before .before .look .ensures) in
-    renamed (λ x. Node.while-loop 0 (x .over) (stmt-list-of (x .run))) [] (c .before .before .whiles .ensures) (way _ (stmt-while _ _ tk (c .before .before .before .before .before .match2 .keys2) ∙ while-as _ _ _ _)) (sym (append-nil _)) (λ x. two-words 4 _ _ _) refl (omega arith)
+returns-5 t c = let tk = taken (known (After-kind t) (search) .kind .given .1) (after-look-of-after-whiles-arg t (search) .look .ensures) in
+    renamed (λ x. Node.while-loop 0 (x .over) (stmt-list-of (x .run))) [] (known (After-whiles t) (search) .whiles .ensures) (way _ (stmt-while _ _ tk (known (At-match2-keys2 t) (search) .match2 .keys2) ∙ while-as _ _ _ _)) (sym (append-nil _)) (λ x. two-words 4 _ _ _) refl (omega arith)
 
 pub same-length-5 : (t : ℕ) → lts.Need-same-length-5 (calls t) (stmt-at t) reads.Post
 same-length-5 t c = search needs
 
 pub returns-6 : (t : ℕ) → lts.Need-returns-6 (calls t) (stmt-at t) reads.Post
-returns-6 t c = let tk = taken (c .before .before .before .before .before .before .before .kind .given .1) (c .before .before .before .before .before .before .before .before .before .look .ensures) in
-    later (stmt-for _ _ tk (c .before .before .before .before .before .match2 .keys3)) (c .before .before .each .ensures) (omega arith) (omega arith) (omega arith)
+returns-6 t c = let tk = taken (known (After-kind t) (search) .kind .given .1) (after-look-of-after-each-arg t (search) .look .ensures) in
+    later (stmt-for _ _ tk (known (At-match2-keys3 t) (search) .match2 .keys3)) (known (After-each t) (search) .each .ensures) (omega arith) (omega arith) (omega arith)
 
 pub same-length-6 : (t : ℕ) → lts.Need-same-length-6 (calls t) (stmt-at t) reads.Post
 same-length-6 t c = search needs
 
 pub returns-7 : (t : ℕ) → lts.Need-returns-7 (calls t) (stmt-at t) reads.Post
-returns-7 t c = let tk = taken (c .before .before .before .before .before .before .before .kind .given .1) (c .before .before .before .before .before .before .before .before .before .look .ensures) in
-    later (stmt-labelled _ _ tk (c .before .before .before .before .before .match2 .keys4)) (c .before .before .label .ensures) (omega arith) (omega arith) (omega arith)
+returns-7 t c = let tk = taken (known (After-kind t) (search) .kind .given .1) (after-look-of-after-label-arg t (search) .look .ensures) in
+    later (stmt-labelled _ _ tk (known (At-match2-keys4 t) (search) .match2 .keys4)) (known (After-label t) (search) .label .ensures) (omega arith) (omega arith) (omega arith)
 
 pub same-length-7 : (t : ℕ) → lts.Need-same-length-7 (calls t) (stmt-at t) reads.Post
 same-length-7 t c = search needs
 
 pub returns-8 : (t : ℕ) → lts.Need-returns-8 (calls t) (stmt-at t) reads.Post
-returns-8 t c = let tk = taken (c .before .before .before .before .before .before .before .before .before .before .before .before .before .before .kind .given .1) (c .before .before .before .before .before .before .before .before .before .before .before .before .before .before .before .before .look .ensures) in
-    let w = done (c .before .before .before .before .before .r .given .1) (c .before .before .before .before .before .before .before .before .before .expr .ensures) in
-    let path = way _ (stmt-assert _ _ tk (c .before .before .before .before .before .before .before .before .before .before .before .before .match2 .keys5)) in
-    record { how = made-one 6 w (c .before .before .emit .ensures) (goes _ path (w .same)) (omega arith) (omega arith) refl }
+returns-8 t c = let tk = taken (after-kind-of-after-emit-arg t (search) .kind .given .1) (after-look-of-after-emit-arg t (search) .look .ensures) in
+    let w = done (known (After-r t) (search) .r .given .1) (after-expr-of-after-emit-arg t (search) .expr .ensures) in
+    let path = way _ (stmt-assert _ _ tk (at-match2-keys5-of-after-emit-arg t (search) .match2 .keys5)) in
+    record { how = made-one 6 w (known (After-emit t) (search) .emit .ensures) (goes _ path (w .same)) (omega arith) (omega arith) refl }
 
 pub same-length-8 : (t : ℕ) → lts.Need-same-length-8 (calls t) (stmt-at t) reads.Post
 same-length-8 t c = search needs
 
 pub returns-9 : (t : ℕ) → lts.Need-returns-9 (calls t) (stmt-at t) reads.Post
-returns-9 t c = let tk = taken (c .before .before .before .before .before .before .before .before .before .before .before .before .before .before .before .before .kind .given .1) (c .before .before .before .before .before .before .before .before .before .before .before .before .before .before .before .before .before .before .look .ensures) in
-    let v = done (c .before .before .before .before .before .r2 .given .1) (c .before .before .before .before .before .before .before .before .before .expr2 .ensures) in
-    let r = c .before .before .before .before .before .before .before .before .before .before .before .before .before .before .match2 .rest in
-    let track = way _ (stmt-expr _ _ tk (r .0 .0 .0 .0 .1) (r .0 .0 .0 .1) (r .0 .0 .1) (r .0 .1) (r .1) (c .before .before .before .before .before .before .before .before .before .before .before .before .before .is-control .ensures) (c .before .before .before .before .before .before .before .before .before .before .before .before .if1 .left)) in
+returns-9 t c = let tk = taken (after-kind-of-after-r2 t (search) .kind .given .1) (after-look-of-after-r2 t (search) .look .ensures) in
+    let v = done (known (After-r2 t) (search) .r2 .given .1) (after-expr2-of-after-r2 t (search) .expr2 .ensures) in
+    let r = at-match2-rest-of-after-r2 t (search) .match2 .rest in
+    let track = way _ (stmt-expr _ _ tk (r .0 .0 .0 .0 .1) (r .0 .0 .0 .1) (r .0 .0 .1) (r .0 .1) (r .1) (after-is-control-of-after-r2 t (search) .is-control .ensures) (else1-of-after-r2 t (search) .if1 .left)) in
     let sh = given (expr-shape _ _ _) (v .same) in
-    written (c .before .before .expression-end .ensures _ _ _ sh (v .text) (v .moved .within)) (goes _ track (v .same)) (prefix v (omega (arith, c .before .before .before .before .before .before .before .before .before .before .before .before .before .before .before .before .before .before .before .before .before .pre, v .moved, v .room))) (omega (arith, c .before .before .before .before .before .before .before .before .before .before .before .before .before .before .before .before .before .before .before .before .before .pre, v .moved, v .room, tk .within))
+    written (known (After-expression-end t) (search) .expression-end .ensures _ _ _ sh (v .text) (v .moved .within)) (goes _ track (v .same)) (prefix v (omega (arith, start-of-after-r2 t (search) .pre, v .moved, v .room))) (omega (arith, start-of-after-r2 t (search) .pre, v .moved, v .room, tk .within))
 
 pub returns-10 : (t : ℕ) → lts.Need-returns-10 (calls t) (stmt-at t) reads.Post
-returns-10 t c = did-not (blind here (stmt-looks _ _ _) (not-taken (c .before .s .given .1) (c .before .before .before .look .ensures)) refl (omega arith))
+returns-10 t c = did-not (blind here (stmt-looks _ _ _) (not-taken (known (After-s t) (search) .s .given .1) (known (After-look t) (search) .look .ensures)) refl (omega arith))

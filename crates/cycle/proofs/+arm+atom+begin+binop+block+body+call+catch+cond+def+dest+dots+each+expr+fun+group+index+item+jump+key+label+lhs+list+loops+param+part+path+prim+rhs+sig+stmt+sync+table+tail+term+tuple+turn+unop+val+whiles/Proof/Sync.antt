@@ -18,6 +18,7 @@ use Rattle.cycle.proofs.expr.Reads as expr-reads
 use Rattle.scan.proofs.tokens.halts.Reads as halts-reads
 use Rattle.scan.proofs.tokens.look.Reads as look-reads
 use Rattle.cycle.proofs.+arm+atom+begin+binop+block+body+call+catch+cond+def+dest+dots+each+expr+fun+group+index+item+jump+key+label+lhs+list+loops+param+part+path+prim+rhs+sig+stmt+sync+table+tail+term+tuple+turn+unop+val+whiles.Proof.Below.{sync-at, expr-below}
+use Rattle.tree.proofs.Known.{known}
 
 -- what is known of the functions that it calls
 abbrev pub calls : ℕ → lts.Claims
@@ -38,8 +39,89 @@ Inv-loop tokens store₀ queue₀ depth inside pos at waiting p₀ w₀ store qu
 abbrev pub μ-loop : lts.MeasureT-loop
 μ-loop tokens store₀ queue₀ depth inside pos at waiting p₀ w₀ store queue p w = length tokens - p
 
+abbrev Start : ℕ → Type 0
+Start t = lts.Start (calls t) (sync-at t) reads.Post Inv-loop μ-loop
+
+abbrev At-loop : ℕ → Type 0
+At-loop t = lts.At-loop (calls t) (sync-at t) reads.Post Inv-loop μ-loop
+
+abbrev After-kind : ℕ → Type 0
+After-kind t = lts.After-kind (calls t) (sync-at t) reads.Post Inv-loop μ-loop
+
+abbrev After-look : ℕ → Type 0
+After-look t = lts.After-look (calls t) (sync-at t) reads.Post Inv-loop μ-loop
+
+abbrev After-halts : ℕ → Type 0
+After-halts t = lts.After-halts (calls t) (sync-at t) reads.Post Inv-loop μ-loop
+
+abbrev After-r : ℕ → Type 0
+After-r t = lts.After-r (calls t) (sync-at t) reads.Post Inv-loop μ-loop
+
+abbrev Else1 : ℕ → Type 0
+Else1 t = lts.Else1 (calls t) (sync-at t) reads.Post Inv-loop μ-loop
+
+abbrev After-expr : ℕ → Type 0
+After-expr t = lts.After-expr (calls t) (sync-at t) reads.Post Inv-loop μ-loop
+
+abbrev After-r2 : ℕ → Type 0
+After-r2 t = lts.After-r2 (calls t) (sync-at t) reads.Post Inv-loop μ-loop
+
+abbrev At-match2-keys3 : ℕ → Type 0
+At-match2-keys3 t = lts.At-match2-keys3 (calls t) (sync-at t) reads.Post Inv-loop μ-loop
+
+abbrev After-s2 : ℕ → Type 0
+After-s2 t = lts.After-s2 (calls t) (sync-at t) reads.Post Inv-loop μ-loop
+
+abbrev After-s : ℕ → Type 0
+After-s t = lts.After-s (calls t) (sync-at t) reads.Post Inv-loop μ-loop
+
+abbrev At-match3-keys1 : ℕ → Type 0
+At-match3-keys1 t = lts.At-match3-keys1 (calls t) (sync-at t) reads.Post Inv-loop μ-loop
+
+abbrev start-of-after-halts : (t : ℕ) → After-halts t → Start t
+start-of-after-halts t c = search
+
+abbrev at-loop-of-after-halts : (t : ℕ) → After-halts t → At-loop t
+at-loop-of-after-halts t c = search
+
+abbrev at-loop-of-after-r : (t : ℕ) → After-r t → At-loop t
+at-loop-of-after-r t c = at-loop-of-after-halts t (search)
+
+abbrev after-kind-of-after-halts : (t : ℕ) → After-halts t → After-kind t
+after-kind-of-after-halts t c = search
+
+abbrev after-kind-of-after-r : (t : ℕ) → After-r t → After-kind t
+after-kind-of-after-r t c = after-kind-of-after-halts t (search)
+
+abbrev after-look-of-after-halts : (t : ℕ) → After-halts t → After-look t
+after-look-of-after-halts t c = search
+
+abbrev after-look-of-after-r : (t : ℕ) → After-r t → After-look t
+after-look-of-after-r t c = after-look-of-after-halts t (search)
+
+abbrev after-halts-of-after-r : (t : ℕ) → After-r t → After-halts t
+after-halts-of-after-r t c = search
+
+abbrev start-of-after-r : (t : ℕ) → After-r t → Start t
+start-of-after-r t c = start-of-after-halts t (search)
+
+abbrev at-loop-of-after-r2 : (t : ℕ) → After-r2 t → At-loop t
+at-loop-of-after-r2 t c = at-loop-of-after-halts t (search)
+
+abbrev after-kind-of-after-r2 : (t : ℕ) → After-r2 t → After-kind t
+after-kind-of-after-r2 t c = after-kind-of-after-halts t (search)
+
+abbrev after-look-of-after-r2 : (t : ℕ) → After-r2 t → After-look t
+after-look-of-after-r2 t c = after-look-of-after-halts t (search)
+
+abbrev after-halts-of-after-r2 : (t : ℕ) → After-r2 t → After-halts t
+after-halts-of-after-r2 t c = search
+
+abbrev start-of-at-match3-keys1 : (t : ℕ) → At-match3-keys1 t → Start t
+start-of-at-match3-keys1 t c = search
+
 pub loop-holds : (t : ℕ) → lts.Need-loop-holds (calls t) (sync-at t) reads.Post Inv-loop μ-loop
-loop-holds t c = record { fuel = length (drop (c .before .before .args .pos) (c .before .before .args .tokens .now)); enough = rw length-drop (omega arith); same = here; moved = omega arith; text = refl; kept = refl }
+loop-holds t c = record { fuel = length (drop (known (Start t) (search) .args .pos) (known (Start t) (search) .args .tokens .now)); enough = rw length-drop (omega arith); same = here; moved = omega arith; text = refl; kept = refl }
 
 pub look-requires : (t : ℕ) → lts.Need-look-requires (calls t) (sync-at t) reads.Post Inv-loop μ-loop
 look-requires t c κs = c .loop .inv .moved .within
@@ -54,14 +136,14 @@ pub same-length : (t : ℕ) → lts.Need-same-length (calls t) (sync-at t) reads
 same-length t c = search needs
 
 pub returns : (t : ℕ) → lts.Need-returns (calls t) (sync-at t) reads.Post Inv-loop μ-loop
-returns t c = let g = c .before .before .before .before .before .before .loop .inv in
-    let tk = taken (c .before .before .before .kind .given .1) (c .before .before .before .before .before .look .ensures) in
-    record { how = record { what = tt; same = link (g .same) (way _ (sync-halt _ _ _ (g .fuel) _ (g .enough) tk (sym (c .before .halts .ensures) ∙ c .if1 .taken))); moved = g .moved; room = omega arith; text = g .text ∙ sym (append-nil (take (c .before .before .before .before .before .before .before .before .before .args .at) (c .before .before .before .before .before .before .before .before .before .args .store .now))) } }
+returns t c = let g = known (At-loop t) (search) .loop .inv in
+    let tk = taken (known (After-kind t) (search) .kind .given .1) (known (After-look t) (search) .look .ensures) in
+    record { how = record { what = tt; same = link (g .same) (way _ (sync-halt _ _ _ (g .fuel) _ (g .enough) tk (sym (known (After-halts t) (search) .halts .ensures) ∙ c .if1 .taken))); moved = g .moved; room = omega arith; text = g .text ∙ sym (append-nil (take (start-of-after-halts t (search) .args .at) (start-of-after-halts t (search) .args .store .now))) } }
 
 pub expr-requires : (t : ℕ) → lts.Need-expr-requires (calls t) (sync-at t) reads.Post Inv-loop μ-loop
-expr-requires t c κs = let g = c .before .before .before .before .before .before .before .before .loop .inv in
-    let tk = taken (c .before .before .before .before .before .kind .given .1) (c .before .before .before .before .before .before .before .look .ensures) in
-    omega (arith, c .before .before .before .before .before .before .before .before .before .before .before .pre)
+expr-requires t c κs = let g = known (At-loop t) (search) .loop .inv in
+    let tk = taken (known (After-kind t) (search) .kind .given .1) (known (After-look t) (search) .look .ensures) in
+    omega (arith, start-of-after-halts t (search) .pre)
 
 pub enum-known-r : (t : ℕ) → lts.Need-enum-known-r (calls t) (sync-at t) reads.Post Inv-loop μ-loop
 enum-known-r t c = search needs
@@ -70,28 +152,28 @@ pub same-length-2 : (t : ℕ) → lts.Need-same-length-2 (calls t) (sync-at t) r
 same-length-2 t c = search needs
 
 pub returns-2 : (t : ℕ) → lts.Need-returns-2 (calls t) (sync-at t) reads.Post Inv-loop μ-loop
-returns-2 t c = let g = c .before .before .before .before .before .before .before .before .before .before .before .before .before .before .loop .inv in
-    let tk = taken (c .before .before .before .before .before .before .before .before .before .before .before .kind .given .1) (c .before .before .before .before .before .before .before .before .before .before .before .before .before .look .ensures) in
-    let try = link (g .same) (way _ (sync-try _ _ _ (g .fuel) _ (g .enough) tk (sym (c .before .before .before .before .before .before .before .before .before .halts .ensures) ∙ c .before .before .before .before .before .before .before .before .if1 .left))) in
-    let w = done (c .before .r .given .1) (c .before .before .before .before .before .expr .ensures) in
+returns-2 t c = let g = at-loop-of-after-r t (search) .loop .inv in
+    let tk = taken (after-kind-of-after-r t (search) .kind .given .1) (after-look-of-after-r t (search) .look .ensures) in
+    let try = link (g .same) (way _ (sync-try _ _ _ (g .fuel) _ (g .enough) tk (sym (after-halts-of-after-r t (search) .halts .ensures) ∙ known (Else1 t) (search) .if1 .left))) in
+    let w = done (known (After-r t) (search) .r .given .1) (known (After-expr t) (search) .expr .ensures) in
     let gm = g .moved in
-    record { how = record { what = tt; same = wins _ _ try (w .same); moved = omega arith; room = omega arith; text = prefix w (omega (arith, c .before .before .before .before .before .before .before .before .before .before .before .before .before .before .before .before .before .pre)) ∙ g .text ∙ sym (append-nil (take (c .before .before .before .before .before .before .before .before .before .before .before .before .before .before .before .before .before .args .at) (c .before .before .before .before .before .before .before .before .before .before .before .before .before .before .before .before .before .args .store .now))) } }
+    record { how = record { what = tt; same = wins _ _ try (w .same); moved = omega arith; room = omega arith; text = prefix w (omega (arith, start-of-after-r t (search) .pre)) ∙ g .text ∙ sym (append-nil (take (start-of-after-r t (search) .args .at) (start-of-after-r t (search) .args .store .now))) } }
 
 pub enum-known-r-2 : (t : ℕ) → lts.Need-enum-known-r-2 (calls t) (sync-at t) reads.Post Inv-loop μ-loop
 enum-known-r-2 t c = search needs
 
 pub loop-less : (t : ℕ) → lts.Need-loop-less (calls t) (sync-at t) reads.Post Inv-loop μ-loop
-loop-less t c = let g = c .before .before .before .before .before .before .before .before .before .before .before .before .before .before .loop .inv in
-    let tk = taken (c .before .before .before .before .before .before .before .before .before .before .before .kind .given .1) (c .before .before .before .before .before .before .before .before .before .before .before .before .before .look .ensures) in
-    let m = missed (c .before .r2 .given .1) (c .before .before .before .before .before .expr .ensures) in
+loop-less t c = let g = at-loop-of-after-r2 t (search) .loop .inv in
+    let tk = taken (after-kind-of-after-r2 t (search) .kind .given .1) (after-look-of-after-r2 t (search) .look .ensures) in
+    let m = missed (known (After-r2 t) (search) .r2 .given .1) (known (After-expr t) (search) .expr .ensures) in
     let far = m .far in
     omega arith
 
 pub loop-again : (t : ℕ) → lts.Need-loop-again (calls t) (sync-at t) reads.Post Inv-loop μ-loop
-loop-again t c = let g = c .before .before .before .before .before .before .before .before .before .before .before .before .before .before .loop .inv in
-    let tk = taken (c .before .before .before .before .before .before .before .before .before .before .before .kind .given .1) (c .before .before .before .before .before .before .before .before .before .before .before .before .before .look .ensures) in
-    let try = link (g .same) (way _ (sync-try _ _ _ (g .fuel) _ (g .enough) tk (sym (c .before .before .before .before .before .before .before .before .before .halts .ensures) ∙ c .before .before .before .before .before .before .before .before .if1 .left))) in
-    let m = missed (c .before .r2 .given .1) (c .before .before .before .before .before .expr .ensures) in
+loop-again t c = let g = at-loop-of-after-r2 t (search) .loop .inv in
+    let tk = taken (after-kind-of-after-r2 t (search) .kind .given .1) (after-look-of-after-r2 t (search) .look .ensures) in
+    let try = link (g .same) (way _ (sync-try _ _ _ (g .fuel) _ (g .enough) tk (sym (after-halts-of-after-r2 t (search) .halts .ensures) ∙ known (Else1 t) (search) .if1 .left))) in
+    let m = missed (known (After-r2 t) (search) .r2 .given .1) (known (After-expr t) (search) .expr .ensures) in
     let gm = g .moved in
     let far = m .far in
     record { fuel = g .fuel - 1; enough = omega arith; same = loses _ _ try (m .same); moved = omega arith; text = m .text ∙ g .text; kept = omega arith }
@@ -103,10 +185,10 @@ pub same-length-3 : (t : ℕ) → lts.Need-same-length-3 (calls t) (sync-at t) r
 same-length-3 t c = search needs
 
 pub returns-3 : (t : ℕ) → lts.Need-returns-3 (calls t) (sync-at t) reads.Post Inv-loop μ-loop
-returns-3 t c = let g = c .before .before .before .before .before .before .before .before .before .before .before .before .before .loop .inv in
-    let tk = taken (c .before .before .before .before .before .before .before .before .before .before .kind .given .1) (c .before .before .before .before .before .before .before .before .before .before .before .before .look .ensures) in
-    let try = link (g .same) (way _ (sync-try _ _ _ (g .fuel) _ (g .enough) tk (sym (c .before .before .before .before .before .before .before .before .halts .ensures) ∙ c .before .before .before .before .before .before .before .if1 .left))) in
-    did-not (stops _ _ try (c .before .match2 .keys3) (c .before .before .before .before .expr .ensures))
+returns-3 t c = let g = at-loop-of-after-halts t (search) .loop .inv in
+    let tk = taken (after-kind-of-after-halts t (search) .kind .given .1) (after-look-of-after-halts t (search) .look .ensures) in
+    let try = link (g .same) (way _ (sync-try _ _ _ (g .fuel) _ (g .enough) tk (sym (known (After-halts t) (search) .halts .ensures) ∙ known (Else1 t) (search) .if1 .left))) in
+    did-not (stops _ _ try (known (At-match2-keys3 t) (search) .match2 .keys3) (known (After-expr t) (search) .expr .ensures))
 
 pub enum-known-s : (t : ℕ) → lts.Need-enum-known-s (calls t) (sync-at t) reads.Post Inv-loop μ-loop
 enum-known-s t c = search needs
@@ -118,20 +200,20 @@ pub same-length-4 : (t : ℕ) → lts.Need-same-length-4 (calls t) (sync-at t) r
 same-length-4 t c = search needs
 
 pub returns-4 : (t : ℕ) → lts.Need-returns-4 (calls t) (sync-at t) reads.Post Inv-loop μ-loop
-returns-4 t c = let g = c .before .before .before .before .before .before .before .before .loop .inv in
-    let ms = unseen (c .before .before .s2 .given .1) (not-taken (c .before .before .before .before .before .s .given .1) (c .before .before .before .before .before .before .before .look .ensures)) in
-    record { how = record { what = tt; same = link (g .same) (sync-none _ _ _ (g .fuel) _ (g .enough) ms (c .if2 .taken)); moved = g .moved; room = omega arith; text = g .text ∙ sym (append-nil (take (c .before .before .before .before .before .before .before .before .before .before .before .args .at) (c .before .before .before .before .before .before .before .before .before .before .before .args .store .now))) } }
+returns-4 t c = let g = known (At-loop t) (search) .loop .inv in
+    let ms = unseen (known (After-s2 t) (search) .s2 .given .1) (not-taken (known (After-s t) (search) .s .given .1) (known (After-look t) (search) .look .ensures)) in
+    record { how = record { what = tt; same = link (g .same) (sync-none _ _ _ (g .fuel) _ (g .enough) ms (c .if2 .taken)); moved = g .moved; room = omega arith; text = g .text ∙ sym (append-nil (take (start-of-at-match3-keys1 t (search) .args .at) (start-of-at-match3-keys1 t (search) .args .store .now))) } }
 
 pub loop-less-2 : (t : ℕ) → lts.Need-loop-less-2 (calls t) (sync-at t) reads.Post Inv-loop μ-loop
-loop-less-2 t c = let g = c .before .before .before .before .before .before .before .before .loop .inv in
-    let ms = unseen (c .before .before .s2 .given .1) (not-taken (c .before .before .before .before .before .s .given .1) (c .before .before .before .before .before .before .before .look .ensures)) in
+loop-less-2 t c = let g = known (At-loop t) (search) .loop .inv in
+    let ms = unseen (known (After-s2 t) (search) .s2 .given .1) (not-taken (known (After-s t) (search) .s .given .1) (known (After-look t) (search) .look .ensures)) in
     let past = ms .past (c .if2 .left) in
     let within = ms .lacks .within in
     omega arith
 
 pub loop-again-2 : (t : ℕ) → lts.Need-loop-again-2 (calls t) (sync-at t) reads.Post Inv-loop μ-loop
-loop-again-2 t c = let g = c .before .before .before .before .before .before .before .before .loop .inv in
-    let ms = unseen (c .before .before .s2 .given .1) (not-taken (c .before .before .before .before .before .s .given .1) (c .before .before .before .before .before .before .before .look .ensures)) in
+loop-again-2 t c = let g = known (At-loop t) (search) .loop .inv in
+    let ms = unseen (known (After-s2 t) (search) .s2 .given .1) (not-taken (known (After-s t) (search) .s .given .1) (known (After-look t) (search) .look .ensures)) in
     let past = ms .past (c .if2 .left) in
     let within = ms .lacks .within in
     let gm = g .moved in
@@ -141,5 +223,5 @@ pub same-length-5 : (t : ℕ) → lts.Need-same-length-5 (calls t) (sync-at t) r
 same-length-5 t c = search needs
 
 pub returns-5 : (t : ℕ) → lts.Need-returns-5 (calls t) (sync-at t) reads.Post Inv-loop μ-loop
-returns-5 t c = let g = c .before .before .before .before .before .loop .inv in
-    did-not (blinded (c .match3 .keys2) (not-taken (c .before .before .s .given .1) (c .before .before .before .before .look .ensures)) (g .same) (sync-stop _ _ _ _ (g .fuel) _ (g .enough)))
+returns-5 t c = let g = known (At-loop t) (search) .loop .inv in
+    did-not (blinded (c .match3 .keys2) (not-taken (known (After-s t) (search) .s .given .1) (known (After-look t) (search) .look .ensures)) (g .same) (sync-stop _ _ _ _ (g .fuel) _ (g .enough)))

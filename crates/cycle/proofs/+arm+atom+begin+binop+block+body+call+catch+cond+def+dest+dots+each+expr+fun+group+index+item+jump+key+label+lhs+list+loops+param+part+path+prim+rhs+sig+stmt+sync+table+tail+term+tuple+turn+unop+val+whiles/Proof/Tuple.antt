@@ -14,10 +14,62 @@ use Rattle.cycle.proofs.tail.Reads as tail-reads
 use Rattle.scan.proofs.again.Reads as again-reads
 use Rattle.scan.proofs.tokens.look.Reads as look-reads
 use Rattle.cycle.proofs.+arm+atom+begin+binop+block+body+call+catch+cond+def+dest+dots+each+expr+fun+group+index+item+jump+key+label+lhs+list+loops+param+part+path+prim+rhs+sig+stmt+sync+table+tail+term+tuple+turn+unop+val+whiles.Proof.Below.{tuple-at, binop-below, tail-below}
+use Rattle.tree.proofs.Known.{known}
 
 -- what is known of the functions that it calls
 abbrev pub calls : ℕ → lts.Claims
 calls t = (binop-below t, binop-reads.Post, again-reads.Asked, again-reads.Learnt, look-reads.Asked, look-reads.Learnt, tail-below t, tail-reads.Post)
+
+abbrev At-match-keys2 : ℕ → Type 0
+At-match-keys2 t = lts.At-match-keys2 (calls t) (tuple-at t) reads.Post
+
+abbrev After-binop : ℕ → Type 0
+After-binop t = lts.After-binop (calls t) (tuple-at t) reads.Post
+
+abbrev After-r : ℕ → Type 0
+After-r t = lts.After-r (calls t) (tuple-at t) reads.Post
+
+abbrev After-tail-arg : ℕ → Type 0
+After-tail-arg t = lts.After-tail-arg (calls t) (tuple-at t) reads.Post
+
+abbrev At-match-keys1 : ℕ → Type 0
+At-match-keys1 t = lts.At-match-keys1 (calls t) (tuple-at t) reads.Post
+
+abbrev After-kind : ℕ → Type 0
+After-kind t = lts.After-kind (calls t) (tuple-at t) reads.Post
+
+abbrev After-look : ℕ → Type 0
+After-look t = lts.After-look (calls t) (tuple-at t) reads.Post
+
+abbrev Start : ℕ → Type 0
+Start t = lts.Start (calls t) (tuple-at t) reads.Post
+
+abbrev Then1 : ℕ → Type 0
+Then1 t = lts.Then1 (calls t) (tuple-at t) reads.Post
+
+abbrev After-tail : ℕ → Type 0
+After-tail t = lts.After-tail (calls t) (tuple-at t) reads.Post
+
+abbrev After-s : ℕ → Type 0
+After-s t = lts.After-s (calls t) (tuple-at t) reads.Post
+
+abbrev after-binop-of-at-match-keys1 : (t : ℕ) → At-match-keys1 t → After-binop t
+after-binop-of-at-match-keys1 t c = search
+
+abbrev after-binop-of-after-tail-arg : (t : ℕ) → After-tail-arg t → After-binop t
+after-binop-of-after-tail-arg t c = after-binop-of-at-match-keys1 t (search)
+
+abbrev after-r-of-after-tail-arg : (t : ℕ) → After-tail-arg t → After-r t
+after-r-of-after-tail-arg t c = search
+
+abbrev after-look-of-after-tail-arg : (t : ℕ) → After-tail-arg t → After-look t
+after-look-of-after-tail-arg t c = search
+
+abbrev start-of-at-match-keys1 : (t : ℕ) → At-match-keys1 t → Start t
+start-of-at-match-keys1 t c = search
+
+abbrev start-of-after-tail-arg : (t : ℕ) → After-tail-arg t → Start t
+start-of-after-tail-arg t c = start-of-at-match-keys1 t (search)
 
 pub binop-requires : (t : ℕ) → lts.Need-binop-requires (calls t) (tuple-at t) reads.Post
 binop-requires t c κs = omega arith
@@ -32,28 +84,28 @@ pub same-length : (t : ℕ) → lts.Need-same-length (calls t) (tuple-at t) read
 same-length t c = search needs
 
 pub returns : (t : ℕ) → lts.Need-returns (calls t) (tuple-at t) reads.Post
-returns t c = anew (c .again .ensures) (did-not (fails _ (way _ (tuple-step _ _ _)) (undone (c .before .match .keys2) (c .before .before .before .before .binop .ensures)) refl (omega arith)))
+returns t c = anew (c .again .ensures) (did-not (fails _ (way _ (tuple-step _ _ _)) (undone (known (At-match-keys2 t) (search) .match .keys2) (known (After-binop t) (search) .binop .ensures)) refl (omega arith)))
 
 pub look-requires : (t : ℕ) → lts.Need-look-requires (calls t) (tuple-at t) reads.Post
-look-requires t c κs = let w = done (c .before .r .given .1) (c .before .before .before .before .before .binop .ensures) in
+look-requires t c κs = let w = done (known (After-r t) (search) .r .given .1) (known (After-binop t) (search) .binop .ensures) in
     w .moved .within
 
 pub enum-known-kind : (t : ℕ) → lts.Need-enum-known-kind (calls t) (tuple-at t) reads.Post
 enum-known-kind t c = search needs
 
 pub tail-requires : (t : ℕ) → lts.Need-tail-requires (calls t) (tuple-at t) reads.Post
-tail-requires t c κs = let w = done (c .before .before .before .before .before .before .before .before .r .given .1) (c .before .before .before .before .before .before .before .before .before .before .before .before .binop .ensures) in
-    let tk = taken (c .before .before .before .before .kind .given .1) (c .before .before .before .before .before .before .look .ensures) in
+tail-requires t c κs = let w = done (known (After-r t) (search) .r .given .1) (after-binop-of-after-tail-arg t (search) .binop .ensures) in
+    let tk = taken (known (After-kind t) (search) .kind .given .1) (known (After-look t) (search) .look .ensures) in
     omega arith
 
 pub same-length-2 : (t : ℕ) → lts.Need-same-length-2 (calls t) (tuple-at t) reads.Post
 same-length-2 t c = search needs
 
 pub returns-2 : (t : ℕ) → lts.Need-returns-2 (calls t) (tuple-at t) reads.Post
-returns-2 t c = let w = done (c .before .before .before .before .before .before .before .before .before .before .before .r .given .1) (c .before .before .before .before .before .before .before .before .before .before .before .before .before .before .before .binop .ensures) in
+returns-2 t c = let w = done (after-r-of-after-tail-arg t (search) .r .given .1) (after-binop-of-after-tail-arg t (search) .binop .ensures) in
     let on = goes _ (way _ (tuple-step _ _ _)) (w .same) in
-    let tk = taken (c .before .before .before .before .before .before .before .kind .given .1) (c .before .before .before .before .before .before .before .before .before .look .ensures) in
-    continued w (omega (arith, c .before .before .before .before .before .before .before .before .before .before .before .before .before .before .before .before .before .before .before .before .pre)) _ (tuple-text (w .what)) (link on (way _ (tuple-more _ _ _ tk (c .before .before .before .before .before .if1 .taken)))) (c .before .before .tail .ensures) (omega (arith, c .before .before .before .before .before .before .before .before .before .before .before .before .before .before .before .before .before .before .before .before .pre, w .moved, w .room))
+    let tk = taken (known (After-kind t) (search) .kind .given .1) (after-look-of-after-tail-arg t (search) .look .ensures) in
+    continued w (omega (arith, start-of-after-tail-arg t (search) .pre)) _ (tuple-text (w .what)) (link on (way _ (tuple-more _ _ _ tk (known (Then1 t) (search) .if1 .taken)))) (known (After-tail t) (search) .tail .ensures) (omega (arith, start-of-after-tail-arg t (search) .pre, w .moved, w .room))
 
 pub enum-known-s : (t : ℕ) → lts.Need-enum-known-s (calls t) (tuple-at t) reads.Post
 enum-known-s t c = search needs
@@ -62,15 +114,15 @@ pub same-length-3 : (t : ℕ) → lts.Need-same-length-3 (calls t) (tuple-at t) 
 same-length-3 t c = search needs
 
 pub returns-3 : (t : ℕ) → lts.Need-returns-3 (calls t) (tuple-at t) reads.Post
-returns-3 t c = let w = done (c .before .before .before .before .before .before .r .given .1) (c .before .before .before .before .before .before .before .before .before .before .binop .ensures) in
+returns-3 t c = let w = done (known (After-r t) (search) .r .given .1) (after-binop-of-at-match-keys1 t (search) .binop .ensures) in
     let on = goes _ (way _ (tuple-step _ _ _)) (w .same) in
-    let tk = taken (c .before .before .kind .given .1) (c .before .before .before .before .look .ensures) in
+    let tk = taken (known (After-kind t) (search) .kind .given .1) (known (After-look t) (search) .look .ensures) in
     record { how = relabel w (w .what) refl (link on (way _ (tuple-one _ _ _ tk (c .if1 .left)))) (w .moved) (omega (arith, w .room)) }
 
 pub same-length-4 : (t : ℕ) → lts.Need-same-length-4 (calls t) (tuple-at t) reads.Post
 same-length-4 t c = search needs
 
 pub returns-4 : (t : ℕ) → lts.Need-returns-4 (calls t) (tuple-at t) reads.Post
-returns-4 t c = let w = done (c .before .before .before .before .before .r .given .1) (c .before .before .before .before .before .before .before .before .before .binop .ensures) in
+returns-4 t c = let w = done (known (After-r t) (search) .r .given .1) (after-binop-of-at-match-keys1 t (search) .binop .ensures) in
     let on = goes _ (way _ (tuple-step _ _ _)) (w .same) in
-    did-not (blind on (tuple-looks _ _ _ _) (not-taken (c .before .s .given .1) (c .before .before .before .look .ensures)) (prefix w (omega arith)) (omega arith))
+    did-not (blind on (tuple-looks _ _ _ _) (not-taken (known (After-s t) (search) .s .given .1) (known (After-look t) (search) .look .ensures)) (prefix w (omega arith)) (omega arith))

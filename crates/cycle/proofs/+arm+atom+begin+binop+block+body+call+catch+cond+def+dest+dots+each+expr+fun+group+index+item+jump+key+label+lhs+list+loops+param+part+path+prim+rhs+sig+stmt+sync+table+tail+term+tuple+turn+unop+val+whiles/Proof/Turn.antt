@@ -18,10 +18,137 @@ use Rattle.scan.proofs.resumed.Reads as resumed-reads
 use Rattle.scan.proofs.tokens.is_control.Reads as is-control-reads
 use Rattle.cycle.proofs.+arm+atom+begin+binop+block+body+call+catch+cond+def+dest+dots+each+expr+fun+group+index+item+jump+key+label+lhs+list+loops+param+part+path+prim+rhs+sig+stmt+sync+table+tail+term+tuple+turn+unop+val+whiles.Proof.Below.{turn-at, jump-below, catch-below, stmt-below}
 use Rattle.cycle.proofs.Shapes.{given}
+use Rattle.tree.proofs.Known.{known}
 
 -- what is known of the functions that it calls
 abbrev pub calls : ℕ → lts.Claims
 calls t = (is-control-reads.Asked, is-control-reads.Learnt, list-end-reads.Asked, list-end-reads.Learnt, jump-below t, jump-reads.Post, control-last-reads.Asked, control-last-reads.Learnt, closed-reads.Asked, closed-reads.Learnt, catch-below t, catch-reads.Post, resumed-reads.Asked, resumed-reads.Learnt, stmt-below t, stmt-reads.Post)
+
+abbrev After-list-end : ℕ → Type 0
+After-list-end t = lts.After-list-end (calls t) (turn-at t) reads.Post
+
+abbrev After-is-control : ℕ → Type 0
+After-is-control t = lts.After-is-control (calls t) (turn-at t) reads.Post
+
+abbrev Then1 : ℕ → Type 0
+Then1 t = lts.Then1 (calls t) (turn-at t) reads.Post
+
+abbrev After-known-told : ℕ → Type 0
+After-known-told t = lts.After-known-told (calls t) (turn-at t) reads.Post
+
+abbrev After-slice-known2 : ℕ → Type 0
+After-slice-known2 t = lts.After-slice-known2 (calls t) (turn-at t) reads.Post
+
+abbrev After-c : ℕ → Type 0
+After-c t = lts.After-c (calls t) (turn-at t) reads.Post
+
+abbrev After-jump : ℕ → Type 0
+After-jump t = lts.After-jump (calls t) (turn-at t) reads.Post
+
+abbrev After-known-told2 : ℕ → Type 0
+After-known-told2 t = lts.After-known-told2 (calls t) (turn-at t) reads.Post
+
+abbrev After-c2 : ℕ → Type 0
+After-c2 t = lts.After-c2 (calls t) (turn-at t) reads.Post
+
+abbrev Start : ℕ → Type 0
+Start t = lts.Start (calls t) (turn-at t) reads.Post
+
+abbrev After-control-last : ℕ → Type 0
+After-control-last t = lts.After-control-last (calls t) (turn-at t) reads.Post
+
+abbrev After-catch : ℕ → Type 0
+After-catch t = lts.After-catch (calls t) (turn-at t) reads.Post
+
+abbrev At-match-keys3 : ℕ → Type 0
+At-match-keys3 t = lts.At-match-keys3 (calls t) (turn-at t) reads.Post
+
+abbrev After-r2 : ℕ → Type 0
+After-r2 t = lts.After-r2 (calls t) (turn-at t) reads.Post
+
+abbrev After-stmt : ℕ → Type 0
+After-stmt t = lts.After-stmt (calls t) (turn-at t) reads.Post
+
+abbrev After-store4 : ℕ → Type 0
+After-store4 t = lts.After-store4 (calls t) (turn-at t) reads.Post
+
+abbrev Else1 : ℕ → Type 0
+Else1 t = lts.Else1 (calls t) (turn-at t) reads.Post
+
+abbrev After-r : ℕ → Type 0
+After-r t = lts.After-r (calls t) (turn-at t) reads.Post
+
+abbrev After-store5 : ℕ → Type 0
+After-store5 t = lts.After-store5 (calls t) (turn-at t) reads.Post
+
+abbrev After-catch2 : ℕ → Type 0
+After-catch2 t = lts.After-catch2 (calls t) (turn-at t) reads.Post
+
+abbrev At-match2-keys3 : ℕ → Type 0
+At-match2-keys3 t = lts.At-match2-keys3 (calls t) (turn-at t) reads.Post
+
+abbrev after-list-end-of-after-slice-known2 : (t : ℕ) → After-slice-known2 t → After-list-end t
+after-list-end-of-after-slice-known2 t c = search
+
+abbrev after-list-end-of-after-known-told : (t : ℕ) → After-known-told t → After-list-end t
+after-list-end-of-after-known-told t c = after-list-end-of-after-slice-known2 t (search)
+
+abbrev after-list-end-of-after-known-told2 : (t : ℕ) → After-known-told2 t → After-list-end t
+after-list-end-of-after-known-told2 t c = after-list-end-of-after-slice-known2 t (search)
+
+abbrev start-of-after-slice-known2 : (t : ℕ) → After-slice-known2 t → Start t
+start-of-after-slice-known2 t c = search
+
+abbrev start-of-after-known-told2 : (t : ℕ) → After-known-told2 t → Start t
+start-of-after-known-told2 t c = start-of-after-slice-known2 t (search)
+
+abbrev after-is-control-of-after-slice-known2 : (t : ℕ) → After-slice-known2 t → After-is-control t
+after-is-control-of-after-slice-known2 t c = search
+
+abbrev after-is-control-of-after-known-told : (t : ℕ) → After-known-told t → After-is-control t
+after-is-control-of-after-known-told t c = after-is-control-of-after-slice-known2 t (search)
+
+abbrev then1-of-after-slice-known2 : (t : ℕ) → After-slice-known2 t → Then1 t
+then1-of-after-slice-known2 t c = search
+
+abbrev then1-of-after-known-told : (t : ℕ) → After-known-told t → Then1 t
+then1-of-after-known-told t c = then1-of-after-slice-known2 t (search)
+
+abbrev start-of-after-known-told : (t : ℕ) → After-known-told t → Start t
+start-of-after-known-told t c = start-of-after-slice-known2 t (search)
+
+abbrev after-is-control-of-after-known-told2 : (t : ℕ) → After-known-told2 t → After-is-control t
+after-is-control-of-after-known-told2 t c = after-is-control-of-after-slice-known2 t (search)
+
+abbrev then1-of-after-known-told2 : (t : ℕ) → After-known-told2 t → Then1 t
+then1-of-after-known-told2 t c = then1-of-after-slice-known2 t (search)
+
+abbrev after-jump-of-after-known-told2 : (t : ℕ) → After-known-told2 t → After-jump t
+after-jump-of-after-known-told2 t c = search
+
+abbrev start-of-after-store4 : (t : ℕ) → After-store4 t → Start t
+start-of-after-store4 t c = search
+
+abbrev after-is-control-of-after-store4 : (t : ℕ) → After-store4 t → After-is-control t
+after-is-control-of-after-store4 t c = search
+
+abbrev after-is-control-of-after-store5 : (t : ℕ) → After-store5 t → After-is-control t
+after-is-control-of-after-store5 t c = after-is-control-of-after-store4 t (search)
+
+abbrev else1-of-after-store4 : (t : ℕ) → After-store4 t → Else1 t
+else1-of-after-store4 t c = search
+
+abbrev else1-of-after-store5 : (t : ℕ) → After-store5 t → Else1 t
+else1-of-after-store5 t c = else1-of-after-store4 t (search)
+
+abbrev after-stmt-of-after-store4 : (t : ℕ) → After-store4 t → After-stmt t
+after-stmt-of-after-store4 t c = search
+
+abbrev after-stmt-of-after-store5 : (t : ℕ) → After-store5 t → After-stmt t
+after-stmt-of-after-store5 t c = after-stmt-of-after-store4 t (search)
+
+abbrev start-of-after-store5 : (t : ℕ) → After-store5 t → Start t
+start-of-after-store5 t c = start-of-after-store4 t (search)
 
 pub is-control-requires : (t : ℕ) → lts.Need-is-control-requires (calls t) (turn-at t) reads.Post
 is-control-requires t c κs = search needs
@@ -33,15 +160,15 @@ pub add-jump : (t : ℕ) → lts.Need-add-jump (calls t) (turn-at t) reads.Post
 add-jump t c = omega arith
 
 pub jump-requires : (t : ℕ) → lts.Need-jump-requires (calls t) (turn-at t) reads.Post
-jump-requires t c κs = let e = c .before .before .before .before .list-end .ensures in
-    (omega arith, (omega arith, omega arith, sym (c .before .before .before .before .before .before .before .is-control .ensures) ∙ c .before .before .before .before .before .before .if1 .taken))
+jump-requires t c κs = let e = known (After-list-end t) (search) .list-end .ensures in
+    (omega arith, (omega arith, omega arith, sym (known (After-is-control t) (search) .is-control .ensures) ∙ known (Then1 t) (search) .if1 .taken))
 
 pub enum-known-c : (t : ℕ) → lts.Need-enum-known-c (calls t) (turn-at t) reads.Post
 enum-known-c t c = search needs
 
 pub control-last-requires : (t : ℕ) → lts.Need-control-last-requires (calls t) (turn-at t) reads.Post
-control-last-requires t c κs = let e = c .before .before .before .before .before .before .before .before .before .before .before .list-end .ensures in
-    let k1 = done (c .before .before .c .given .1) (c .before .before .before .before .before .before .jump .ensures) in
+control-last-requires t c κs = let e = after-list-end-of-after-known-told t (search) .list-end .ensures in
+    let k1 = done (known (After-c t) (search) .c .given .1) (known (After-jump t) (search) .jump .ensures) in
     omega (arith, k1 .moved)
 
 pub closed-requires : (t : ℕ) → lts.Need-closed-requires (calls t) (turn-at t) reads.Post
@@ -51,9 +178,9 @@ pub enum-known-c-2 : (t : ℕ) → lts.Need-enum-known-c-2 (calls t) (turn-at t)
 enum-known-c-2 t c = search needs
 
 pub catch-requires : (t : ℕ) → lts.Need-catch-requires (calls t) (turn-at t) reads.Post
-catch-requires t c κs = let e = c .before .before .before .before .before .before .before .before .before .before .before .before .list-end .ensures in
-    let k2 = missed (c .before .before .before .c2 .given .1) (c .before .before .before .before .before .before .before .jump .ensures) in
-    omega (arith, c .before .before .before .before .before .before .before .before .before .before .before .before .before .before .before .before .before .before .pre, k2 .moved)
+catch-requires t c κs = let e = after-list-end-of-after-known-told2 t (search) .list-end .ensures in
+    let k2 = missed (known (After-c2 t) (search) .c2 .given .1) (known (After-jump t) (search) .jump .ensures) in
+    omega (arith, start-of-after-known-told2 t (search) .pre, k2 .moved)
 
 pub resumed-requires : (t : ℕ) → lts.Need-resumed-requires (calls t) (turn-at t) reads.Post
 resumed-requires t c κs = search needs
@@ -65,26 +192,26 @@ pub same-length : (t : ℕ) → lts.Need-same-length (calls t) (turn-at t) reads
 same-length t c = search needs
 
 pub returns : (t : ℕ) → lts.Need-returns (calls t) (turn-at t) reads.Post
-returns t c = let e = c .before .before .before .before .before .before .before .before .before .before .before .before .before .list-end .ensures in
-    let hold = way _ (turn-control _ _ _ _ _ _ (sym (c .before .before .before .before .before .before .before .before .before .before .before .before .before .before .before .before .is-control .ensures) ∙ c .before .before .before .before .before .before .before .before .before .before .before .before .before .before .before .if1 .taken)) in
-    let k1 = done (c .before .before .before .before .c .given .1) (c .before .before .before .before .before .before .before .before .jump .ensures) in
-    closes (k1 .what) (wins _ _ hold (k1 .same)) (given (control-held _ _ _ _) (k1 .same)) (control-text (c .before .before .before .before .before .before .before .before .before .before .before .before .before .before .before .before .before .before .before .args .n) (k1 .what) (take (c .before .before .before .before .before .before .before .before .before .before .before .before .before .before .before .before .before .before .before .args .at) (c .before .before .before .before .before .before .before .before .before .before .before .before .before .before .before .before .before .before .before .args .store .now)) (k1 .text) (e .text)) (emitted-before e (omega (arith, c .before .before .before .before .before .before .before .before .before .before .before .before .before .before .before .before .before .before .before .pre)) _ (prefix k1 (omega (arith, c .before .before .before .before .before .before .before .before .before .before .before .before .before .before .before .before .before .before .before .pre, e .next, e .whole)))) (omega (arith, e .next, k1 .moved, k1 .room)) (c .closed .ensures) (c .before .control-last .ensures)
+returns t c = let e = after-list-end-of-after-known-told t (search) .list-end .ensures in
+    let hold = way _ (turn-control _ _ _ _ _ _ (sym (after-is-control-of-after-known-told t (search) .is-control .ensures) ∙ then1-of-after-known-told t (search) .if1 .taken)) in
+    let k1 = done (known (After-c t) (search) .c .given .1) (known (After-jump t) (search) .jump .ensures) in
+    closes (k1 .what) (wins _ _ hold (k1 .same)) (given (control-held _ _ _ _) (k1 .same)) (control-text (start-of-after-known-told t (search) .args .n) (k1 .what) (take (start-of-after-known-told t (search) .args .at) (start-of-after-known-told t (search) .args .store .now)) (k1 .text) (e .text)) (emitted-before e (omega (arith, start-of-after-known-told t (search) .pre)) _ (prefix k1 (omega (arith, start-of-after-known-told t (search) .pre, e .next, e .whole)))) (omega (arith, e .next, k1 .moved, k1 .room)) (c .closed .ensures) (known (After-control-last t) (search) .control-last .ensures)
 
 pub same-length-2 : (t : ℕ) → lts.Need-same-length-2 (calls t) (turn-at t) reads.Post
 same-length-2 t c = search needs
 
 pub returns-2 : (t : ℕ) → lts.Need-returns-2 (calls t) (turn-at t) reads.Post
-returns-2 t c = let e = c .before .before .before .before .before .before .before .before .before .before .before .before .before .before .before .before .list-end .ensures in
-    let hold = way _ (turn-control _ _ _ _ _ _ (sym (c .before .before .before .before .before .before .before .before .before .before .before .before .before .before .before .before .before .before .before .is-control .ensures) ∙ c .before .before .before .before .before .before .before .before .before .before .before .before .before .before .before .before .before .before .if1 .taken)) in
-    let k2 = missed (c .before .before .before .before .before .before .before .c2 .given .1) (c .before .before .before .before .before .before .before .before .before .before .before .jump .ensures) in
-    catches (loses _ _ hold (k2 .same)) (emitted-before e (omega (arith, c .before .before .before .before .before .before .before .before .before .before .before .before .before .before .before .before .before .before .before .before .before .before .pre)) _ (k2 .text)) (omega (arith, c .before .before .before .before .before .before .before .before .before .before .before .before .before .before .before .before .before .before .before .before .before .before .pre, e .next, e .whole, k2 .moved)) (c .resumed .ensures) (c .before .before .before .catch .ensures) (caught-two _ _ _ _)
+returns-2 t c = let e = after-list-end-of-after-known-told2 t (search) .list-end .ensures in
+    let hold = way _ (turn-control _ _ _ _ _ _ (sym (after-is-control-of-after-known-told2 t (search) .is-control .ensures) ∙ then1-of-after-known-told2 t (search) .if1 .taken)) in
+    let k2 = missed (known (After-c2 t) (search) .c2 .given .1) (after-jump-of-after-known-told2 t (search) .jump .ensures) in
+    catches (loses _ _ hold (k2 .same)) (emitted-before e (omega (arith, start-of-after-known-told2 t (search) .pre)) _ (k2 .text)) (omega (arith, start-of-after-known-told2 t (search) .pre, e .next, e .whole, k2 .moved)) (c .resumed .ensures) (known (After-catch t) (search) .catch .ensures) (caught-two _ _ _ _)
 
 pub same-length-3 : (t : ℕ) → lts.Need-same-length-3 (calls t) (turn-at t) reads.Post
 same-length-3 t c = search needs
 
 pub returns-3 : (t : ℕ) → lts.Need-returns-3 (calls t) (turn-at t) reads.Post
-returns-3 t c = let hold = way _ (turn-control _ _ _ _ _ _ (sym (c .before .before .before .before .before .before .before .before .before .before .before .before .is-control .ensures) ∙ c .before .before .before .before .before .before .before .before .before .before .before .if1 .taken)) in
-    record { how = stops _ _ hold (c .before .match .keys3) (c .before .before .before .before .jump .ensures) }
+returns-3 t c = let hold = way _ (turn-control _ _ _ _ _ _ (sym (after-is-control-of-after-slice-known2 t (search) .is-control .ensures) ∙ then1-of-after-slice-known2 t (search) .if1 .taken)) in
+    record { how = stops _ _ hold (known (At-match-keys3 t) (search) .match .keys3) (known (After-jump t) (search) .jump .ensures) }
 
 pub stmt-requires : (t : ℕ) → lts.Need-stmt-requires (calls t) (turn-at t) reads.Post
 stmt-requires t c κs = omega arith
@@ -96,9 +223,9 @@ pub enum-known-r-2 : (t : ℕ) → lts.Need-enum-known-r-2 (calls t) (turn-at t)
 enum-known-r-2 t c = search needs
 
 pub catch-requires-2 : (t : ℕ) → lts.Need-catch-requires-2 (calls t) (turn-at t) reads.Post
-catch-requires-2 t c κs = let m = missed (c .before .before .before .r2 .given .1) (c .before .before .before .before .before .before .before .stmt .ensures) in
+catch-requires-2 t c κs = let m = missed (known (After-r2 t) (search) .r2 .given .1) (known (After-stmt t) (search) .stmt .ensures) in
     let far = m .far in
-    omega (arith, c .before .before .before .before .before .before .before .before .before .before .before .before .before .before .pre, m .moved)
+    omega (arith, start-of-after-store4 t (search) .pre, m .moved)
 
 pub resumed-requires-2 : (t : ℕ) → lts.Need-resumed-requires-2 (calls t) (turn-at t) reads.Post
 resumed-requires-2 t c κs = search needs
@@ -110,22 +237,22 @@ pub same-length-4 : (t : ℕ) → lts.Need-same-length-4 (calls t) (turn-at t) r
 same-length-4 t c = search needs
 
 pub returns-4 : (t : ℕ) → lts.Need-returns-4 (calls t) (turn-at t) reads.Post
-returns-4 t c = let try = way _ (turn-stmt _ _ _ _ _ _ (sym (c .before .before .before .before .before .before .before .before .before .is-control .ensures) ∙ c .before .before .before .before .before .before .before .before .if1 .left)) in
-    let w1 = done (c .before .r .given .1) (c .before .before .before .before .before .stmt .ensures) in
+returns-4 t c = let try = way _ (turn-stmt _ _ _ _ _ _ (sym (after-is-control-of-after-store4 t (search) .is-control .ensures) ∙ known (Else1 t) (search) .if1 .left)) in
+    let w1 = done (known (After-r t) (search) .r .given .1) (known (After-stmt t) (search) .stmt .ensures) in
     record { how = record { what = w1 .what; same = wins _ _ try (w1 .same); moved = w1 .moved; room = w1 .room; text = w1 .text } }
 
 pub same-length-5 : (t : ℕ) → lts.Need-same-length-5 (calls t) (turn-at t) reads.Post
 same-length-5 t c = search needs
 
 pub returns-5 : (t : ℕ) → lts.Need-returns-5 (calls t) (turn-at t) reads.Post
-returns-5 t c = let try = way _ (turn-stmt _ _ _ _ _ _ (sym (c .before .before .before .before .before .before .before .before .before .before .before .before .before .before .before .is-control .ensures) ∙ c .before .before .before .before .before .before .before .before .before .before .before .before .before .before .if1 .left)) in
-    let m = missed (c .before .before .before .before .before .before .before .r2 .given .1) (c .before .before .before .before .before .before .before .before .before .before .before .stmt .ensures) in
+returns-5 t c = let try = way _ (turn-stmt _ _ _ _ _ _ (sym (after-is-control-of-after-store5 t (search) .is-control .ensures) ∙ else1-of-after-store5 t (search) .if1 .left)) in
+    let m = missed (known (After-r2 t) (search) .r2 .given .1) (after-stmt-of-after-store5 t (search) .stmt .ensures) in
     let far = m .far in
-    catches (loses _ _ try (m .same)) (m .text) (omega (arith, c .before .before .before .before .before .before .before .before .before .before .before .before .before .before .before .before .before .before .pre, far, m .moved)) (c .resumed2 .ensures) (c .before .before .before .catch2 .ensures) (caught-two _ _ _ _)
+    catches (loses _ _ try (m .same)) (m .text) (omega (arith, start-of-after-store5 t (search) .pre, far, m .moved)) (c .resumed2 .ensures) (known (After-catch2 t) (search) .catch2 .ensures) (caught-two _ _ _ _)
 
 pub same-length-6 : (t : ℕ) → lts.Need-same-length-6 (calls t) (turn-at t) reads.Post
 same-length-6 t c = search needs
 
 pub returns-6 : (t : ℕ) → lts.Need-returns-6 (calls t) (turn-at t) reads.Post
-returns-6 t c = let try = way _ (turn-stmt _ _ _ _ _ _ (sym (c .before .before .before .before .before .before .before .before .is-control .ensures) ∙ c .before .before .before .before .before .before .before .if1 .left)) in
-    record { how = stops _ _ try (c .before .match2 .keys3) (c .before .before .before .before .stmt .ensures) }
+returns-6 t c = let try = way _ (turn-stmt _ _ _ _ _ _ (sym (known (After-is-control t) (search) .is-control .ensures) ∙ known (Else1 t) (search) .if1 .left)) in
+    record { how = stops _ _ try (known (At-match2-keys3 t) (search) .match2 .keys3) (known (After-stmt t) (search) .stmt .ensures) }

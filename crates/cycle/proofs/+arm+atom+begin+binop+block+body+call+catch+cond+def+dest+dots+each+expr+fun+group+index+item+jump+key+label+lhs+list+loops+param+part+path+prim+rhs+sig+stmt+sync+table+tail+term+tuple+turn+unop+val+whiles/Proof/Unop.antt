@@ -14,10 +14,74 @@ use Rattle.scan.proofs.tokens.look.Reads as look-reads
 use Rattle.scan.proofs.tokens.unary_code.Reads as unary-code-reads
 use Rattle.tree.proofs.emit.Reads as emit-reads
 use Rattle.cycle.proofs.+arm+atom+begin+binop+block+body+call+catch+cond+def+dest+dots+each+expr+fun+group+index+item+jump+key+label+lhs+list+loops+param+part+path+prim+rhs+sig+stmt+sync+table+tail+term+tuple+turn+unop+val+whiles.Proof.Below.{unop-at, term-below, unop-below}
+use Rattle.tree.proofs.Known.{known}
 
 -- what is known of the functions that it calls
 abbrev pub calls : ℕ → lts.Claims
 calls t = (look-reads.Asked, look-reads.Learnt, unary-code-reads.Asked, unary-code-reads.Learnt, term-below t, term-reads.Post, unop-below t, reads.Post, again-reads.Asked, again-reads.Learnt, emit-reads.Asked, emit-reads.Learnt)
+
+abbrev After-kind : ℕ → Type 0
+After-kind t = lts.After-kind (calls t) (unop-at t) reads.Post
+
+abbrev After-unary-code : ℕ → Type 0
+After-unary-code t = lts.After-unary-code (calls t) (unop-at t) reads.Post
+
+abbrev After-look : ℕ → Type 0
+After-look t = lts.After-look (calls t) (unop-at t) reads.Post
+
+abbrev Else1 : ℕ → Type 0
+Else1 t = lts.Else1 (calls t) (unop-at t) reads.Post
+
+abbrev Then2 : ℕ → Type 0
+Then2 t = lts.Then2 (calls t) (unop-at t) reads.Post
+
+abbrev After-term : ℕ → Type 0
+After-term t = lts.After-term (calls t) (unop-at t) reads.Post
+
+abbrev Else2 : ℕ → Type 0
+Else2 t = lts.Else2 (calls t) (unop-at t) reads.Post
+
+abbrev At-match2-keys2 : ℕ → Type 0
+At-match2-keys2 t = lts.At-match2-keys2 (calls t) (unop-at t) reads.Post
+
+abbrev After-unop : ℕ → Type 0
+After-unop t = lts.After-unop (calls t) (unop-at t) reads.Post
+
+abbrev After-r : ℕ → Type 0
+After-r t = lts.After-r (calls t) (unop-at t) reads.Post
+
+abbrev After-emit : ℕ → Type 0
+After-emit t = lts.After-emit (calls t) (unop-at t) reads.Post
+
+abbrev After-s : ℕ → Type 0
+After-s t = lts.After-s (calls t) (unop-at t) reads.Post
+
+abbrev after-look-of-after-unary-code : (t : ℕ) → After-unary-code t → After-look t
+after-look-of-after-unary-code t c = search
+
+abbrev else1-of-after-unary-code : (t : ℕ) → After-unary-code t → Else1 t
+else1-of-after-unary-code t c = search
+
+abbrev after-kind-of-after-unary-code : (t : ℕ) → After-unary-code t → After-kind t
+after-kind-of-after-unary-code t c = search
+
+abbrev after-kind-of-after-r : (t : ℕ) → After-r t → After-kind t
+after-kind-of-after-r t c = after-kind-of-after-unary-code t (search)
+
+abbrev after-look-of-after-r : (t : ℕ) → After-r t → After-look t
+after-look-of-after-r t c = after-look-of-after-unary-code t (search)
+
+abbrev after-unop-of-after-r : (t : ℕ) → After-r t → After-unop t
+after-unop-of-after-r t c = search
+
+abbrev else1-of-after-r : (t : ℕ) → After-r t → Else1 t
+else1-of-after-r t c = else1-of-after-unary-code t (search)
+
+abbrev after-unary-code-of-after-r : (t : ℕ) → After-r t → After-unary-code t
+after-unary-code-of-after-r t c = search
+
+abbrev else2-of-after-r : (t : ℕ) → After-r t → Else2 t
+else2-of-after-r t c = search
 
 pub returns : (t : ℕ) → lts.Need-returns (calls t) (unop-at t) reads.Post
 returns t c = record { how = record { how = ends (unary-stops _ _ _ (c .if1 .taken)) } }
@@ -41,18 +105,18 @@ pub same-length : (t : ℕ) → lts.Need-same-length (calls t) (unop-at t) reads
 same-length t c = search needs
 
 pub returns-2 : (t : ℕ) → lts.Need-returns-2 (calls t) (unop-at t) reads.Post
-returns-2 t c = let tk = taken (c .before .before .before .before .before .before .before .before .kind .given .1) (c .before .before .before .before .before .before .before .before .before .before .look .ensures) in
-    as-agrees (unary-step _ _ _ (c .before .before .before .before .before .before .before .before .before .before .before .if1 .left) ∙ unary-none _ _ tk (c .before .before .before .before .before .before .unary-code .ensures .0) (c .before .before .before .before .before .if2 .taken)) (c .before .before .term .ensures)
+returns-2 t c = let tk = taken (known (After-kind t) (search) .kind .given .1) (after-look-of-after-unary-code t (search) .look .ensures) in
+    as-agrees (unary-step _ _ _ (else1-of-after-unary-code t (search) .if1 .left) ∙ unary-none _ _ tk (known (After-unary-code t) (search) .unary-code .ensures .0) (known (Then2 t) (search) .if2 .taken)) (known (After-term t) (search) .term .ensures)
 
 pub sub-unop : (t : ℕ) → lts.Need-sub-unop (calls t) (unop-at t) reads.Post
 sub-unop t c = search needs
 
 pub add-unop : (t : ℕ) → lts.Need-add-unop (calls t) (unop-at t) reads.Post
-add-unop t c = let tk = taken (c .before .before .before .before .before .kind .given .1) (c .before .before .before .before .before .before .before .look .ensures) in
+add-unop t c = let tk = taken (known (After-kind t) (search) .kind .given .1) (known (After-look t) (search) .look .ensures) in
     omega arith
 
 pub unop-requires : (t : ℕ) → lts.Need-unop-requires (calls t) (unop-at t) reads.Post
-unop-requires t c κs = let tk = taken (c .before .before .before .before .before .kind .given .1) (c .before .before .before .before .before .before .before .look .ensures) in
+unop-requires t c κs = let tk = taken (known (After-kind t) (search) .kind .given .1) (known (After-look t) (search) .look .ensures) in
     omega arith
 
 pub enum-known-r : (t : ℕ) → lts.Need-enum-known-r (calls t) (unop-at t) reads.Post
@@ -65,16 +129,16 @@ pub same-length-2 : (t : ℕ) → lts.Need-same-length-2 (calls t) (unop-at t) r
 same-length-2 t c = search needs
 
 pub returns-3 : (t : ℕ) → lts.Need-returns-3 (calls t) (unop-at t) reads.Post
-returns-3 t c = let tk = taken (c .before .before .before .before .before .before .before .before .before .before .kind .given .1) (c .before .before .before .before .before .before .before .before .before .before .before .before .look .ensures) in
-    let path = way _ (unary-step _ _ _ (c .before .before .before .before .before .before .before .before .before .before .before .before .before .if1 .left) ∙ unary-some _ _ tk (c .before .before .before .before .before .before .before .before .unary-code .ensures .0) (c .before .before .before .before .before .before .before .if2 .left)) in
-    anew (c .again .ensures) (did-not (fails _ path (undone (c .before .match2 .keys2) (c .before .before .before .before .unop .ensures)) refl (omega arith)))
+returns-3 t c = let tk = taken (after-kind-of-after-unary-code t (search) .kind .given .1) (after-look-of-after-unary-code t (search) .look .ensures) in
+    let path = way _ (unary-step _ _ _ (else1-of-after-unary-code t (search) .if1 .left) ∙ unary-some _ _ tk (known (After-unary-code t) (search) .unary-code .ensures .0) (known (Else2 t) (search) .if2 .left)) in
+    anew (c .again .ensures) (did-not (fails _ path (undone (known (At-match2-keys2 t) (search) .match2 .keys2) (known (After-unop t) (search) .unop .ensures)) refl (omega arith)))
 
 pub sub-emit : (t : ℕ) → lts.Need-sub-emit (calls t) (unop-at t) reads.Post
 sub-emit t c = search needs
 
 pub emit-requires : (t : ℕ) → lts.Need-emit-requires (calls t) (unop-at t) reads.Post
-emit-requires t c κs = let tk = taken (c .before .before .before .before .before .before .before .before .before .before .before .before .kind .given .1) (c .before .before .before .before .before .before .before .before .before .before .before .before .before .before .look .ensures) in
-    let w = done (c .before .before .r .given .1) (c .before .before .before .before .before .before .unop .ensures) in
+emit-requires t c κs = let tk = taken (after-kind-of-after-r t (search) .kind .given .1) (after-look-of-after-r t (search) .look .ensures) in
+    let w = done (known (After-r t) (search) .r .given .1) (known (After-unop t) (search) .unop .ensures) in
     omega arith
 
 pub enum-known-s : (t : ℕ) → lts.Need-enum-known-s (calls t) (unop-at t) reads.Post
@@ -84,10 +148,10 @@ pub same-length-3 : (t : ℕ) → lts.Need-same-length-3 (calls t) (unop-at t) r
 same-length-3 t c = search needs
 
 pub returns-4 : (t : ℕ) → lts.Need-returns-4 (calls t) (unop-at t) reads.Post
-returns-4 t c = let tk = taken (c .before .before .before .before .before .before .before .before .before .before .before .before .before .before .before .kind .given .1) (c .before .before .before .before .before .before .before .before .before .before .before .before .before .before .before .before .before .look .ensures) in
-    let w = done (c .before .before .before .before .before .r .given .1) (c .before .before .before .before .before .before .before .before .before .unop .ensures) in
-    let path = way _ (unary-step _ _ _ (c .before .before .before .before .before .before .before .before .before .before .before .before .before .before .before .before .before .before .if1 .left) ∙ unary-some _ _ tk (c .before .before .before .before .before .before .before .before .before .before .before .before .before .unary-code .ensures .0) (c .before .before .before .before .before .before .before .before .before .before .before .before .if2 .left)) in
-    record { how = made-one 12 w (c .before .before .emit .ensures) (goes _ path (w .same)) (omega arith) (omega arith) refl }
+returns-4 t c = let tk = taken (after-kind-of-after-r t (search) .kind .given .1) (after-look-of-after-r t (search) .look .ensures) in
+    let w = done (known (After-r t) (search) .r .given .1) (after-unop-of-after-r t (search) .unop .ensures) in
+    let path = way _ (unary-step _ _ _ (else1-of-after-r t (search) .if1 .left) ∙ unary-some _ _ tk (after-unary-code-of-after-r t (search) .unary-code .ensures .0) (else2-of-after-r t (search) .if2 .left)) in
+    record { how = made-one 12 w (known (After-emit t) (search) .emit .ensures) (goes _ path (w .same)) (omega arith) (omega arith) refl }
 
 pub returns-5 : (t : ℕ) → lts.Need-returns-5 (calls t) (unop-at t) reads.Post
-returns-5 t c = did-not (blind (way _ (unary-step _ _ _ (c .before .before .before .before .if1 .left))) (unary-looks _ _ _) (not-taken (c .before .s .given .1) (c .before .before .before .look .ensures)) refl (omega arith))
+returns-5 t c = did-not (blind (way _ (unary-step _ _ _ (known (Else1 t) (search) .if1 .left))) (unary-looks _ _ _) (not-taken (known (After-s t) (search) .s .given .1) (known (After-look t) (search) .look .ensures)) refl (omega arith))

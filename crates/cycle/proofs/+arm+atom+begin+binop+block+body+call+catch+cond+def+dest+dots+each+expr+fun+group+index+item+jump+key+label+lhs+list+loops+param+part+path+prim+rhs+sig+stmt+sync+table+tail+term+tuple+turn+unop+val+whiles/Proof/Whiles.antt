@@ -14,10 +14,59 @@ use Rattle.cycle.proofs.expr.Reads as expr-reads
 use Rattle.nodes.proofs.records.list_under.Reads as list-under-reads
 use Rattle.scan.proofs.tokens.expect.Reads as expect-reads
 use Rattle.cycle.proofs.+arm+atom+begin+binop+block+body+call+catch+cond+def+dest+dots+each+expr+fun+group+index+item+jump+key+label+lhs+list+loops+param+part+path+prim+rhs+sig+stmt+sync+table+tail+term+tuple+turn+unop+val+whiles.Proof.Below.{whiles-at, expr-below, body-below}
+use Rattle.tree.proofs.Known.{known}
 
 -- what is known of the functions that it calls
 abbrev pub calls : ℕ → lts.Claims
 calls t = (expr-below t, expr-reads.Post, expect-reads.Asked, expect-reads.Learnt, body-below t, body-reads.Post, list-under-reads.Asked, list-under-reads.Learnt)
+
+abbrev After-expr : ℕ → Type 0
+After-expr t = lts.After-expr (calls t) (whiles-at t) reads.Post
+
+abbrev After-r : ℕ → Type 0
+After-r t = lts.After-r (calls t) (whiles-at t) reads.Post
+
+abbrev After-expect : ℕ → Type 0
+After-expect t = lts.After-expect (calls t) (whiles-at t) reads.Post
+
+abbrev At-match-keys1 : ℕ → Type 0
+At-match-keys1 t = lts.At-match-keys1 (calls t) (whiles-at t) reads.Post
+
+abbrev After-s : ℕ → Type 0
+After-s t = lts.After-s (calls t) (whiles-at t) reads.Post
+
+abbrev After-body-arg2 : ℕ → Type 0
+After-body-arg2 t = lts.After-body-arg2 (calls t) (whiles-at t) reads.Post
+
+abbrev After-body : ℕ → Type 0
+After-body t = lts.After-body (calls t) (whiles-at t) reads.Post
+
+abbrev Start : ℕ → Type 0
+Start t = lts.Start (calls t) (whiles-at t) reads.Post
+
+abbrev After-list-under : ℕ → Type 0
+After-list-under t = lts.After-list-under (calls t) (whiles-at t) reads.Post
+
+abbrev after-expr-of-at-match-keys1 : (t : ℕ) → At-match-keys1 t → After-expr t
+after-expr-of-at-match-keys1 t c = search
+
+abbrev after-r-of-after-body-arg2 : (t : ℕ) → After-body-arg2 t → After-r t
+after-r-of-after-body-arg2 t c = search
+
+abbrev after-expr-of-after-body-arg2 : (t : ℕ) → After-body-arg2 t → After-expr t
+after-expr-of-after-body-arg2 t c = after-expr-of-at-match-keys1 t (search)
+
+abbrev after-expect-of-after-body-arg2 : (t : ℕ) → After-body-arg2 t → After-expect t
+after-expect-of-after-body-arg2 t c = search
+
+abbrev start-of-at-match-keys1 : (t : ℕ) → At-match-keys1 t → Start t
+start-of-at-match-keys1 t c = search
+
+abbrev start-of-after-body-arg2 : (t : ℕ) → After-body-arg2 t → Start t
+start-of-after-body-arg2 t c = start-of-at-match-keys1 t (search)
+
+abbrev after-s-of-after-body-arg2 : (t : ℕ) → After-body-arg2 t → After-s t
+after-s-of-after-body-arg2 t c = search
 
 pub expr-requires : (t : ℕ) → lts.Need-expr-requires (calls t) (whiles-at t) reads.Post
 expr-requires t c κs = omega arith
@@ -30,10 +79,10 @@ same-length t c = search needs
 
 pub returns : (t : ℕ) → lts.Need-returns (calls t) (whiles-at t) reads.Post
 returns t c = let path = way _ (turning-step _ _ _) in
-    did-not (fails _ path (undone (c .match .keys2) (c .before .before .before .expr .ensures)) refl (omega arith))
+    did-not (fails _ path (undone (c .match .keys2) (known (After-expr t) (search) .expr .ensures)) refl (omega arith))
 
 pub expect-requires : (t : ℕ) → lts.Need-expect-requires (calls t) (whiles-at t) reads.Post
-expect-requires t c κs = let w = done (c .before .r .given .1) (c .before .before .before .before .before .expr .ensures) in
+expect-requires t c κs = let w = done (known (After-r t) (search) .r .given .1) (known (After-expr t) (search) .expr .ensures) in
     w .moved .within
 
 pub enum-known-s : (t : ℕ) → lts.Need-enum-known-s (calls t) (whiles-at t) reads.Post
@@ -43,36 +92,36 @@ pub same-length-2 : (t : ℕ) → lts.Need-same-length-2 (calls t) (whiles-at t)
 same-length-2 t c = search needs
 
 pub returns-2 : (t : ℕ) → lts.Need-returns-2 (calls t) (whiles-at t) reads.Post
-returns-2 t c = let w = done (c .before .before .before .r .given .1) (c .before .before .before .before .before .before .before .expr .ensures) in
+returns-2 t c = let w = done (known (After-r t) (search) .r .given .1) (known (After-expr t) (search) .expr .ensures) in
     let path = way _ (turning-step _ _ _) in
     let on = goes _ path (w .same) in
-    did-not (lacks _ (unpassed (c .match2 .keys2) (c .before .expect .ensures)) on (prefix w (omega arith)) (omega arith))
+    did-not (lacks _ (unpassed (c .match2 .keys2) (known (After-expect t) (search) .expect .ensures)) on (prefix w (omega arith)) (omega arith))
 
 pub body-requires : (t : ℕ) → lts.Need-body-requires (calls t) (whiles-at t) reads.Post
-body-requires t c κs = let w = done (c .before .before .before .before .before .before .before .r .given .1) (c .before .before .before .before .before .before .before .before .before .before .before .expr .ensures) in
-    let ps = passed (c .before .before .before .s .given .1) (c .before .before .before .before .before .expect .ensures) in
+body-requires t c κs = let w = done (known (After-r t) (search) .r .given .1) (after-expr-of-at-match-keys1 t (search) .expr .ensures) in
+    let ps = passed (known (After-s t) (search) .s .given .1) (known (After-expect t) (search) .expect .ensures) in
     let g = ps .got in
     let gon = g .on in
     let gwithin = g .within in
     omega arith
 
 pub list-under-requires : (t : ℕ) → lts.Need-list-under-requires (calls t) (whiles-at t) reads.Post
-list-under-requires t c κs = let w = done (c .before .before .before .before .before .before .before .before .before .before .before .r .given .1) (c .before .before .before .before .before .before .before .before .before .before .before .before .before .before .before .expr .ensures) in
-    let ps = passed (c .before .before .before .before .before .before .before .s .given .1) (c .before .before .before .before .before .before .before .before .before .expect .ensures) in
+list-under-requires t c κs = let w = done (after-r-of-after-body-arg2 t (search) .r .given .1) (after-expr-of-after-body-arg2 t (search) .expr .ensures) in
+    let ps = passed (known (After-s t) (search) .s .given .1) (after-expect-of-after-body-arg2 t (search) .expect .ensures) in
     let g = ps .got in
     let gon = g .on in
     let gwithin = g .within in
-    closable _ (c .before .before .before .body .ensures) (omega (arith, c .before .before .before .before .before .before .before .before .before .before .before .before .before .before .before .before .before .before .before .before .pre, w .moved, w .room, gon, gwithin, c .before .before .before .before .before .before .before .before .before .before .before .before .before .before .before .expr .kept .1 .0, c .before .before .before .body .kept .1 .0))
+    closable _ (known (After-body t) (search) .body .ensures) (omega (arith, start-of-after-body-arg2 t (search) .pre, w .moved, w .room, gon, gwithin, after-expr-of-after-body-arg2 t (search) .expr .kept .1 .0, known (After-body t) (search) .body .kept .1 .0))
 
 pub same-length-3 : (t : ℕ) → lts.Need-same-length-3 (calls t) (whiles-at t) reads.Post
 same-length-3 t c = search needs
 
 pub returns-3 : (t : ℕ) → lts.Need-returns-3 (calls t) (whiles-at t) reads.Post
-returns-3 t c = let w = done (c .before .before .before .before .before .before .before .before .before .before .before .before .before .before .r .given .1) (c .before .before .before .before .before .before .before .before .before .before .before .before .before .before .before .before .before .before .expr .ensures) in
+returns-3 t c = let w = done (after-r-of-after-body-arg2 t (search) .r .given .1) (after-expr-of-after-body-arg2 t (search) .expr .ensures) in
     let path = way _ (turning-step _ _ _) in
     let on = goes _ path (w .same) in
-    let ps = passed (c .before .before .before .before .before .before .before .before .before .before .s .given .1) (c .before .before .before .before .before .before .before .before .before .before .before .before .expect .ensures) in
+    let ps = passed (after-s-of-after-body-arg2 t (search) .s .given .1) (after-expect-of-after-body-arg2 t (search) .expect .ensures) in
     let g = ps .got in
     let gon = g .on in
     let gwithin = g .within in
-    under (λ s. record { over = w .what; run = s }) (records (w .what)) (c .before .before .before .before .before .before .body .ensures) (c .before .before .list-under .ensures) (gets _ g on) (w .text) (λ s. refl) (prefix w (omega (arith, c .before .before .before .before .before .before .before .before .before .before .before .before .before .before .before .before .before .before .before .before .before .before .before .pre, w .moved, w .room, gon, gwithin, c .before .before .before .before .before .before .before .before .before .before .before .before .before .before .before .before .before .before .expr .kept .1 .0))) (omega (arith, c .before .before .before .before .before .before .before .before .before .before .before .before .before .before .before .before .before .before .before .before .before .before .before .pre, w .moved, w .room, gon, gwithin, c .before .before .before .before .before .before .before .before .before .before .before .before .before .before .before .before .before .before .expr .kept .1 .0))
+    under (λ s. record { over = w .what; run = s }) (records (w .what)) (known (After-body t) (search) .body .ensures) (known (After-list-under t) (search) .list-under .ensures) (gets _ g on) (w .text) (λ s. refl) (prefix w (omega (arith, start-of-after-body-arg2 t (search) .pre, w .moved, w .room, gon, gwithin, after-expr-of-after-body-arg2 t (search) .expr .kept .1 .0))) (omega (arith, start-of-after-body-arg2 t (search) .pre, w .moved, w .room, gon, gwithin, after-expr-of-after-body-arg2 t (search) .expr .kept .1 .0))

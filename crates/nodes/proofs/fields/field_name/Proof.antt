@@ -11,6 +11,10 @@ use Rattle.scan.proofs.Laws.{found, unfound}
 use Rattle.nodes.proofs.Names.{onward, unwrote, leaf}
 use Rattle.nodes.proofs.fields.field_name.Statement.{statement}
 use Rattle.nodes.proofs.fields.field_name.Tie as tie
+use Rattle.tree.proofs.Known.{known}
+
+abbrev start-of-after-emit : tie.After-emit → tie.Start
+start-of-after-emit c = search
 
 expect-name-requires : tie.Need-expect-name-requires
 expect-name-requires c κs = search needs
@@ -19,12 +23,12 @@ enum-known-p : tie.Need-enum-known-p
 enum-known-p c = search needs
 
 mul-emit : tie.Need-mul-emit
-mul-emit c = let f = found (c .before .before .p .given .1) (c .before .before .before .before .expect-name .ensures) in
+mul-emit c = let f = found (known tie.After-p (search) .p .given .1) (known tie.After-expect-name (search) .expect-name .ensures) in
     let h = f .below in
     omega arith
 
 add-emit : tie.Need-add-emit
-add-emit c = let f = found (c .before .before .p .given .1) (c .before .before .before .before .expect-name .ensures) in
+add-emit c = let f = found (known tie.After-p (search) .p .given .1) (known tie.After-expect-name (search) .expect-name .ensures) in
     let h = f .below in
     omega arith
 
@@ -39,14 +43,14 @@ same-length c = search needs
 
 returns : tie.Need-returns
 unfolding field-name then
-returns c = let f = found (c .before .before .before .before .before .p .given .1) (c .before .before .before .before .before .before .before .expect-name .ensures) in
+returns c = let f = found (known tie.After-p (search) .p .given .1) (known tie.After-expect-name (search) .expect-name .ensures) in
     let g = f .got in
-    let e = c .before .before .emit .ensures in
-    record { how = record { got = record { what = Node.field-attribute (Node.named (g .what .value) (c .before .before .before .before .before .before .before .before .before .before .args .access)); same = λ q. rw (g .same q); on = g .on; within = g .within }; waits = refl; far = omega (arith, e .next); text = leaf NodeKind.FieldAttribute e (ap (λ (n : ℕ). n * 2 + c .before .before .before .before .before .before .before .before .before .before .args .access) (f .is)) refl } }
+    let e = known tie.After-emit (search) .emit .ensures in
+    record { how = record { got = record { what = Node.field-attribute (Node.named (g .what .value) (start-of-after-emit (search) .args .access)); same = λ q. rw (g .same q); on = g .on; within = g .within }; waits = refl; far = omega (arith, e .next); text = leaf NodeKind.FieldAttribute e (ap (λ (n : ℕ). n * 2 + start-of-after-emit (search) .args .access) (f .is)) refl } }
 
 returns-2 : tie.Need-returns-2
 unfolding field-name
-returns-2 c = let no = unfound (c .before .s .given .1) (c .before .before .before .expect-name .ensures) in
+returns-2 c = let no = unfound (known tie.After-s (search) .s .given .1) (known tie.After-expect-name (search) .expect-name .ensures) in
     unwrote (onward (record { go = _; is = λ q. refl }) no (omega arith) (omega arith))
 
 pub field-name-spec : {M : Type 1} → statement M

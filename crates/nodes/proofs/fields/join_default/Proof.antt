@@ -8,6 +8,7 @@ use Rattle.nodes.proofs.Made.{count-snoc}
 use Rattle.nodes.proofs.Names.{unjoined, joins-default}
 use Rattle.nodes.proofs.fields.join_default.Statement.{statement}
 use Rattle.nodes.proofs.fields.join_default.Tie as tie
+use Rattle.tree.proofs.Known.{known}
 
 separator-requires : tie.Need-separator-requires
 separator-requires c κs = search needs
@@ -22,11 +23,11 @@ enum-known-s : tie.Need-enum-known-s
 enum-known-s c = search needs
 
 returns : tie.Need-returns
-returns c = let f = found (c .before .p .given .1) (c .before .before .before .separator .ensures) in
-    λ S X ps v e t s. record { how = record { got = joins-default ps (f .got) v e; waits = refl; fits = record { are-required = t .are-required; are-default = count-snoc (ps .default-list) _ ∙ ap (λ (n : ℕ). n + 1) (t .are-default); is-variadic = t .is-variadic }; few = omega arith; below = c .before .before .before .before .before .pre .2; up = omega arith; far = omega arith; text = s } }
+returns c = let f = found (known tie.After-p (search) .p .given .1) (known tie.After-separator (search) .separator .ensures) in
+    λ S X ps v e t s. record { how = record { got = joins-default ps (f .got) v e; waits = refl; fits = record { are-required = t .are-required; are-default = count-snoc (ps .default-list) _ ∙ ap (λ (n : ℕ). n + 1) (t .are-default); is-variadic = t .is-variadic }; few = omega arith; below = known tie.Start (search) .pre .2; up = omega arith; far = omega arith; text = s } }
 
 returns-2 : tie.Need-returns-2
-returns-2 c = let no = unfound (c .before .s .given .1) (c .before .before .before .separator .ensures) in
+returns-2 c = let no = unfound (known tie.After-s (search) .s .given .1) (known tie.After-separator (search) .separator .ensures) in
     λ S X ps v e t s. record { how = record { unread = unjoined ps _ no; text = refl } }
 
 pub join-default-spec : {M : Type 1} → statement M

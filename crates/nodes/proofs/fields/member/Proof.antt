@@ -10,6 +10,7 @@ use Rattle.scan.proofs.Laws.{found, unfound}
 use Rattle.nodes.proofs.Names.{onward, unwrote, leaf}
 use Rattle.nodes.proofs.fields.member.Statement.{statement}
 use Rattle.nodes.proofs.fields.member.Tie as tie
+use Rattle.tree.proofs.Known.{known}
 
 expect-name-requires : tie.Need-expect-name-requires
 expect-name-requires c κs = search needs
@@ -28,14 +29,14 @@ same-length c = search needs
 
 returns : tie.Need-returns
 unfolding member-access then
-returns c = let f = found (c .before .before .before .before .before .p .given .1) (c .before .before .before .before .before .before .before .expect-name .ensures) in
+returns c = let f = found (known tie.After-p (search) .p .given .1) (known tie.After-expect-name (search) .expect-name .ensures) in
     let g = f .got in
-    let e = c .before .before .emit .ensures in
+    let e = known tie.After-emit (search) .emit .ensures in
     record { how = record { got = record { what = Node.attribute (g .what .value); same = λ q. rw (g .same q); on = g .on; within = g .within }; waits = refl; far = omega (arith, e .next); text = leaf NodeKind.Attribute e (f .is) refl } }
 
 returns-2 : tie.Need-returns-2
 unfolding member-access
-returns-2 c = let no = unfound (c .before .s .given .1) (c .before .before .before .expect-name .ensures) in
+returns-2 c = let no = unfound (known tie.After-s (search) .s .given .1) (known tie.After-expect-name (search) .expect-name .ensures) in
     unwrote (onward (record { go = _; is = λ q. refl }) no (omega arith) (omega arith))
 
 pub member-spec : {M : Type 1} → statement M

@@ -8,6 +8,7 @@ use Rattle.scan.proofs.Laws.{found, unfound}
 use Rattle.nodes.proofs.Names.{onward, same-heads}
 use Rattle.nodes.proofs.fields.param_head.Statement.{statement}
 use Rattle.nodes.proofs.fields.param_head.Tie as tie
+use Rattle.tree.proofs.Known.{known}
 
 param-name-requires : tie.Need-param-name-requires
 param-name-requires c κs = search needs
@@ -16,7 +17,7 @@ enum-known-p : tie.Need-enum-known-p
 enum-known-p c = search needs
 
 param-kind-requires : tie.Need-param-kind-requires
-param-kind-requires c κs = let f = found (c .before .p .given .1) (c .before .before .before .param-name .ensures) in
+param-kind-requires c κs = let f = found (known tie.After-p (search) .p .given .1) (known tie.After-param-name (search) .param-name .ensures) in
     (f .got .within, f .below)
 
 enum-known-s : tie.Need-enum-known-s
@@ -24,13 +25,13 @@ enum-known-s c = search needs
 
 returns : tie.Need-returns
 unfolding param-head then
-returns c = let f = found (c .before .before .p .given .1) (c .before .before .before .before .param-name .ensures) in
+returns c = let f = found (known tie.After-p (search) .p .given .1) (known tie.After-param-name (search) .param-name .ensures) in
     let o = f .got .on in
     same-heads (λ q. rw (f .got .same q, f .is)) (c .param-kind .ensures) (omega arith) (omega arith)
 
 returns-2 : tie.Need-returns-2
 unfolding param-head
-returns-2 c = let no = unfound (c .before .s .given .1) (c .before .before .before .param-name .ensures) in
+returns-2 c = let no = unfound (known tie.After-s (search) .s .given .1) (known tie.After-param-name (search) .param-name .ensures) in
     record { how = onward (record { go = _; is = λ q. refl }) no (omega arith) (omega arith) }
 
 pub param-head-spec : {M : Type 1} → statement M

@@ -9,6 +9,7 @@ use Rattle.scan.proofs.Laws.{found, unfound}
 use Rattle.nodes.proofs.Names.{onward, lacks-too}
 use Rattle.nodes.proofs.fields.param_name.Statement.{statement}
 use Rattle.nodes.proofs.fields.param_name.Tie as tie
+use Rattle.tree.proofs.Known.{known}
 
 param-mode-requires : tie.Need-param-mode-requires
 param-mode-requires c κs = search needs
@@ -21,23 +22,23 @@ enum-told c = search needs
 
 returns : tie.Need-returns
 unfolding param-name
-returns c = lacks-too (c .before .match .keys2) (record { go = _; is = λ q. refl }) (c .before .before .param-mode .ensures) (omega arith)
+returns c = lacks-too (known tie.At-match-keys2 (search) .match .keys2) (record { go = _; is = λ q. refl }) (known tie.After-param-mode (search) .param-mode .ensures) (omega arith)
 
 expect-name-requires : tie.Need-expect-name-requires
-expect-name-requires c κs = let m = found (c .before .mode .given .1) (c .before .before .before .param-mode .ensures) in
+expect-name-requires c κs = let m = found (known tie.After-mode (search) .mode .given .1) (known tie.After-param-mode (search) .param-mode .ensures) in
     m .got .within
 
 enum-known-p2 : tie.Need-enum-known-p2
 enum-known-p2 c = search needs
 
 mul-t12 : tie.Need-mul-t12
-mul-t12 c = let f = found (c .before .p2 .given .1) (c .before .before .before .expect-name .ensures) in
+mul-t12 c = let f = found (known tie.After-p2 (search) .p2 .given .1) (known tie.After-expect-name (search) .expect-name .ensures) in
     let h = f .below in
     omega arith
 
 add-t13 : tie.Need-add-t13
-add-t13 c = let m = found (c .before .before .before .before .before .mode .given .1) (c .before .before .before .before .before .before .before .param-mode .ensures) in
-    let f = found (c .before .p2 .given .1) (c .before .before .before .expect-name .ensures) in
+add-t13 c = let m = found (known tie.After-mode (search) .mode .given .1) (known tie.After-param-mode (search) .param-mode .ensures) in
+    let f = found (known tie.After-p2 (search) .p2 .given .1) (known tie.After-expect-name (search) .expect-name .ensures) in
     let h = f .below in
     let k = m .below in
     omega arith
@@ -47,8 +48,8 @@ enum-known-s c = search needs
 
 returns-2 : tie.Need-returns-2
 unfolding param-name then
-returns-2 c = let m = found (c .before .before .before .before .before .mode .given .1) (c .before .before .before .before .before .before .before .param-mode .ensures) in
-    let f = found (c .before .p2 .given .1) (c .before .before .before .expect-name .ensures) in
+returns-2 c = let m = found (known tie.After-mode (search) .mode .given .1) (known tie.After-param-mode (search) .param-mode .ensures) in
+    let f = found (known tie.After-p2 (search) .p2 .given .1) (known tie.After-expect-name (search) .expect-name .ensures) in
     let g = f .got in
     let h = f .below in
     let k = m .below in
@@ -58,8 +59,8 @@ returns-2 c = let m = found (c .before .before .before .before .before .mode .gi
 
 returns-3 : tie.Need-returns-3
 unfolding param-name then
-returns-3 c = let m = found (c .before .before .before .before .before .mode .given .1) (c .before .before .before .before .before .before .before .param-mode .ensures) in
-    let no = unfound (c .before .s .given .1) (c .before .before .before .expect-name .ensures) in
+returns-3 c = let m = found (known tie.After-mode (search) .mode .given .1) (known tie.After-param-mode (search) .param-mode .ensures) in
+    let no = unfound (known tie.After-s (search) .s .given .1) (known tie.After-expect-name (search) .expect-name .ensures) in
     let o = m .got .on in
     record { how = onward (record { go = λ q name q₂ s. ok (Node.named (name .value) (m .got .what)) s; is = λ q. rw (m .got .same q) }) no (omega arith) (omega arith) }
 

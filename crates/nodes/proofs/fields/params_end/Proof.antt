@@ -4,19 +4,23 @@ use borrow.Author.Needs.{needs}
 use Rattle.nodes.proofs.Names.{signature}
 use Rattle.nodes.proofs.fields.params_end.Statement.{statement}
 use Rattle.nodes.proofs.fields.params_end.Tie as tie
+use Rattle.tree.proofs.Known.{known}
+
+abbrev after-required-end-of-after-store2 : tie.After-store2 → tie.After-required-end
+after-required-end-of-after-store2 c = search
 
 required-end-requires : tie.Need-required-end-requires
 required-end-requires c κs = search needs
 
 list-end-requires : tie.Need-list-end-requires
-list-end-requires c κs = let r = c .before .before .before .required-end .ensures in
+list-end-requires c κs = let r = known tie.After-required-end (search) .required-end .ensures in
     let far = r .far in
     let whole = r .whole in
     omega arith
 
 variadic-end-requires : tie.Need-variadic-end-requires
-variadic-end-requires c κs = let r = c .before .before .before .before .before .before .before .required-end .ensures in
-    let l = c .before .before .before .list-end .ensures in
+variadic-end-requires c κs = let r = known tie.After-required-end (search) .required-end .ensures in
+    let l = known tie.After-list-end (search) .list-end .ensures in
     let far = r .far in
     let whole = r .whole in
     let next = l .next in
@@ -27,9 +31,9 @@ same-length : tie.Need-same-length
 same-length c = search needs
 
 returns : tie.Need-returns
-returns c = let r = c .before .before .before .before .before .before .before .before .before .before .required-end .ensures in
-    let l = c .before .before .before .before .before .before .list-end .ensures in
-    let v = c .before .before .variadic-end .ensures in
+returns c = let r = after-required-end-of-after-store2 (search) .required-end .ensures in
+    let l = known tie.After-list-end (search) .list-end .ensures in
+    let v = known tie.After-variadic-end (search) .variadic-end .ensures in
     let up = r .up in
     let far = r .far in
     let next = l .next in

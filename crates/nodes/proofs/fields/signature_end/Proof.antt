@@ -6,6 +6,7 @@ use Rattle.scan.proofs.Laws.{passed, unpassed}
 use Rattle.nodes.proofs.Names.{unwrote}
 use Rattle.nodes.proofs.fields.signature_end.Statement.{statement}
 use Rattle.nodes.proofs.fields.signature_end.Tie as tie
+use Rattle.tree.proofs.Known.{known}
 
 expect-requires : tie.Need-expect-requires
 expect-requires c κs = search needs
@@ -14,7 +15,7 @@ enum-known-c : tie.Need-enum-known-c
 enum-known-c c = search needs
 
 returns : tie.Need-returns
-returns c = unwrote (unpassed (c .match .keys2) (c .before .expect .ensures))
+returns c = unwrote (unpassed (c .match .keys2) (known tie.After-expect (search) .expect .ensures))
 
 emit-requires : tie.Need-emit-requires
 emit-requires c κs = search needs
@@ -23,8 +24,8 @@ same-length : tie.Need-same-length
 same-length c = search needs
 
 returns-2 : tie.Need-returns-2
-returns-2 c = let g = passed (c .before .before .before .before .before .c .given .1) (c .before .before .before .before .before .before .before .expect .ensures) in
-    let e = c .before .before .emit .ensures in
+returns-2 c = let g = passed (known tie.After-c (search) .c .given .1) (known tie.After-expect (search) .expect .ensures) in
+    let e = known tie.After-emit (search) .emit .ensures in
     record { how = record { got = g .got; waits = refl; far = omega (arith, e .next); text = e .text } }
 
 pub signature-end-spec : {M : Type 1} → statement M

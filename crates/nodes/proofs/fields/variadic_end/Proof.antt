@@ -6,6 +6,7 @@ use Rattle.tree.specs.NodeKind
 use Rattle.nodes.proofs.Names.{leaf, variadic-none, variadic-some}
 use Rattle.nodes.proofs.fields.variadic_end.Statement.{statement}
 use Rattle.nodes.proofs.fields.variadic_end.Tie as tie
+use Rattle.tree.proofs.Known.{known}
 
 emit-requires : tie.Need-emit-requires
 emit-requires c κs = search needs
@@ -14,9 +15,9 @@ same-length : tie.Need-same-length
 same-length c = search needs
 
 returns : tie.Need-returns
-returns c = let e = c .before .before .emit .ensures in
+returns c = let e = known tie.After-emit (search) .emit .ensures in
     let x = e .next in
-    record { up = omega arith; far = omega arith; text = rw (variadic-none _ (c .before .before .before .before .if1 .taken)) (leaf NodeKind.Absent e refl refl); whole = e .whole }
+    record { up = omega arith; far = omega arith; text = rw (variadic-none _ (known tie.Then1 (search) .if1 .taken)) (leaf NodeKind.Absent e refl refl); whole = e .whole }
 
 sub-emit : tie.Need-sub-emit
 sub-emit c = search needs
@@ -28,9 +29,9 @@ same-length-2 : tie.Need-same-length-2
 same-length-2 c = search needs
 
 returns-2 : tie.Need-returns-2
-returns-2 c = let e = c .before .before .emit2 .ensures in
+returns-2 c = let e = known tie.After-emit2 (search) .emit2 .ensures in
     let x = e .next in
-    record { up = omega arith; far = omega arith; text = rw (variadic-some _ (c .before .before .before .before .if1 .left)) (leaf NodeKind.ParamDef e refl refl); whole = e .whole }
+    record { up = omega arith; far = omega arith; text = rw (variadic-some _ (known tie.Else1 (search) .if1 .left)) (leaf NodeKind.ParamDef e refl refl); whole = e .whole }
 
 pub variadic-end-spec : {M : Type 1} → statement M
 variadic-end-spec =

@@ -6,6 +6,7 @@ use Rattle.tree.specs.Tree.{count, records}
 use Rattle.scan.proofs.Text.{two-words}
 use Rattle.nodes.proofs.records.bare_call.Statement.{statement}
 use Rattle.nodes.proofs.records.bare_call.Tie as tie
+use Rattle.tree.proofs.Known.{known}
 
 list-end-requires : tie.Need-list-end-requires
 list-end-requires c κs = search needs
@@ -18,8 +19,8 @@ same-length c = search needs
 
 returns : tie.Need-returns
 unfolding records count
-returns c = let a = c .before .before .before .before .before .before .list-end .ensures in
-    let b = c .before .before .emit .ensures in
+returns c = let a = known tie.After-list-end (search) .list-end .ensures in
+    let b = known tie.After-emit (search) .emit .ensures in
     record { up = omega arith; far = omega arith; text = two-words a b; whole = b .whole ∙ a .whole }
 
 pub bare-call-spec : {M : Type 1} → statement M

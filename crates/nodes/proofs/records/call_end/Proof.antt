@@ -11,6 +11,13 @@ use Rattle.scan.proofs.Text.{two-words}
 use Rattle.nodes.proofs.Ends.{joins, over-one, call-tuple, call-other}
 use Rattle.nodes.proofs.records.call_end.Statement.{statement}
 use Rattle.nodes.proofs.records.call_end.Tie as tie
+use Rattle.tree.proofs.Known.{known}
+
+abbrev start-of-after-slice-known3 : tie.After-slice-known3 → tie.Start
+start-of-after-slice-known3 c = search
+
+abbrev after-kind-of-of-after-slice-known3 : tie.After-slice-known3 → tie.After-kind-of
+after-kind-of-of-after-slice-known3 c = search
 
 kind-of-requires : tie.Need-kind-of-requires
 kind-of-requires c κs = search needs
@@ -25,8 +32,8 @@ same-length : tie.Need-same-length
 same-length c = search needs
 
 returns : tie.Need-returns
-returns c = let e = c .before .before .emit .ensures in
-    record { up = omega arith; far = omega arith; text = λ X t s text. rw (over-one NodeKind.Invoke 0 (Node.list (arguments t))) (joins X (records (Node.list (arguments t))) (295 ∷ 0 ∷ []) (e .text) (call-tuple (c .before .before .before .before .before .before .before .before .args .store .now) X (c .before .before .before .before .before .before .before .before .args .a) (omega arith) s (sym (c .before .before .before .before .before .kind-of .ensures) ∙ c .before .before .before .before .if1 .taken) text)) }
+returns c = let e = known tie.After-emit (search) .emit .ensures in
+    record { up = omega arith; far = omega arith; text = λ X t s text. rw (over-one NodeKind.Invoke 0 (Node.list (arguments t))) (joins X (records (Node.list (arguments t))) (295 ∷ 0 ∷ []) (e .text) (call-tuple (known tie.Start (search) .args .store .now) X (known tie.Start (search) .args .a) (omega arith) s (sym (known tie.After-kind-of (search) .kind-of .ensures) ∙ known tie.Then1 (search) .if1 .taken) text)) }
 
 list-end-requires : tie.Need-list-end-requires
 list-end-requires c κs = search needs
@@ -38,9 +45,9 @@ same-length-2 : tie.Need-same-length-2
 same-length-2 c = search needs
 
 returns-2 : tie.Need-returns-2
-returns-2 c = let a = c .before .before .before .before .before .before .list-end .ensures in
-    let b = c .before .before .emit2 .ensures in
-    record { up = omega arith; far = omega arith; text = λ X t s text. rw (call-other (c .before .before .before .before .before .before .before .before .before .before .before .before .args .store .now) X (c .before .before .before .before .before .before .before .before .before .before .before .before .args .a) (omega arith) s (λ x. c .before .before .before .before .before .before .before .before .if1 .left (c .before .before .before .before .before .before .before .before .before .kind-of .ensures ∙ x)) text) (joins X (records t) (257 ∷ 0 ∷ 295 ∷ 0 ∷ []) (two-words a b) text) }
+returns-2 c = let a = known tie.After-list-end (search) .list-end .ensures in
+    let b = known tie.After-emit2 (search) .emit2 .ensures in
+    record { up = omega arith; far = omega arith; text = λ X t s text. rw (call-other (start-of-after-slice-known3 (search) .args .store .now) X (start-of-after-slice-known3 (search) .args .a) (omega arith) s (λ x. known tie.Else1 (search) .if1 .left (after-kind-of-of-after-slice-known3 (search) .kind-of .ensures ∙ x)) text) (joins X (records t) (257 ∷ 0 ∷ 295 ∷ 0 ∷ []) (two-words a b) text) }
 
 pub call-end-spec : {M : Type 1} → statement M
 call-end-spec =

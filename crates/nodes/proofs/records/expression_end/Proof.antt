@@ -12,6 +12,7 @@ use Rattle.nodes.specs.Parts.{expression-end}
 use Rattle.nodes.proofs.Ends.{joins, over-one, wrote, refused}
 use Rattle.nodes.proofs.records.expression_end.Statement.{statement}
 use Rattle.nodes.proofs.records.expression_end.Tie as tie
+use Rattle.tree.proofs.Known.{known}
 
 lone-ellipsis-requires : tie.Need-lone-ellipsis-requires
 lone-ellipsis-requires c κs = search needs
@@ -21,7 +22,7 @@ same-length c = search needs
 
 returns : tie.Need-returns
 unfolding expression-end ifb
-returns c = λ X t T s text h. refused (λ q. rw (sym (c .before .lone-ellipsis .ensures X t s text) ∙ c .if1 .taken)) h refl
+returns c = λ X t T s text h. refused (λ q. rw (sym (known tie.After-lone-ellipsis (search) .lone-ellipsis .ensures X t s text) ∙ c .if1 .taken)) h refl
 
 emit-requires : tie.Need-emit-requires
 emit-requires c κs = search needs
@@ -31,8 +32,8 @@ same-length-2 c = search needs
 
 returns-2 : tie.Need-returns-2
 unfolding expression-end ifb
-returns-2 c = λ X t T s text h. let e = c .before .before .emit .ensures in
-    wrote (Node.expression t) (λ q. rw (sym (c .before .before .before .before .before .lone-ellipsis .ensures X t s text) ∙ c .before .before .before .before .if1 .left)) h (omega arith) (rw (over-one NodeKind.Expression 0 t) (joins X (records t) (258 ∷ 0 ∷ []) (e .text) text))
+returns-2 c = λ X t T s text h. let e = known tie.After-emit (search) .emit .ensures in
+    wrote (Node.expression t) (λ q. rw (sym (known tie.After-lone-ellipsis (search) .lone-ellipsis .ensures X t s text) ∙ known tie.Else1 (search) .if1 .left)) h (omega arith) (rw (over-one NodeKind.Expression 0 t) (joins X (records t) (258 ∷ 0 ∷ []) (e .text) text))
 
 pub expression-end-spec : {M : Type 1} → statement M
 expression-end-spec =

@@ -5,29 +5,30 @@ use native.Mathlib.Omega.{arith}
 use Rattle.nodes.proofs.Ends.{two-deep, four-deep, not-lone, by-word}
 use Rattle.nodes.proofs.records.lone_ellipsis.Statement.{statement}
 use Rattle.nodes.proofs.records.lone_ellipsis.Tie as tie
+use Rattle.tree.proofs.Known.{known}
 
 kind-of-requires : tie.Need-kind-of-requires
-kind-of-requires c κs = let p = c .before .pre in
-    let d = two-deep (c .before .args .store .now) (p .before) (c .before .args .a) (p .within) (p .tree) (p .text) in
+kind-of-requires c κs = let p = known tie.Start (search) .pre in
+    let d = two-deep (known tie.Start (search) .args .store .now) (p .before) (known tie.Start (search) .args .a) (p .within) (p .tree) (p .text) in
     (omega arith, omega arith)
 
 returns : tie.Need-returns
-returns c = λ X t s text. not-lone (c .before .before .before .args .store .now) X (c .before .before .before .args .a) (c .before .before .before .pre .within) s (λ x. c .if1 .taken (c .before .kind-of .ensures ∙ x)) text
+returns c = λ X t s text. not-lone (known tie.Start (search) .args .store .now) X (known tie.Start (search) .args .a) (known tie.Start (search) .pre .within) s (λ x. c .if1 .taken (known tie.After-kind-of (search) .kind-of .ensures ∙ x)) text
 
 sub-result : tie.Need-sub-result
-sub-result c = let p = c .before .before .before .pre in
-    four-deep (c .before .before .before .args .store .now) (p .before) (c .before .before .before .args .a) (p .within) (p .shape) (sym (c .before .kind-of .ensures) ∙ c .if1 .left) (p .text)
+sub-result c = let p = known tie.Start (search) .pre in
+    four-deep (known tie.Start (search) .args .store .now) (p .before) (known tie.Start (search) .args .a) (p .within) (p .shape) (sym (known tie.After-kind-of (search) .kind-of .ensures) ∙ c .if1 .left) (p .text)
 
 mul-result : tie.Need-mul-result
 mul-result c = search needs
 
 shared-slice-read-result : tie.Need-shared-slice-read-result
-shared-slice-read-result c = let p = c .before .before .before .before .pre in
-    let d = four-deep (c .before .before .before .before .args .store .now) (p .before) (c .before .before .before .before .args .a) (p .within) (p .shape) (sym (c .before .before .kind-of .ensures) ∙ c .before .if1 .left) (p .text) in
+shared-slice-read-result c = let p = known tie.Start (search) .pre in
+    let d = four-deep (known tie.Start (search) .args .store .now) (p .before) (known tie.Start (search) .args .a) (p .within) (p .shape) (sym (known tie.After-kind-of (search) .kind-of .ensures) ∙ known tie.Else1 (search) .if1 .left) (p .text) in
     omega arith
 
 returns-2 : tie.Need-returns-2
-returns-2 c = λ X t s text. by-word (c .before .before .before .before .args .store .now) X (c .before .before .before .before .args .a) (c .before .before .before .before .pre .within) s (sym (c .before .before .kind-of .ensures) ∙ c .before .if1 .left) text
+returns-2 c = λ X t s text. by-word (known tie.Start (search) .args .store .now) X (known tie.Start (search) .args .a) (known tie.Start (search) .pre .within) s (sym (known tie.After-kind-of (search) .kind-of .ensures) ∙ known tie.Else1 (search) .if1 .left) text
 
 pub lone-ellipsis-spec : {M : Type 1} → statement M
 lone-ellipsis-spec =

@@ -6,6 +6,7 @@ use Rattle.tree.specs.Tree.{count, records}
 use Rattle.scan.proofs.Text.{two-words}
 use Rattle.nodes.proofs.records.lone_unpack.Statement.{statement}
 use Rattle.nodes.proofs.records.lone_unpack.Tie as tie
+use Rattle.tree.proofs.Known.{known}
 
 emit-requires : tie.Need-emit-requires
 emit-requires c κs = search needs
@@ -18,8 +19,8 @@ same-length c = search needs
 
 returns : tie.Need-returns
 unfolding records count
-returns c = let a = c .before .before .before .before .before .before .emit .ensures in
-    let b = c .before .before .emit2 .ensures in
+returns c = let a = known tie.After-emit (search) .emit .ensures in
+    let b = known tie.After-emit2 (search) .emit2 .ensures in
     record { up = omega arith; far = omega arith; text = two-words a b; whole = b .whole ∙ a .whole }
 
 pub lone-unpack-spec : {M : Type 1} → statement M

@@ -5,6 +5,7 @@ use native.Mathlib.Omega.{arith}
 use Rattle.scan.proofs.Text.{two-words}
 use Rattle.nodes.proofs.records.resultless.Statement.{statement}
 use Rattle.nodes.proofs.records.resultless.Tie as tie
+use Rattle.tree.proofs.Known.{known}
 
 emit-requires : tie.Need-emit-requires
 emit-requires c κs = search needs
@@ -16,8 +17,8 @@ same-length : tie.Need-same-length
 same-length c = search needs
 
 returns : tie.Need-returns
-returns c = let a = c .before .before .before .before .before .before .emit .ensures in
-    let b = c .before .before .emit2 .ensures in
+returns c = let a = known tie.After-emit (search) .emit .ensures in
+    let b = known tie.After-emit2 (search) .emit2 .ensures in
     record { up = omega arith; far = omega arith; text = two-words a b; whole = b .whole ∙ a .whole }
 
 pub resultless-spec : {M : Type 1} → statement M

@@ -9,6 +9,10 @@ use Rattle.scan.proofs.Text.{two-words}
 use Rattle.nodes.proofs.Ends.{joins}
 use Rattle.nodes.proofs.records.tuple_end.Statement.{statement}
 use Rattle.nodes.proofs.records.tuple_end.Tie as tie
+use Rattle.tree.proofs.Known.{known}
+
+abbrev start-of-after-store2 : tie.After-store2 → tie.Start
+start-of-after-store2 c = search
 
 list-end-requires : tie.Need-list-end-requires
 list-end-requires c κs = search needs
@@ -20,9 +24,9 @@ same-length : tie.Need-same-length
 same-length c = search needs
 
 returns : tie.Need-returns
-returns c = let a = c .before .before .before .before .before .before .list-end .ensures in
-    let b = c .before .before .emit .ensures in
-    let n = c .before .before .before .before .before .before .before .before .before .args .n in
+returns c = let a = known tie.After-list-end (search) .list-end .ensures in
+    let b = known tie.After-emit (search) .emit .ensures in
+    let n = start-of-after-store2 (search) .args .n in
     record { up = omega arith; far = omega arith; text = λ X f s text. rw s (joins X (all-records f) ((1 + 256 * n) ∷ 0 ∷ (NodeKind.Tuple + 256) ∷ 0 ∷ []) (two-words a b) text) }
 
 pub tuple-end-spec : {M : Type 1} → statement M

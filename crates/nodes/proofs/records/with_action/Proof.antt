@@ -6,9 +6,10 @@ use native.Mathlib.Omega.{arith}
 use Rattle.nodes.proofs.Ends.{unacted, acted-other, acted-some}
 use Rattle.nodes.proofs.records.with_action.Statement.{statement}
 use Rattle.nodes.proofs.records.with_action.Tie as tie
+use Rattle.tree.proofs.Known.{known}
 
 returns : tie.Need-returns
-returns c = λ X t s text. unacted (c .before .before .args .store .now) X (c .before .before .args .a) (c .before .before .args .m) t (c .if1 .taken) text
+returns c = λ X t s text. unacted (known tie.Start (search) .args .store .now) X (known tie.Start (search) .args .a) (known tie.Start (search) .args .m) t (c .if1 .taken) text
 
 kind-of-requires : tie.Need-kind-of-requires
 kind-of-requires c κs = search needs
@@ -26,10 +27,10 @@ sub-store : tie.Need-sub-store
 sub-store c = search needs
 
 mul-store : tie.Need-mul-store
-mul-store c = omega (arith, c .slice-known2 .given (c .before .before .before .before .before .before .args .a - 1))
+mul-store c = omega (arith, c .slice-known2 .given (known tie.Start (search) .args .a - 1))
 
 add-store : tie.Need-add-store
-add-store c = omega (arith, c .slice-known2 .given (c .before .before .before .before .before .before .args .a - 1))
+add-store c = omega (arith, c .slice-known2 .given (known tie.Start (search) .args .a - 1))
 
 sub-store-2 : tie.Need-sub-store-2
 sub-store-2 c = search needs
@@ -44,13 +45,13 @@ same-length : tie.Need-same-length
 same-length c = search needs
 
 returns-2 : tie.Need-returns-2
-returns-2 c = λ X t s text. acted-some (c .before .before .before .before .before .before .args .store .now) X (c .before .before .before .before .before .before .args .a) (c .before .before .before .before .before .before .args .m) t s (c .before .before .before .before .before .before .pre .1) (c .before .before .before .before .if1 .left) (sym (c .before .before .kind-of .ensures) ∙ c .before .if2 .taken) text
+returns-2 c = λ X t s text. acted-some (known tie.Start (search) .args .store .now) X (known tie.Start (search) .args .a) (known tie.Start (search) .args .m) t s (known tie.Start (search) .pre .1) (known tie.Else1 (search) .if1 .left) (sym (known tie.After-kind-of (search) .kind-of .ensures) ∙ known tie.Then2 (search) .if2 .taken) text
 
 same-length-2 : tie.Need-same-length-2
 same-length-2 c = search needs
 
 returns-3 : tie.Need-returns-3
-returns-3 c = λ X t s text. acted-other (c .before .before .before .before .before .args .store .now) X (c .before .before .before .before .before .args .a) (c .before .before .before .before .before .args .m) t s (c .before .before .before .before .before .pre .1) (λ e. c .if2 .left (c .before .kind-of .ensures ∙ e)) text
+returns-3 c = λ X t s text. acted-other (known tie.Start (search) .args .store .now) X (known tie.Start (search) .args .a) (known tie.Start (search) .args .m) t s (known tie.Start (search) .pre .1) (λ e. c .if2 .left (known tie.After-kind-of (search) .kind-of .ensures ∙ e)) text
 
 pub with-action-spec : {M : Type 1} → statement M
 with-action-spec =

@@ -5,6 +5,7 @@ use borrow.Author.Needs.{needs}
 use Rattle.grammar.specs.Flat.{error, flat-answer}
 use Rattle.parser.proofs.host.flatten.Statement.{statement}
 use Rattle.parser.proofs.host.flatten.Tie as tie
+use Rattle.tree.proofs.Known.{known}
 
 enum-known-answer : tie.Need-enum-known-answer
 enum-known-answer c = search needs
@@ -25,19 +26,19 @@ enum-known-answer-4 : tie.Need-enum-known-answer-4
 enum-known-answer-4 c = search needs
 
 returns : tie.Need-returns
-returns c = sym (ap flat-answer (c .before .answer .given .1))
+returns c = sym (ap flat-answer (known tie.After-answer (search) .answer .given .1))
 
 returns-2 : tie.Need-returns-2
-returns-2 c = ap (λ (n : ℕ). record { variant = error; number = n }) (c .kind-number .ensures) ∙ sym (ap flat-answer (c .before .before .answer2 .given .1))
+returns-2 c = ap (λ (n : ℕ). record { variant = error; number = n }) (c .kind-number .ensures) ∙ sym (ap flat-answer (known tie.After-answer2 (search) .answer2 .given .1))
 
 returns-3 : tie.Need-returns-3
 returns-3 c = sym (ap flat-answer (c .enum-told .given .1))
 
 returns-4 : tie.Need-returns-4
-returns-4 c = sym (ap flat-answer (c .before .answer3 .given .1))
+returns-4 c = sym (ap flat-answer (known tie.After-answer3 (search) .answer3 .given .1))
 
 returns-5 : tie.Need-returns-5
-returns-5 c = sym (ap flat-answer (c .before .answer4 .given .1))
+returns-5 c = sym (ap flat-answer (known tie.After-answer4 (search) .answer4 .given .1))
 
 pub flatten-spec : {M : Type 1} → statement M
 flatten-spec =

@@ -8,6 +8,7 @@ use Rattle.grammar.specs.declared.Reader.{Reader}
 use Rattle.grammar.specs.declared.Flat.{Flat}
 use Rattle.parser.proofs.host.leatherlava_next_stmt.Statement.{statement}
 use Rattle.parser.proofs.host.leatherlava_next_stmt.Tie as tie
+use Rattle.tree.proofs.Known.{known}
 
 abbrev left-with : Reader → List ℕ → Flat → FlatCalled
 left-with R m x = record { answer = x; reader = R; store = m }
@@ -23,7 +24,7 @@ same-length c = search needs
 
 returns : tie.Need-returns
 returns c =
-    let n = c .before .before .before .before .before .next-stmt in
+    let n = known tie.After-next-stmt (search) .next-stmt in
     ap (left-with (n .result .reader) _) (c .flatten .ensures) ∙ ap flat-called (n .ensures)
 
 pub leatherlava-next-stmt-spec : {M : Type 1} → statement M

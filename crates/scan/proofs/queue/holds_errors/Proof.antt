@@ -11,12 +11,25 @@ use Rattle.scan.specs.Parts.{holds-errors}
 use Rattle.scan.proofs.Fits.{error-on, error-no, errors-all}
 use Rattle.scan.proofs.queue.holds_errors.Statement.{statement}
 use Rattle.scan.proofs.queue.holds_errors.Tie as tie
+use Rattle.tree.proofs.Known.{known}
 
 abbrev Inv-loop : tie.InvT-loop
 Inv-loop waiting queue i₀ i = (i ≤ waiting) × (length queue ≡ queue-limit) × (holds-errors waiting queue ≡ holds-errors (waiting - i) (drop i queue))
 
 abbrev μ-loop : tie.MeasureT-loop
 μ-loop waiting queue i₀ i = waiting - i
+
+abbrev At-loop : Type 0
+At-loop = tie.At-loop Inv-loop μ-loop
+
+abbrev Start : Type 0
+Start = tie.Start Inv-loop μ-loop
+
+abbrev In-loop : Type 0
+In-loop = tie.In-loop Inv-loop μ-loop
+
+abbrev After-is-error : Type 0
+After-is-error = tie.After-is-error Inv-loop μ-loop
 
 loop-holds : tie.Need-loop-holds Inv-loop μ-loop
 loop-holds c = (omega arith, search needs, ap (λ (n : ℕ). holds-errors n (c .args .t1)) (sym (sub-zero (c .args .waiting))))
@@ -31,7 +44,7 @@ is-error-requires : tie.Need-is-error-requires Inv-loop μ-loop
 is-error-requires c κs = search needs
 
 returns : tie.Need-returns Inv-loop μ-loop
-returns c = sym (c .before .before .before .loop .inv .2 ∙ error-no (c .before .before .before .before .args .t1) (c .before .before .before .loop .i) (omega arith) (c .before .before .before .before .args .waiting) (c .before .before .loop-test .taken) (sym (c .before .is-error .ensures) ∙ not-true (c .before .is-error .result) (c .if1 .taken)))
+returns c = sym (known At-loop (search) .loop .inv .2 ∙ error-no (known Start (search) .args .t1) (known At-loop (search) .loop .i) (omega arith) (known Start (search) .args .waiting) (known In-loop (search) .loop-test .taken) (sym (known After-is-error (search) .is-error .ensures) ∙ not-true (known After-is-error (search) .is-error .result) (c .if1 .taken)))
 
 add-i : tie.Need-add-i Inv-loop μ-loop
 add-i c = search needs
@@ -40,10 +53,10 @@ loop-less : tie.Need-loop-less Inv-loop μ-loop
 loop-less c = search needs
 
 loop-again : tie.Need-loop-again Inv-loop μ-loop
-loop-again c = (omega arith, c .before .before .before .loop .inv .1, c .before .before .before .loop .inv .2 ∙ error-on (c .before .before .before .before .args .t1) (c .before .before .before .loop .i) (omega arith) (c .before .before .before .before .args .waiting) (c .before .before .loop-test .taken) (sym (c .before .is-error .ensures) ∙ not-false (c .before .is-error .result) (c .if1 .left)))
+loop-again c = (omega arith, known At-loop (search) .loop .inv .1, known At-loop (search) .loop .inv .2 ∙ error-on (known Start (search) .args .t1) (known At-loop (search) .loop .i) (omega arith) (known Start (search) .args .waiting) (known In-loop (search) .loop-test .taken) (sym (known After-is-error (search) .is-error .ensures) ∙ not-false (known After-is-error (search) .is-error .result) (c .if1 .left)))
 
 returns-2 : tie.Need-returns-2 Inv-loop μ-loop
-returns-2 c = sym (c .before .loop .inv .2 ∙ errors-all _ _ (omega (arith, c .loop-test .left)))
+returns-2 c = sym (known At-loop (search) .loop .inv .2 ∙ errors-all _ _ (omega (arith, c .loop-test .left)))
 
 pub holds-errors-spec : {M : Type 1} → statement M
 holds-errors-spec =

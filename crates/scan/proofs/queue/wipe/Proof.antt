@@ -12,6 +12,7 @@ use Rattle.grammar.specs.Reading.Limit.{queue-limit}
 use Rattle.grammar.specs.Reading.Next.{pad}
 use Rattle.scan.proofs.queue.wipe.Statement.{statement}
 use Rattle.scan.proofs.queue.wipe.Tie as tie
+use Rattle.tree.proofs.Known.{known}
 
 abbrev Inv-loop : tie.InvT-loop
 Inv-loop waiting q₀ i₀ q i = (waiting ≤ i) × (i ≤ queue-limit) × (length q ≡ queue-limit) × (length q₀ ≡ queue-limit) × (take i q ≡ take waiting q₀ ++ replicate (i - waiting) 0)
@@ -33,6 +34,12 @@ all S S₀ from i h g f n m e =
     let k : i - from ≡ queue-limit - length (take from S₀) = omega arith in
     sym (take-all i S (omega arith)) ∙ e ∙ ap (λ (n : ℕ). take from S₀ ++ replicate n 0) k
 
+abbrev At-loop : Type 0
+At-loop = tie.At-loop Inv-loop μ-loop
+
+abbrev Start : Type 0
+Start = tie.Start Inv-loop μ-loop
+
 loop-holds : tie.Need-loop-holds Inv-loop μ-loop
 loop-holds c = (omega arith, omega arith, search needs, search needs, none (c .args .queue) (c .args .waiting))
 
@@ -49,11 +56,11 @@ loop-less : tie.Need-loop-less Inv-loop μ-loop
 loop-less c = search needs
 
 loop-again : tie.Need-loop-again Inv-loop μ-loop
-loop-again c = (omega arith, omega arith, simp length-set (c .before .loop .inv .2), c .before .loop .inv .3, next _ _ _ _ (c .before .loop .inv .0) (omega arith) (c .before .loop .inv .4))
+loop-again c = (omega arith, omega arith, simp length-set (known At-loop (search) .loop .inv .2), known At-loop (search) .loop .inv .3, next _ _ _ _ (known At-loop (search) .loop .inv .0) (omega arith) (known At-loop (search) .loop .inv .4))
 
 returns : tie.Need-returns Inv-loop μ-loop
-returns c = let i = c .before .loop .inv in
-    all _ _ _ _ (c .loop-test .left) (i .1) (c .before .before .pre) (i .2) (i .3) (i .4)
+returns c = let i = known At-loop (search) .loop .inv in
+    all _ _ _ _ (c .loop-test .left) (i .1) (known Start (search) .pre) (i .2) (i .3) (i .4)
 
 pub wipe-spec : {M : Type 1} → statement M
 wipe-spec =

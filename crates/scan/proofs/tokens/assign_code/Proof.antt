@@ -8,6 +8,7 @@ use Rattle.operator.specs.declared.BinaryOp.{BinaryOp}
 use Rattle.operator.specs.declared.BinaryOp.the-variants.{Mul, Div, Mod, Add, Sub, LShift, RShift, BitAnd, BitXor, BitOr, LT, GT, LE, GE, EQ, NE, And, Or}
 use Rattle.scan.proofs.tokens.assign_code.Statement.{statement}
 use Rattle.scan.proofs.tokens.assign_code.Tie as tie
+use Rattle.tree.proofs.Known.{known}
 
 few : (op : BinaryOp) → binary-number op ≤ 17
 few Mul = omega arith
@@ -42,7 +43,7 @@ binary-number-requires : tie.Need-binary-number-requires
 binary-number-requires c κs = search needs
 
 add-result : tie.Need-add-result
-add-result c = let n = few (c .before .before .op .given .0 .0) in
+add-result c = let n = few (known tie.After-op (search) .op .given .0 .0) in
     let e = c .binary-number .ensures in
     omega arith
 
@@ -51,17 +52,17 @@ enum-told-2 c = search needs
 
 returns : tie.Need-returns
 unfolding assign-code
-returns c = (ap assignment-found (sym (c .enum-told .given .1) ∙ c .before .before .which-assignment-op .ensures), omega arith)
+returns c = (ap assignment-found (sym (c .enum-told .given .1) ∙ known tie.After-which-assignment-op (search) .which-assignment-op .ensures), omega arith)
 
 returns-2 : tie.Need-returns-2
 unfolding assign-code
-returns-2 c = let n = few (c .before .before .op .given .0 .0) in
+returns-2 c = let n = few (known tie.After-op (search) .op .given .0 .0) in
     let e = c .binary-number .ensures in
-    (omega (arith, e) ∙ ap assignment-found (sym (c .before .before .op .given .1) ∙ c .before .before .before .before .which-assignment-op .ensures), omega arith)
+    (omega (arith, e) ∙ ap assignment-found (sym (known tie.After-op (search) .op .given .1) ∙ known tie.After-which-assignment-op (search) .which-assignment-op .ensures), omega arith)
 
 returns-3 : tie.Need-returns-3
 unfolding assign-code
-returns-3 c = (ap assignment-found (sym (c .enum-told2 .given .1) ∙ c .before .before .which-assignment-op .ensures), omega arith)
+returns-3 c = (ap assignment-found (sym (c .enum-told2 .given .1) ∙ known tie.After-which-assignment-op (search) .which-assignment-op .ensures), omega arith)
 
 pub assign-code-spec : {M : Type 1} → statement M
 assign-code-spec =

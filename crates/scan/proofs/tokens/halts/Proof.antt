@@ -6,6 +6,7 @@ use borrow.Author.Needs.{needs}
 use borrow.Author.Tests.{ne-eqb}
 use Rattle.scan.proofs.tokens.halts.Statement.{statement}
 use Rattle.scan.proofs.tokens.halts.Tie as tie
+use Rattle.tree.proofs.Known.{known}
 
 control-only : (c b : Bool) → c ≡ (((c || false) || false) || (b && false))
 control-only true b = refl
@@ -40,8 +41,8 @@ returns-8 : tie.Need-returns-8
 returns-8 c = rw (c .match .keys8) (sym (and-true _))
 
 returns-9 : tie.Need-returns-9
-returns-9 c = let r = c .before .match .rest in
-    c .is-control .ensures ∙ simp (ne-eqb _ _ (r .0 .0 .0 .0 .0 .0 .0 .1), ne-eqb _ _ (r .0 .0 .0 .0 .0 .0 .1), ne-eqb _ _ (r .0 .0 .0 .0 .0 .1), ne-eqb _ _ (r .0 .0 .0 .0 .1), ne-eqb _ _ (r .0 .0 .0 .1), ne-eqb _ _ (r .0 .0 .1), ne-eqb _ _ (r .0 .1), ne-eqb _ _ (r .1)) (control-only (is-control (c .before .before .args .kind)) (c .before .before .args .inside))
+returns-9 c = let r = known tie.At-match-rest (search) .match .rest in
+    c .is-control .ensures ∙ simp (ne-eqb _ _ (r .0 .0 .0 .0 .0 .0 .0 .1), ne-eqb _ _ (r .0 .0 .0 .0 .0 .0 .1), ne-eqb _ _ (r .0 .0 .0 .0 .0 .1), ne-eqb _ _ (r .0 .0 .0 .0 .1), ne-eqb _ _ (r .0 .0 .0 .1), ne-eqb _ _ (r .0 .0 .1), ne-eqb _ _ (r .0 .1), ne-eqb _ _ (r .1)) (control-only (is-control (known tie.Start (search) .args .kind)) (known tie.Start (search) .args .inside))
 
 pub halts-spec : {M : Type 1} → statement M
 halts-spec =

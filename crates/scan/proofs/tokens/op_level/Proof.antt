@@ -4,6 +4,7 @@ use borrow.Author.Needs.{needs}
 use Rattle.operator.specs.Operator.{which-binary-op, level-found, op-level}
 use Rattle.scan.proofs.tokens.op_level.Statement.{statement}
 use Rattle.scan.proofs.tokens.op_level.Tie as tie
+use Rattle.tree.proofs.Known.{known}
 
 which-binary-op-requires : tie.Need-which-binary-op-requires
 which-binary-op-requires c κs = search needs
@@ -19,11 +20,11 @@ enum-told c = search needs
 
 returns : tie.Need-returns
 unfolding op-level
-returns c = c .precedence-level .ensures ∙ ap level-found (sym (c .before .before .op .given .1) ∙ c .before .before .before .before .which-binary-op .ensures)
+returns c = c .precedence-level .ensures ∙ ap level-found (sym (known tie.After-op (search) .op .given .1) ∙ known tie.After-which-binary-op (search) .which-binary-op .ensures)
 
 returns-2 : tie.Need-returns-2
 unfolding op-level
-returns-2 c = ap level-found (sym (c .enum-told .given .1) ∙ c .before .before .which-binary-op .ensures)
+returns-2 c = ap level-found (sym (c .enum-told .given .1) ∙ known tie.After-which-binary-op (search) .which-binary-op .ensures)
 
 pub op-level-spec : {M : Type 1} → statement M
 op-level-spec =

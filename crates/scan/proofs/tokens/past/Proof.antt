@@ -18,6 +18,7 @@ use Rattle.scan.proofs.Seen as seen-type
 use Rattle.scan.proofs.Laws.{not-taken, not-seen}
 use Rattle.scan.proofs.tokens.past.Statement.{statement}
 use Rattle.scan.proofs.tokens.past.Tie as tie
+use Rattle.tree.proofs.Known.{known}
 
 within-suite : {n p a w m last : ℕ} {l : Listed} → l ≡ Suite p a w m last → Within n l → p ≤ n
 within-suite e h = rw e at (h .how)
@@ -46,13 +47,13 @@ enum-known-list : tie.Need-enum-known-list
 enum-known-list c = search needs
 
 look-requires : tie.Need-look-requires
-look-requires c κs = within-suite (c .before .list .given .1) (c .before .before .before .before .pre)
+look-requires c κs = within-suite (known tie.After-list (search) .list .given .1) (known tie.Start (search) .pre)
 
 enum-told : tie.Need-enum-told
 enum-told c = search needs
 
 add-t17 : tie.Need-add-t17
-add-t17 c = let h = token-within _ (c .before .match2 .keys1) (c .before .before .look .ensures) in
+add-t17 c = let h = token-within _ (known tie.At-match2-keys1 (search) .match2 .keys1) (known tie.After-look (search) .look .ensures) in
     omega arith
 
 enum-known-s : tie.Need-enum-known-s
@@ -62,13 +63,13 @@ enum-known-list-2 : tie.Need-enum-known-list-2
 enum-known-list-2 c = search needs
 
 look-requires-2 : tie.Need-look-requires-2
-look-requires-2 c κs = within-control (c .before .list2 .given .1) (c .before .before .before .before .pre)
+look-requires-2 c κs = within-control (known tie.After-list2 (search) .list2 .given .1) (known tie.Start (search) .pre)
 
 enum-told-2 : tie.Need-enum-told-2
 enum-told-2 c = search needs
 
 add-t20 : tie.Need-add-t20
-add-t20 c = let h = token-within _ (c .before .match3 .keys1) (c .before .before .look2 .ensures) in
+add-t20 c = let h = token-within _ (known tie.At-match3-keys1 (search) .match3 .keys1) (known tie.After-look2 (search) .look2 .ensures) in
     omega arith
 
 enum-known-s-2 : tie.Need-enum-known-s-2
@@ -78,19 +79,19 @@ enum-known-list-3 : tie.Need-enum-known-list-3
 enum-known-list-3 c = search needs
 
 returns : tie.Need-returns
-returns c = passes-suite (c .before .before .before .before .list .given .1) (passed-token _ (c .before .match2 .keys1) (c .before .before .look .ensures))
+returns c = passes-suite (known tie.After-list (search) .list .given .1) (passed-token _ (known tie.At-match2-keys1 (search) .match2 .keys1) (known tie.After-look (search) .look .ensures))
 
 returns-2 : tie.Need-returns-2
-returns-2 c = passes-suite (c .before .before .before .before .before .list .given .1) (lacks (not-seen (not-taken (c .before .s .given .1) (c .before .before .before .look .ensures))) refl)
+returns-2 c = passes-suite (known tie.After-list (search) .list .given .1) (lacks (not-seen (not-taken (known tie.After-s (search) .s .given .1) (known tie.After-look (search) .look .ensures))) refl)
 
 returns-3 : tie.Need-returns-3
-returns-3 c = passes-control (c .before .before .before .before .list2 .given .1) (passed-token _ (c .before .match3 .keys1) (c .before .before .look2 .ensures))
+returns-3 c = passes-control (known tie.After-list2 (search) .list2 .given .1) (passed-token _ (known tie.At-match3-keys1 (search) .match3 .keys1) (known tie.After-look2 (search) .look2 .ensures))
 
 returns-4 : tie.Need-returns-4
-returns-4 c = passes-control (c .before .before .before .before .before .list2 .given .1) (lacks (not-seen (not-taken (c .before .s2 .given .1) (c .before .before .before .look2 .ensures))) refl)
+returns-4 c = passes-control (known tie.After-list2 (search) .list2 .given .1) (lacks (not-seen (not-taken (known tie.After-s2 (search) .s2 .given .1) (known tie.After-look2 (search) .look2 .ensures))) refl)
 
 returns-5 : tie.Need-returns-5
-returns-5 c = passes-not (c .before .list3 .given .1)
+returns-5 c = passes-not (known tie.After-list3 (search) .list3 .given .1)
 
 pub past-spec : {M : Type 1} → statement M
 past-spec =

@@ -8,6 +8,7 @@ use Rattle.operator.specs.declared.UnaryOp.{UnaryOp}
 use Rattle.operator.specs.declared.UnaryOp.the-variants.{Neg, Pos, Inv, Not}
 use Rattle.scan.proofs.tokens.unary_code.Statement.{statement}
 use Rattle.scan.proofs.tokens.unary_code.Tie as tie
+use Rattle.tree.proofs.Known.{known}
 
 few : (op : UnaryOp) → unary-number op ≤ 3
 few Neg = omega arith
@@ -25,7 +26,7 @@ unary-number-requires : tie.Need-unary-number-requires
 unary-number-requires c κs = search needs
 
 add-result : tie.Need-add-result
-add-result c = let n = few (c .before .before .op .given .0 .0) in
+add-result c = let n = few (known tie.After-op (search) .op .given .0 .0) in
     let e = c .unary-number .ensures in
     omega arith
 
@@ -34,13 +35,13 @@ enum-told c = search needs
 
 returns : tie.Need-returns
 unfolding unary-code
-returns c = let n = few (c .before .before .op .given .0 .0) in
+returns c = let n = few (known tie.After-op (search) .op .given .0 .0) in
     let e = c .unary-number .ensures in
-    (omega (arith, e) ∙ ap unary-found (sym (c .before .before .op .given .1) ∙ c .before .before .before .before .which-unary-op .ensures), omega arith)
+    (omega (arith, e) ∙ ap unary-found (sym (known tie.After-op (search) .op .given .1) ∙ known tie.After-which-unary-op (search) .which-unary-op .ensures), omega arith)
 
 returns-2 : tie.Need-returns-2
 unfolding unary-code
-returns-2 c = (ap unary-found (sym (c .enum-told .given .1) ∙ c .before .before .which-unary-op .ensures), omega arith)
+returns-2 c = (ap unary-found (sym (c .enum-told .given .1) ∙ known tie.After-which-unary-op (search) .which-unary-op .ensures), omega arith)
 
 pub unary-code-spec : {M : Type 1} → statement M
 unary-code-spec =

@@ -6,6 +6,7 @@ use Rattle.scan.specs.Parts.{unassigned-step}
 use Rattle.grammar.specs.Reading.Expr.{keyword-alone}
 use Rattle.scan.proofs.tokens.unassigned.Statement.{statement}
 use Rattle.scan.proofs.tokens.unassigned.Tie as tie
+use Rattle.tree.proofs.Known.{known}
 
 returns : tie.Need-returns
 unfolding unassigned-step ifb
@@ -16,7 +17,7 @@ keyword-alone-requires c κs = search needs
 
 returns-2 : tie.Need-returns-2
 unfolding unassigned-step ifb
-returns-2 c = rw (ne-eqb _ _ (c .before .if1 .left), c .keyword-alone .ensures)
+returns-2 c = rw (ne-eqb _ _ (known tie.Else1 (search) .if1 .left), c .keyword-alone .ensures)
 
 pub unassigned-spec : {M : Type 1} → statement M
 unassigned-spec = tie.close (tie.spec returns keyword-alone-requires returns-2)
