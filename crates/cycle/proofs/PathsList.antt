@@ -32,6 +32,7 @@ use Rattle.scan.specs.Parts.{closed-step, resumed-step}
 use Rattle.nodes.specs.Ends.{Marked, statement, no-statement}
 use Rattle.nodes.specs.Lists.{Ends, keeps, gives}
 use Rattle.cycle.specs.Lists.{Controlled, Enters}
+use Rattle.scan.specs.declared.Failure.{Failure}
 use Rattle.scan.specs.declared.Step.{Step}
 use Rattle.scan.specs.declared.Step.the-variants.{Done, Fail, Stop}
 use Rattle.scan.specs.declared.Entry.{Entry}
@@ -126,10 +127,10 @@ module _ (low : Depth) (inside : Bool) (q : List Error) where
       empty e x h = rw (eq-eqb _ _ h)
 
   module _ {T : List ℕ} (fuel p : ℕ) (enough : length T ≤ p + fuel) where
-    pub sync-none : {w₀ e p′ w : ℕ} → Missed T p w₀ e p′ w → e ≡ Number.end-of-tokens → As q (synchronize low inside fuel q (drop p T)) q (ok tt (drop p T))
+    pub sync-none : {w₀ : ℕ} {f : Failure} → Missed T p w₀ f → f .error ≡ Number.end-of-tokens → As q (synchronize low inside fuel q (drop p T)) q (ok tt (drop p T))
     sync-none m e = sync-empty fuel (drop p T) (left T p fuel enough) (m .lacks .same q) e
 
-    pub sync-skip : {w₀ e p′ w : ℕ} → Missed T p w₀ e p′ w → (e ≡ Number.end-of-tokens → ⊥) → As q (synchronize low inside fuel q (drop p T)) q (synchronize low inside (fuel - 1) q (drop p′ T))
+    pub sync-skip : {w₀ : ℕ} {f : Failure} → Missed T p w₀ f → (f .error ≡ Number.end-of-tokens → ⊥) → As q (synchronize low inside fuel q (drop p T)) q (synchronize low inside (fuel - 1) q (drop (f .pos) T))
     unfolding ifb
     sync-skip m e =
         let x = m .past e in

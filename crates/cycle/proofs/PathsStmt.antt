@@ -42,8 +42,8 @@ use Rattle.nodes.proofs.Made.{joined, put, all-snoc, count-snoc}
 use Rattle.scan.proofs.Looking.{label-small}
 use Rattle.nodes.proofs.Algebra.{then-ok, then-then, then-same}
 
-pub label-below : {T : List ℕ} {pos k n v : ℕ} → Taken T pos k n v → k ≡ Kind.Label → v < 4294967296
-label-below {v = v} tk e = label-small {v = v} (tk .fits) e
+pub label-fits : {T : List ℕ} {pos k n v : ℕ} → Taken T pos k n v → k ≡ Kind.Label → v < 4294967296
+label-fits {v = v} tk e = label-small {v = v} (tk .fits) e
 
 -- AN ERROR of the function's own
 pub fails-with : {A : Type 0} {words : A → List ℕ} {D : Res A} {T : List ℕ} {pos least slack at w₀ e p : ℕ} {S Q : List ℕ} → D ≡ fail e (waiting-errors w₀ Q) (drop p T) → Moved (length T) pos w₀ p w₀ (length Q) → least ≤ p + (least + 1 - length T) → Agrees words D T pos least slack at w₀ S Q S Q (Fail (record { error = e; pos = p; waiting = w₀ }))

@@ -75,7 +75,7 @@ same-length t c = search needs
 
 pub returns-3 : (t : ℕ) → lts.Need-returns-3 (calls t) (catch-at t) reads.Post
 returns-3 t c = let u = known (After-push t) (search) .push .ensures in
-    let path = link (way _ (caught-push _ _ _ _ (else1-of-after-sync-arg2 t (search) .if1 .left))) (pushes (start-of-after-sync-arg2 t (search) .args .e) (start-of-after-sync-arg2 t (search) .args .waiting) (start-of-after-sync-arg2 t (search) .args .queue .now) (caught-go (at-depth (start-of-after-sync-arg2 t (search) .args .depth)) (drop (start-of-after-sync-arg2 t (search) .args .pos) (start-of-after-sync-arg2 t (search) .args .tokens .now))) (known (Else2 t) (search) .if2 .left) (omega (arith, start-of-after-sync-arg2 t (search) .pre)) (u .text)) in
+    let path = link (way _ (caught-push _ _ _ _ (else1-of-after-sync-arg2 t (search) .if1 .left))) (pushes (start-of-after-sync-arg2 t (search) .args .f .error) (start-of-after-sync-arg2 t (search) .args .f .waiting) (start-of-after-sync-arg2 t (search) .args .queue .now) (caught-go (at-depth (start-of-after-sync-arg2 t (search) .args .depth)) (drop (start-of-after-sync-arg2 t (search) .args .f .pos) (start-of-after-sync-arg2 t (search) .args .tokens .now))) (known (Else2 t) (search) .if2 .left) (omega (arith, start-of-after-sync-arg2 t (search) .pre)) (u .text)) in
     did-not (fails _ path (undone (c .match .keys2) (known (After-sync t) (search) .sync .ensures)) refl (omega arith))
 
 pub synchronized-requires : (t : ℕ) → lts.Need-synchronized-requires (calls t) (catch-at t) reads.Post
@@ -89,6 +89,6 @@ same-length-2 t c = search needs
 pub returns-4 : (t : ℕ) → lts.Need-returns-4 (calls t) (catch-at t) reads.Post
 returns-4 t c = let u = after-push-of-after-sync-arg2 t (search) .push .ensures in
     let s1 = done (known (After-r t) (search) .r .given .1) (known (After-sync t) (search) .sync .ensures) in
-    let path = link (way _ (caught-push _ _ _ _ (else1-of-after-sync-arg2 t (search) .if1 .left))) (pushes (start-of-after-sync-arg2 t (search) .args .e) (start-of-after-sync-arg2 t (search) .args .waiting) (start-of-after-sync-arg2 t (search) .args .queue .now) (caught-go (at-depth (start-of-after-sync-arg2 t (search) .args .depth)) (drop (start-of-after-sync-arg2 t (search) .args .pos) (start-of-after-sync-arg2 t (search) .args .tokens .now))) (else2-of-after-sync-arg2 t (search) .if2 .left) (omega (arith, start-of-after-sync-arg2 t (search) .pre)) (u .text)) in
+    let path = link (way _ (caught-push _ _ _ _ (else1-of-after-sync-arg2 t (search) .if1 .left))) (pushes (start-of-after-sync-arg2 t (search) .args .f .error) (start-of-after-sync-arg2 t (search) .args .f .waiting) (start-of-after-sync-arg2 t (search) .args .queue .now) (caught-go (at-depth (start-of-after-sync-arg2 t (search) .args .depth)) (drop (start-of-after-sync-arg2 t (search) .args .f .pos) (start-of-after-sync-arg2 t (search) .args .tokens .now))) (else2-of-after-sync-arg2 t (search) .if2 .left) (omega (arith, start-of-after-sync-arg2 t (search) .pre)) (u .text)) in
     let on = goes _ path (s1 .same) in
     resumes on (prefix s1 (omega (arith, start-of-after-sync-arg2 t (search) .pre))) (omega (arith, start-of-after-sync-arg2 t (search) .pre, u .next, s1 .moved)) (c .synchronized .ensures)

@@ -13,7 +13,7 @@ use Rattle.scan.proofs.Laws.{way, here, goes, done, undone, did-not, taken, not
 use Rattle.nodes.proofs.Made.{made-one}
 use Rattle.grammar.specs.Reading.Stmt.{stmt-list-of}
 use Rattle.cycle.proofs.Shapes.{expr-shape, given}
-use Rattle.cycle.proofs.PathsStmt.{label-below, fails-with, renamed, written, two-words, while-as, stmt-looks, stmt-loop, stmt-while, stmt-for, stmt-labelled, stmt-assert, stmt-control, stmt-expr}
+use Rattle.cycle.proofs.PathsStmt.{label-fits, fails-with, renamed, written, two-words, while-as, stmt-looks, stmt-loop, stmt-while, stmt-for, stmt-labelled, stmt-assert, stmt-control, stmt-expr}
 use Rattle.cycle.proofs.stmt.Reads as reads
 use Rattle.cycle.proofs.+arm+atom+begin+binop+block+body+call+catch+cond+def+dest+dots+each+expr+fun+group+index+item+jump+key+label+lhs+list+loops+param+part+path+prim+rhs+sig+stmt+sync+table+tail+term+tuple+turn+unop+val+whiles.Lts-stmt as lts
 use Rattle.cycle.proofs.each.Reads as each-reads
@@ -218,7 +218,7 @@ each-requires t c κs = let tk = taken (known (After-kind t) (search) .kind .giv
 
 pub add-label : (t : ℕ) → lts.Need-add-label (calls t) (stmt-at t) reads.Post
 add-label t c = let tk = taken (known (After-kind t) (search) .kind .given .1) (known (After-look t) (search) .look .ensures) in
-    omega (arith, label-below tk (known (At-match2-keys4 t) (search) .match2 .keys4))
+    omega (arith, label-fits tk (known (At-match2-keys4 t) (search) .match2 .keys4))
 
 pub add-label-2 : (t : ℕ) → lts.Need-add-label-2 (calls t) (stmt-at t) reads.Post
 add-label-2 t c = let tk = taken (known (After-kind t) (search) .kind .given .1) (known (After-look t) (search) .look .ensures) in
