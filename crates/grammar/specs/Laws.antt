@@ -3,6 +3,7 @@ pub mod Depth
 pub mod Progress
 pub mod Count
 pub mod Facts
+pub mod Roles
 pub mod Post
 pub mod Convert
 pub mod Views

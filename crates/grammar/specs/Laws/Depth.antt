@@ -1,4 +1,4 @@
--- More depth does not change a reading that did not stop with 62, `too-deep`: `stmt-depth`, `expr-depth`, `next-depth`, `deep-enough`. Assumes nothing.
+-- More depth does not change a reading that did not stop with 62, `too-deep`: `next-depth`. Assumes nothing.
 -- A lemma for each nonterminal: over readings `up` that say what `low` says, or more, it says what it says over `low`, or more.
 use mathlib.Core.Path.{_≡_, refl}
 use mathlib.Core.Logic.{_≢_}
@@ -235,7 +235,7 @@ module _ (low up : Depth) (M : Mono low up) where
   unfolding unary-expr
   unary-mono = search (mono, primary-expr-mono, M .m-unary)
 
-pub depth-mono : {d e : ℕ} → d ≤ e → Mono (at-depth d) (at-depth e)
+depth-mono : {d e : ℕ} → d ≤ e → Mono (at-depth d) (at-depth e)
 unfolding at-depth
 depth-mono zero-le = record { m-unary = λ q ts. le-deep; m-right = λ q ts. le-deep; m-list = λ end q ts. le-deep }
 depth-mono (suc-le-suc {n = d} {m = e} h) =
@@ -245,11 +245,8 @@ depth-mono (suc-le-suc {n = d} {m = e} h) =
       m-list = λ end q ts. stmts-mono (at-depth d) (at-depth e) (depth-mono h) end _ _ q ts;
     }
 
-pub stmt-depth : {d e : ℕ} → d ≤ e → (q : List Error) (ts : List ℕ) → Le (stmt (at-depth d) q ts) (stmt (at-depth e) q ts)
+stmt-depth : {d e : ℕ} → d ≤ e → (q : List Error) (ts : List ℕ) → Le (stmt (at-depth d) q ts) (stmt (at-depth e) q ts)
 stmt-depth h = stmt-mono (at-depth _) (at-depth _) (depth-mono h)
-
-pub expr-depth : {d e : ℕ} → d ≤ e → (q : List Error) (ts : List ℕ) → Le (expr (at-depth d) q ts) (expr (at-depth e) q ts)
-expr-depth h = expr-mono (at-depth _) (at-depth _) (depth-mono h)
 
 failed-depth : {d e : ℕ} → d ≤ e → (n : Error) (q : List Error) (ts : List ℕ) → Le (failed d n q ts) (failed e n q ts)
 unfolding failed
@@ -263,6 +260,3 @@ next-depth h q ts = search (mono, stmt-depth h, failed-depth h)
 pub enough : {A : Type 0} {x y : Res A} → Le x y → x ≢ stop too-deep → y ≡ x
 enough le-same n = refl
 enough le-deep n = absurd (n refl)
-
-pub deep-enough : {d e : ℕ} → d ≤ e → (q : List Error) (ts : List ℕ) → next d q ts ≢ stop too-deep → next e q ts ≡ next d q ts
-deep-enough h q ts = enough (next-depth h q ts)

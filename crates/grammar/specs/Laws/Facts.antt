@@ -6,6 +6,7 @@ use Prim.Native.Nat.{ℕ, max}
 use native.Mathlib.Omega.{arith}
 use borrow.Author.Tests.{eqb-true, ne-eqb, leb-true, leb-false, le-leb, lt-leb}
 use lib.Dec.{eqb, leb}
+use Rattle.grammar.specs.Reading.Result.{ifb}
 
 -- a test that fails and passes
 pub clash : {A : Type 0} {b : Bool} → b ≡ true → b ≡ false → A
@@ -35,6 +36,12 @@ and-r false b e = absurd (true≢false (sym e))
 pub by-test : {P : Type 0} (b : Bool) → (b ≡ true → P) → (b ≡ false → P) → P
 by-test true f g = f refl
 by-test false f g = g refl
+
+-- a choice between what is the same
+pub if-same : {A : Type 0} (b : Bool) {x y x′ y′ : Unit {0} → A} → ((u : Unit {0}) → x u ≡ x′ u) → ((u : Unit {0}) → y u ≡ y′ u) → ifb b x y ≡ ifb b x′ y′
+unfolding ifb
+if-same true f g = f tt
+if-same false f g = g tt
 
 -- one of two tests passed
 pub or-true : {P : Type 0} (a b : Bool) → a || b ≡ true → (a ≡ true → P) → (b ≡ true → P) → P

@@ -6,6 +6,7 @@ use native.Mathlib.Omega.{arith}
 use lib.Dec.{eqb}
 use lib.ListN.{length}
 use Rattle.token.specs.declared.Token.{Token}
+use Rattle.operator.specs.Operator.{level-count}
 use Rattle.tree.specs.NodeKind
 use Rattle.tree.specs.Tree.{Tree, Forest, node, none, more, one, snoc, kind-of}
 use Rattle.tree.specs.Node
@@ -346,13 +347,13 @@ module _ (low : Depth) (S : SmallDepth low) where
   members-small (suc n) f q ts h =
       holds-past q (look q ts) λ tok q₁ rest. holds-if _
       (λ _. holds-past q (look q rest) λ tok₂ q₂ rest₂. holds-if _ (λ _. h-ok (search (arith, h))) λ _.
-      holds-then q (binop-small 10 q rest) λ t q₃ r x. members-small n (snoc f t) q₃ r (smalls-snoc f t h x))
+      holds-then q (binop-small level-count q rest) λ t q₃ r x. members-small n (snoc f t) q₃ r (smalls-snoc f t h x))
       (λ _. h-ok (search (arith, h)))
 
   pub tuple-small : (q : List Error) (ts : List ℕ) → Holds Small (tuple-expr low q ts)
   unfolding tuple-expr Small
   tuple-small q ts =
-      holds-then q (binop-small 10 q ts) λ t q₁ r x.
+      holds-then q (binop-small level-count q ts) λ t q₁ r x.
       holds-past q₁ (look q₁ r) λ tok q₂ rest. holds-if _ (λ _. members-small (length r) (one t) q₁ r (x, tt)) (λ _. h-ok x)
 
   pub expr-small : (q : List Error) (ts : List ℕ) → Holds Small (expr low q ts)
@@ -399,7 +400,7 @@ module _ (low : Depth) (S : SmallDepth low) where
   table-item-small q ts =
       holds-then q (field-small q ts) λ f q₁ r x.
       holds-past q₁ (expect _ _ q₁ r) λ tok q₂ s.
-      holds-then q₂ (binop-small 10 q₂ s) λ e q₃ u y. h-ok (search (arith, x, y))
+      holds-then q₂ (binop-small level-count q₂ s) λ e q₃ u y. h-ok (search (arith, x, y))
 
   table-items-small : (n : ℕ) (f : Forest) (q : List Error) (ts : List ℕ) → Smalls f → Holds Smalls (table-items low n f q ts)
   unfolding table-items

@@ -14,6 +14,7 @@ use Rattle.grammar.specs.Canonical.Write.{Place, own, modified, target-a
 use Rattle.grammar.specs.Canonical.Valid.{prim, tight, unary, binop, assign, plain, ex, given, function, item, Valid, Valids, Arguments, Pattern, Target, v-nil, v-empty-tuple, v-identifier, v-true, v-false, v-integer, v-float, v-string, v-group, v-modified, v-atom, v-primary, v-prim, v-unpack, v-ellipsis, v-table, v-function, v-target, v-if, v-block, v-labelled, v-tight, v-unary-op, v-unary, v-up, v-binary-op, v-assign, v-inner, v-single, v-tuple, v-local, v-plain, v-keyword, v-given, v-given-assign, v-given-target, v-function-def, v-function-default, v-function-variadic, v-attribute, v-index, v-invoke, v-invoke-table, v-none, v-more, p-identifier, p-attribute, p-index, p-tuple, p-pack, p-ellipsis, p-modifier, one-argument, arguments, t-name, t-attribute, t-index}
 use borrow.Author.Tests.{eqb-true, ltb-true}
 use Rattle.grammar.specs.Laws.Facts.{clash, by-test, and-l, and-r}
+use Rattle.grammar.specs.Laws.Roles.{same-action}
 
 -- a root that is no assignment, no function and no tuple
 pub record Other (t : Tree) : Type 0 where
@@ -138,9 +139,6 @@ given-assign {a} {b} ha hb (v-assign {lhs = p} {rhs = d} k e h g i) =
   where
     small : fun-gives modified (a + 4 * pred (assign-code k)) ≡ true → pred (assign-code k) ≡ 0
     small y = let l = ltb-true (a + 4 * pred (assign-code k)) 4 y in omega arith
-
-same-action : (a : ℕ) (t : Tree) → eqb (kind-of t) NodeKind.Assignment ≡ false → with-action (suc a) t ≡ t
-same-action a (node k v f) e = rw e
 
 given-other : {a : ℕ} {t : Tree} → Valid (plain true true) t → eqb (kind-of t) NodeKind.Assignment ≡ false → Valid (given a) (with-action (suc a) t)
 given-other {a} {t} h e = subst (λ u. Valid (given a) u) (sym (same-action a t e)) (v-given e h)

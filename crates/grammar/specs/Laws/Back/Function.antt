@@ -166,7 +166,7 @@ module _ (d : ℕ) (R : Reads d) where
       (then-is _ _ (param-required h b q s)
       (sees _ _ _ (sign-is b .0) (then-ok _ _ (joined-required b f v q _) (on-is b m (so-far (snoc f (Node.param-def v))) q s))))
 
-  -- required parameters and the token behind them: the reading goes on behind, with fuel enough
+  -- required parameters and the token behind them: the reading goes on behind, with a count that is large enough
   required-back : {t : Tree} {g : Forest} → Valid Valid.param t → Valids Valid.param g → (b : Bool) (m : ℕ) (f : Forest) (q s : List ℕ)
       → length (write t own (after-commas (writes g) (sign b ∷ 0 ∷ s))) ≤ m
       → (n : ℕ) × (length (on b s) ≤ n) × Needs 0 d (params (at-depth d) m (so-far f) q (write t own (after-commas (writes g) (sign b ∷ 0 ∷ s)))) (params (at-depth d) n (so-far (join f (more t g))) q (on b s))

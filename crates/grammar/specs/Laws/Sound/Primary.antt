@@ -8,6 +8,7 @@ use lib.ListN.{length}
 use Rattle.token.specs.Kind
 use Rattle.token.specs.Look.{value-fits}
 use Rattle.token.specs.declared.Token.{Token}
+use Rattle.operator.specs.Operator.{level-count}
 use Rattle.tree.specs.NodeKind
 use Rattle.tree.specs.Tree.{Tree, Forest, node, none, snoc}
 use Rattle.tree.specs.Node
@@ -104,7 +105,7 @@ module _ (low : Depth) (S : Sound low) where
   table-item-sound q ts =
       post-then q (table-field-sound q ts) λ f q₁ r x.
       post-then q₁ (expect-took Kind.OpAssign Number.missing-assign q₁ r) λ tok q₂ s c.
-      post-then q₂ (binop-sound low S 10 q₂ s) λ e q₃ u y.
+      post-then q₂ (binop-sound low S level-count q₂ s) λ e q₃ u y.
       p-ok (v-table-item x (y .valid true anyhow))
 
   pub table-items-sound : (n : ℕ) (f : Forest) (q : List Error) (ts : List ℕ) → Valids table-item f → Post (λ f r. Valids table-item f) (table-items low n f q ts)
