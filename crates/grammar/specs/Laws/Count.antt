@@ -15,7 +15,9 @@ use Rattle.grammar.specs.Reading.Stmt.{synchronize, stmts}
 use Rattle.grammar.specs.Reading.Depth.{at-depth}
 use Rattle.grammar.specs.Reading.Next.{start}
 use Rattle.grammar.specs.Laws.Facts.{if-same}
-use Rattle.grammar.specs.Laws.Progress.{Keep, k-ok, k-bad, k-fail, k-stop, Kept, Near, here, past, k-lose, First, look-keeps, expect-keeps, binop-keeps, expr-keeps, member-keeps, indexing-keeps, item-keeps, items-keeps, invocation-keeps, param-keeps, joined-keeps, control-keeps, stmt-keeps, caught-keeps, depth-keeps, Left, left-step, Words, short, some, words, look-short, expr-short, start-short}
+use Rattle.grammar.specs.Laws.Keep.{Keep, k-ok, k-bad, k-fail, k-stop, Kept, Near, here, past, k-lose, First}
+use Rattle.grammar.specs.Laws.Progress.{look-keeps, expect-keeps, binop-keeps, expr-keeps, member-keeps, indexing-keeps, item-keeps, items-keeps, invocation-keeps, param-keeps, joined-keeps, control-keeps, stmt-keeps, caught-keeps, depth-keeps}
+use Rattle.grammar.specs.Laws.Taken.{Left, left-step, Words, short, some, words, look-short, expr-short, start-short}
 
 -- the same reading first, and ways to go on that agree where I holds; `then` hands a failure on, so that only a success counts
 

@@ -2,7 +2,7 @@
 -- A lemma for each nonterminal: over readings `up` that say what `low` says, or more, it says what it says over `low`, or more.
 use mathlib.Core.Path.{_≡_, refl}
 use mathlib.Core.Logic.{_≢_}
-use mathlib.Core.Bool.{Bool, true, false}
+use mathlib.Core.Bool.{Bool}
 use mathlib.Core.List.{List, [], _∷_}
 use Prim.Native.Nat.{ℕ, zero, suc, _≤_, zero-le, suc-le-suc}
 use Rattle.tree.specs.Tree.{Tree, Forest}
@@ -15,6 +15,7 @@ use Rattle.grammar.specs.Reading.Function.{Params, plain-param, param, p
 use Rattle.grammar.specs.Reading.Stmt.{loop, while-loop, lvalue-list, for-loop, stmt-label, stmt, control-value, control-flow, synchronize, caught, stmts}
 use Rattle.grammar.specs.Reading.Depth.{primary-expr, unary-expr, at-depth}
 use Rattle.grammar.specs.Reading.Next.{front, failed, next}
+use Rattle.grammar.specs.Laws.Facts.{if-each}
 
 -- what the first says, the second says, but where the first stopped with 62
 pub data Le {A : Type 0} : Res A → Res A → Type 0 where
@@ -48,9 +49,7 @@ le-then q₀ {d = stop n} le-same f = le-same
 le-then q₀ le-deep f = le-deep
 
 le-if : {A : Type 0} (b : Bool) {x y x′ y′ : Unit {0} → Res A} → ((u : Unit {0}) → Le (x u) (x′ u)) → ((u : Unit {0}) → Le (y u) (y′ u)) → Le (ifb b x y) (ifb b x′ y′)
-unfolding ifb
-le-if true f g = f tt
-le-if false f g = g tt
+le-if b f g = if-each Le b f g
 
 le-push : {A : Type 0} (e : Error) (q : List Error) {k k′ : List Error → Res A} → ((q : List Error) → Le (k q) (k′ q)) → Le (push e q k) (push e q k′)
 unfolding push

@@ -1,9 +1,10 @@
 -- What holds of a clean success, and the laws by which it goes through the combinators. After an error there is no clean success. Assumes nothing.
-use mathlib.Core.Path.{_≡_, refl}
+use mathlib.Core.Path.{_≡_}
 use Prim.Native.Nat.{ℕ}
 use mathlib.Core.Bool.{Bool, true, false}
 use mathlib.Core.List.{List}
 use Rattle.grammar.specs.Reading.Result.{Error, Res, ok, bad, fail, stop, spoil, either, then, ifb, push}
+use Rattle.grammar.specs.Laws.Facts.{if-tested}
 
 pub data Post {A : Type 0} (P : A → List ℕ → Type 0) : Res A → Type 0 where
   p-ok : {a : A} {r : List ℕ} → P a r → Post P (ok a r)
@@ -36,9 +37,7 @@ post-either q or p-stop h = p-stop
 
 pub post-if : {A : Type 0} {P : A → List ℕ → Type 0} {b : Bool} {x y : Unit {0} → Res A}
     → ((u : Unit {0}) → b ≡ true → Post P (x u)) → ((u : Unit {0}) → b ≡ false → Post P (y u)) → Post P (ifb b x y)
-unfolding ifb
-post-if {b = true} f g = f tt refl
-post-if {b = false} f g = g tt refl
+post-if {P = P} {b = b} f g = if-tested (Post P) b f g
 
 pub post-push : {A : Type 0} {P : A → List ℕ → Type 0} (e : Error) (q : List Error) (k : List Error → Res A) → Post P (push e q k)
 unfolding push

@@ -1,4 +1,4 @@
--- Laws of the roles of valid trees that reading and writing both use: a weaker level takes what a tighter one does, a modifier leaves what is no assignment as it is,
+-- Laws of the roles of valid trees that reading and writing both use: a weaker level takes what a tighter one does, one tree more is as valid, a modifier leaves what is no assignment as it is,
 -- and a target with its function is told to be one. Assumes nothing.
 use mathlib.Core.Path.{_≡_, refl, subst}
 use mathlib.Core.Bool.{Bool, true, false}
@@ -8,11 +8,11 @@ use lib.Dec.{eqb}
 use borrow.Author.Tests.{eqb-true, eqb-false, eq-eqb}
 use Rattle.operator.specs.Operator.{level-count}
 use Rattle.tree.specs.NodeKind
-use Rattle.tree.specs.Tree.{Tree, Forest, node, two, kind-of}
+use Rattle.tree.specs.Tree.{Tree, Forest, node, two, snoc, kind-of}
 use Rattle.grammar.specs.Reading.Primary.{with-action}
 use Rattle.grammar.specs.Reading.Function.{target-name}
 use Rattle.grammar.specs.Canonical.Write.{target-items, is-target, function-named, has-function}
-use Rattle.grammar.specs.Canonical.Valid.{Valid, Valids, Target, tight, binop, function, item, v-tight, v-unary, v-up, v-function-def, v-function-default, v-function-variadic, v-attribute, v-index, v-none, v-more, t-name, t-attribute, t-index}
+use Rattle.grammar.specs.Canonical.Valid.{Role, Valid, Valids, Target, tight, binop, function, item, v-tight, v-unary, v-up, v-function-def, v-function-default, v-function-variadic, v-attribute, v-index, v-none, v-more, t-name, t-attribute, t-index}
 use Rattle.grammar.specs.Laws.Facts.{by-test}
 
 -- a weaker level takes what a tighter one does
@@ -28,6 +28,12 @@ raise {begin} {t} l (suc m) h v =
 -- an operand alone is one of the weakest level
 pub as-inner : {b : Bool} {t : Tree} → Valid (tight b) t → Valid (binop b level-count) t
 as-inner h = raise 0 level-count (omega arith) (v-unary (v-tight h))
+
+-- trees of one role, and one more
+pub valids-snoc : {o : Role} {f : Forest} {t : Tree} → Valids o f → Valid o t → Valids o (snoc f t)
+unfolding snoc
+valids-snoc v-none h = v-more h v-none
+valids-snoc (v-more g gs) h = v-more g (valids-snoc gs h)
 
 -- only an assignment takes a modifier's action
 pub same-action : (a : ℕ) (t : Tree) → eqb (kind-of t) NodeKind.Assignment ≡ false → with-action (suc a) t ≡ t

@@ -1,17 +1,17 @@
 -- The kinds of operators, and what may follow a tree's words in canonical tokens: one symbol, by a rank that says what it could go on with. Assumes nothing.
-use mathlib.Core.Path.{_≡_, refl, ap, _∙_, sym}
+use mathlib.Core.Path.{_≡_, refl, ap, _∙_}
 use mathlib.Core.Logic.{_≢_}
-use mathlib.Core.Bool.{Bool, true, false, cond, _&&_, _||_, true≢false}
+use mathlib.Core.Bool.{Bool, true, false, cond, _&&_, _||_}
 use mathlib.Core.List.{List, _∷_}
-use Prim.Native.Nat.{ℕ, suc, pred, _+_, _≤_, _<_, min}
+use Prim.Native.Nat.{ℕ, suc, pred, _+_, _-_, _≤_, _<_, min}
 use native.Mathlib.Nat.{le-trans}
 use native.Mathlib.Omega.{arith}
 use lib.Dec.{eqb, ltb}
 use Rattle.token.specs.Kind
-use Rattle.operator.specs.Operator.{level-count, which-unary-op, which-binary-op, which-assignment-op, op-level, op-number, op-token, unary-code, unary-token, assign-code, assign-token}
+use Rattle.operator.specs.Operator.{level-count, which-unary-op, which-binary-op, which-assignment-op, op-level, op-number, op-token, unary-code, unary-token, assign-code, assign-token, no-token}
 use Rattle.operator.specs.Laws.{op-token-number, unary-token-code, assign-token-code}
 use Rattle.operator.specs.Below.{equal-below, most-below}
-use borrow.Author.Tests.{ne-eqb, eq-eqb, leb-true}
+use borrow.Author.Tests.{ne-eqb, eq-eqb, eqb-false, leb-true}
 use Rattle.grammar.specs.Laws.Facts.{and-l, and-r}
 
 -- operators are kinds of symbols
@@ -34,25 +34,23 @@ assign-far h = simp (far h)
 near : (n k : ℕ) → (76 ≤ k → n ≡ 0) → n ≢ 0 → k < 76
 near n k h p = let f : ¬ (76 ≤ k) = λ l. p (h l) in omega arith
 
-no-code : (n : ℕ) → eqb n 0 ≡ false → n ≢ 0
-no-code n e z = true≢false (sym (eq-eqb n 0 z) ∙ e)
-
 pub op-kind : (k : ℕ) {l : ℕ} → op-level k ≡ suc l → (k < 76) × (op-token (op-number k) ≡ k)
 op-kind k e =
     let h = near (op-level k) k op-far (omega arith) in
     (h, op-token-number k (omega arith) (omega arith))
 
+-- the same of a code that is 1 + the place of its token
+code-kind : (code token : ℕ → ℕ) (k : ℕ) → (76 ≤ k → code k ≡ 0) → (k < no-token → 0 < code k → token (code k - 1) ≡ k) → eqb (code k) 0 ≡ false → (k < 76) × (token (pred (code k)) ≡ k)
+code-kind code token k far back e =
+    let p : code k ≢ 0 = eqb-false (code k) 0 e in
+    let h = near (code k) k far p in
+    (h, ap token (omega arith) ∙ back (omega arith) (omega arith))
+
 pub unary-kind : (k : ℕ) → eqb (unary-code k) 0 ≡ false → (k < 76) × (unary-token (pred (unary-code k)) ≡ k)
-unary-kind k e =
-    let p = no-code (unary-code k) e in
-    let h = near (unary-code k) k unary-far p in
-    (h, ap unary-token (omega arith) ∙ unary-token-code k (omega arith) (omega arith))
+unary-kind k = code-kind unary-code unary-token k unary-far (unary-token-code k)
 
 pub assign-kind : (k : ℕ) → eqb (assign-code k) 0 ≡ false → (k < 76) × (assign-token (pred (assign-code k)) ≡ k)
-assign-kind k e =
-    let p = no-code (assign-code k) e in
-    let h = near (assign-code k) k assign-far p in
-    (h, ap assign-token (omega arith) ∙ assign-token-code k (omega arith) (omega arith))
+assign-kind k = code-kind assign-code assign-token k assign-far (assign-token-code k)
 
 -- what a symbol could go on with. 0: a path. 1: an operand, as `...`. 1 + l: an operand of the level l. Above these: a tuple, an assignment, nothing
 abbrev pub comma-rank : ℕ

@@ -21,7 +21,8 @@ use Rattle.grammar.specs.Canonical.Need.{most, need, needs}
 use Rattle.grammar.specs.Canonical.Valid as Valid
 use Rattle.grammar.specs.Canonical.Valid.{Valid, Valids, Target, IsNamed, read-only, read-write, ex, function, item, block, v-nil, v-empty-tuple, v-identifier, v-true, v-false, v-integer, v-float, v-string, v-group, v-modified, v-function-def, v-function-default, v-function-variadic, v-attribute, v-index, v-param, v-none, v-more, t-name, t-attribute, t-index}
 use Rattle.grammar.specs.Laws.Back.Steps.{Needs, Fits, fits, done, exactly, enough, inside, both, weigh, lands, then-ok, then-is, if-yes, if-no, sees, expects, converted}
-use Rattle.grammar.specs.Laws.Back.Snoc.{join, join-snoc, join-one, row-snoc, most-more, most-snoc, valids-snoc}
+use Rattle.grammar.specs.Laws.Roles.{valids-snoc}
+use Rattle.grammar.specs.Laws.Back.Snoc.{join, join-snoc, join-one, row-snoc, most-more, most-snoc}
 use Rattle.grammar.specs.Laws.Back.Patterns.{by-snoc}
 use Rattle.grammar.specs.Laws.Back.Expr.{Reads, close, ex-back}
 use Rattle.grammar.specs.Laws.Back.Block.{block-body}

@@ -16,7 +16,8 @@ use Rattle.grammar.specs.Canonical.Write.{own, modified, keyword-of, as-
 use Rattle.grammar.specs.Canonical.Need.{most, need, needs}
 use Rattle.grammar.specs.Canonical.Valid.{Valid, Valids, Pattern, Patterns, IsName, atom, prim, tight, binop, plain, ex, item, v-identifier, v-group, v-modified, v-atom, v-primary, v-prim, v-unpack, v-ellipsis, v-inner, v-single, v-tuple, v-given, v-attribute, v-index, v-none, v-more, p-identifier, p-attribute, p-index, p-tuple, p-pack, p-ellipsis, p-modifier, p-none, p-more}
 use Rattle.grammar.specs.Laws.Roles.{as-inner}
-use Rattle.grammar.specs.Laws.Back.Snoc.{row-snoc, most-snoc, valids-snoc}
+use Rattle.grammar.specs.Laws.Roles.{valids-snoc}
+use Rattle.grammar.specs.Laws.Back.Snoc.{row-snoc, most-snoc}
 
 -- what is shown of a pattern p: an expression with its words, which converts back to it. A pattern's place is of no matter
 pub record AsExpr (p : Tree) : Type 0 where

@@ -17,7 +17,10 @@ use Rattle.grammar.specs.Reading.Result.{Error, Res, ok, bad, fail, stop
 use Rattle.grammar.specs.Reading.Look.{looked, look}
 use Rattle.grammar.specs.Reading.Next.{front}
 use Rattle.grammar.specs.Reading.Looked.{BadRecord, words-of}
-use Rattle.grammar.specs.Laws.Progress.{Keep, k-ok, k-bad, k-fail, k-stop, k-or, k-on, k-spoil, here, look-keeps, Left, left-step}
+use Rattle.grammar.specs.Laws.Facts.{if-each}
+use Rattle.grammar.specs.Laws.Keep.{Keep, k-ok, k-bad, k-fail, k-stop, k-or, k-on, k-spoil, here}
+use Rattle.grammar.specs.Laws.Progress.{look-keeps}
+use Rattle.grammar.specs.Laws.Taken.{Left, left-step}
 use Rattle.grammar.specs.Laws.Count.{Enough}
 
 -- nothing that stands before X is left
@@ -127,9 +130,7 @@ module _ {b : BadRecord} {X : List ℕ} where
   at-either q (l-behind x) h k = l-behind (k-or q x (on-behind h) (on-behind k))
 
   pub at-if : {f : Bool} {A : Type 0} (c : Bool) {x y x′ y′ : Unit {0} → Res A} → ((u : Unit {0}) → Local b X f (x u) (x′ u)) → ((u : Unit {0}) → Local b X f (y u) (y′ u)) → Local b X f (ifb c x y) (ifb c x′ y′)
-  unfolding ifb
-  at-if true h k = h tt
-  at-if false h k = k tt
+  at-if {f} c h k = if-each (Local b X f) c h k
 
   pub at-push : {f : Bool} {A : Type 0} (e : Error) (q : List Error) {k k′ : List Error → Res A} → ((q : List Error) → Local b X f (k q) (k′ q)) → Local b X f (push e q k) (push e q k′)
   unfolding push

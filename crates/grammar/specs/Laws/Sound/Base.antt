@@ -19,12 +19,12 @@ use Rattle.grammar.specs.Reading.Look.{looked, look, expect, expect-patt
 use Rattle.grammar.specs.Reading.Pattern.{conv, to-pattern}
 use Rattle.grammar.specs.Reading.Expr.{Stmts, Depth, operators}
 use Rattle.grammar.specs.Canonical.Write.{own, fun-gives, has-function}
-use Rattle.grammar.specs.Canonical.Valid.{IsName, Role, unary, binop, assign, plain, ex, stmt, control, Valid, Valids, Pattern, v-binary-op, v-assign, v-inner, v-single, v-tuple, v-local, v-plain, v-keyword, v-none, v-more, v-target, tight}
+use Rattle.grammar.specs.Canonical.Valid.{IsName, Role, unary, binop, assign, plain, ex, stmt, control, Valid, Valids, Pattern, v-binary-op, v-assign, v-inner, v-single, v-tuple, v-local, v-plain, v-keyword, v-none, v-target, tight}
 use borrow.Author.Tests.{eqb-true}
 use Rattle.grammar.specs.Laws.Facts.{clash, other, by-test, and-l, and-r}
 use Rattle.grammar.specs.Laws.Post.{Post, p-ok, p-fail, p-stop, post-then, post-if}
 use Rattle.grammar.specs.Laws.Convert.{PatternOk, no-pattern, a-pattern, Converts, Convert, c-none, c-more, convert-snoc, none-sound, tuple-sound}
-use Rattle.grammar.specs.Laws.Roles.{as-inner}
+use Rattle.grammar.specs.Laws.Roles.{as-inner, valids-snoc}
 use Rattle.grammar.specs.Laws.Views.{fun-of}
 
 -- the kind of the first token, and 77 where there is none
@@ -142,11 +142,6 @@ operators-sound l operand H us (suc n) left q ts x =
 pub data MembersOk (us ts : List ℕ) : Forest → Type 0 where
   first : {t : Tree} → OperandOk (λ b. binop b level-count) us t → eqb (kind-at ts) Kind.Comma ≡ true → MembersOk us ts (one t)
   others : {t u : Tree} {f : Forest} → OperandOk (λ b. binop b level-count) us t → Valid (binop true level-count) u → Valids (binop true level-count) f → Convert (more u f) → MembersOk us ts (more t (more u f))
-
-pub valids-snoc : {o : Role} {f : Forest} {t : Tree} → Valids o f → Valid o t → Valids o (snoc f t)
-unfolding snoc
-valids-snoc v-none x = v-more x v-none
-valids-snoc (v-more y f) x = v-more y (valids-snoc f x)
 
 pub members-snoc : {us ts ss : List ℕ} {f : Forest} {t : Tree} → MembersOk us ts f → Valid (binop true level-count) t → Converts t → MembersOk us ss (snoc f t)
 unfolding snoc
