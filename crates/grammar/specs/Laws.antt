@@ -15,6 +15,7 @@ pub mod Length
 pub mod Append
 pub mod Holds
 pub mod Converted
+pub mod Parts
 pub mod Kinds
 pub mod Waits
 pub mod Numbers

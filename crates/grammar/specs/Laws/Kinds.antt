@@ -1,37 +1,25 @@
 -- Every tree that a reading gives, cleanly or not, has kinds below 256, so that its records tell the tree. Assumes nothing.
-use mathlib.Core.Bool.{Bool, true, false, cond}
+use mathlib.Core.Bool.{Bool, true, false}
 use mathlib.Core.List.{List}
-use Prim.Native.Nat.{ℕ, zero, suc, _+_, _*_, _/_, _<_}
+use Prim.Native.Nat.{ℕ, zero, suc}
 use native.Mathlib.Omega.{arith}
-use lib.Dec.{eqb}
 use lib.ListN.{length}
 use Rattle.token.specs.declared.Token.{Token}
 use Rattle.operator.specs.Operator.{level-count}
-use Rattle.tree.specs.NodeKind
-use Rattle.tree.specs.Tree.{Tree, Forest, node, none, more, one, snoc, kind-of}
+use Rattle.tree.specs.Tree.{Tree, Forest, none, one, snoc}
 use Rattle.tree.specs.Node
 use Rattle.tree.specs.Records.{Small, Smalls}
-use Rattle.grammar.specs.Reading.Result.{Error, Res, ifb}
+use Rattle.grammar.specs.Reading.Result.{Error, Res}
 use Rattle.grammar.specs.Reading.Look.{look, expect, try-label, try-assign-keyword}
-use Rattle.grammar.specs.Reading.Expr.{Stmts, Depth, operators, binop-expr, members as members-read, tuple-expr, expr}
-use Rattle.grammar.specs.Reading.Primary.{with-action, group-expr, literal, atom, indexing-expr, field-name, table-field, table-item, table-items, member-access, list-members, arguments, invocation, path, with-path, primary, unpack-expr}
-use Rattle.grammar.specs.Reading.Block.{Split, whole, result, split-before, split-kids, split-last, split, block-split, block-of, body, block-expr, expr-label, branches}
-use Rattle.grammar.specs.Reading.Function.{Param, required, variadic, default, Params, param-mode, variadic-param, plain-param, param, joined, params, function-def, function-assignment-target, function-decl-expr}
+use Rattle.grammar.specs.Reading.Expr.{Depth, operators, binop-expr, members as members-read, tuple-expr, expr}
+use Rattle.grammar.specs.Reading.Primary.{group-expr, literal, atom, indexing-expr, field-name, table-field, table-item, table-items, member-access, invocation, path, with-path, primary, unpack-expr}
+use Rattle.grammar.specs.Reading.Block.{block-of, body, block-expr, expr-label, branches}
+use Rattle.grammar.specs.Reading.Function.{Param, Params, param-mode, variadic-param, plain-param, param, joined, params, function-def, function-assignment-target, function-decl-expr}
 use Rattle.grammar.specs.Reading.Stmt.{loop, while-loop, lvalue-list, for-loop, stmt-label, stmt, control-value, control-flow, control-last, caught, stmts}
 use Rattle.grammar.specs.Reading.Depth.{primary-expr, unary-expr, at-depth}
 use Rattle.grammar.specs.Laws.Holds.{Holds, h-ok, h-fail, h-stop, holds-then, holds-past, holds-either, holds-if}
 use Rattle.grammar.specs.Laws.Converted.{modified-small, pattern-small}
-
--- a forest with one tree more
-smalls-snoc : (f : Forest) (t : Tree) → Smalls f → Small t → Smalls (snoc f t)
-unfolding Small snoc
-smalls-snoc none t f h = (h, tt)
-smalls-snoc (more u g) t f h = (f .0, smalls-snoc g t (f .1) h)
-
--- what a reading of each kind gives
-pub record SmallStmts (s : Stmts) : Type 0 where
-  pub suite : Smalls (s .suite)
-  pub control : Small (s .control)
+use Rattle.grammar.specs.Laws.Parts.{smalls-snoc, SmallStmts, with-action-small, arguments-small, with-path-small, nothing-small, absent-small, index-small, invoke-table-small, branch-small, if-small, block-small, SmallParam, small-required, small-variadic, small-default, SmallParams, param-def-small, default-def-small}
 
 pub record SmallDepth (low : Depth) : Type 0 where
   pub s-unary : (q : List Error) (ts : List ℕ) → Holds Small (low .unary q ts)
@@ -46,121 +34,12 @@ operators-small operand H l (suc n) left q ts h =
     (λ _. holds-then q (H q rest) λ right q₂ r x. operators-small operand H l n _ q₂ r (search (arith, h, x)))
     (λ _. h-ok h)
 
-with-action-small : (m : ℕ) (t : Tree) → Small t → Small (with-action m t)
-unfolding Small
-with-action-small zero t h = h
-with-action-small (suc a) (node k v f) h = go (eqb k NodeKind.Assignment)
-  where
-    go : (b : Bool) → Small (cond b (node k (a + 4 * (v / 4)) f) (node k v f))
-    go true = h
-    go false = h
-
 literal-small : (tok : Token) (q : List Error) (rest : List ℕ) → Holds Small (literal tok q rest)
 unfolding literal Small
 literal-small tok q rest =
     holds-if _ (λ _. h-ok (search arith)) λ _. holds-if _ (λ _. h-ok (search arith)) λ _. holds-if _ (λ _. h-ok (search arith)) λ _.
     holds-if _ (λ _. h-ok (search arith)) λ _. holds-if _ (λ _. h-ok (search arith)) λ _. holds-if _ (λ _. h-ok (search arith)) λ _.
     holds-if _ (λ _. h-ok (search arith)) λ _. h-fail
-
-arguments-small : (t : Tree) → Small t → Smalls (arguments t)
-unfolding Small
-arguments-small (node k v f) h = go (eqb k NodeKind.Tuple) f (h .1)
-  where
-    go : (b : Bool) (f : Forest) → Smalls f → Smalls (cond b (list-members f) (one (node k v f)))
-    go true none g = tt
-    go true (more (node k v f) g) s = s .0 .1
-    go false f g = ((h .0, g), tt)
-
-with-path-small : (a : Tree) (f : Forest) → Small a → Smalls f → Small (with-path a f)
-unfolding Small
-with-path-small a none h g = h
-with-path-small a (more i f) h g = search (arith, h, g)
-
-nothing-small : Smalls none
-unfolding Small
-nothing-small = tt
-
-absent-small : Small Node.absent
-unfolding Small
-absent-small = search arith
-
-index-small : (e : Tree) → Small e → Small (Node.index e)
-unfolding Small
-index-small e h = search (arith, h)
-
-invoke-table-small : (f : Forest) → Smalls f → Small (Node.invoke-table f)
-unfolding Small
-invoke-table-small f h = search (arith, h)
-
-branch-small : (c b : Tree) → Small c → Small b → Small (Node.conditional-branch c b)
-unfolding Small
-branch-small c b h g = search (arith, h, g)
-
-if-small : (f : Forest) (e : Tree) → Smalls f → Small e → Small (Node.if-expr f e)
-unfolding Small
-if-small f e h g = search (arith, h, g)
-
-made-block : (f : Forest) (c : Tree) → Smalls f → Small c → Small (Node.expr-block (Node.stmt-list f c) Node.absent)
-unfolding Small
-made-block f c h g = search (arith, h, g)
-
--- a block's statements and its result
-data SmallSplit : Split → Type 0 where
-  small-whole : {f : Forest} → Smalls f → SmallSplit (whole f)
-  small-result : {f : Forest} {e : Tree} → Smalls f → Small e → SmallSplit (result f e)
-
-before-small : (t : Tree) {s : Split} → Small t → SmallSplit s → SmallSplit (split-before t s)
-unfolding split-before Small
-before-small t h (small-whole {f = f} g) = small-whole {f = more t f} (h, g)
-before-small t h (small-result {f = f} g e) = small-result {f = more t f} (h, g) e
-
-kids-small : (k v : ℕ) (f : Forest) → k < 256 → Smalls f → SmallSplit (split-kids k v f)
-unfolding split-kids ifb Small
-kids-small k v none h g = small-whole {f = one (node k v none)} ((h, g), tt)
-kids-small k v (more e none) h g = go (eqb k NodeKind.Expression)
-  where
-    go : (b : Bool) → SmallSplit (ifb b (λ _. result none e) (λ _. whole (one (node k v (one e)))))
-    go true = small-result {f = none} tt (g .0)
-    go false = small-whole {f = one (node k v (one e))} ((h, g), tt)
-kids-small k v (more e (more u f)) h g = small-whole {f = one (node k v (more e (more u f)))} ((h, g), tt)
-
-split-small : (f : Forest) → Smalls f → SmallSplit (split f)
-unfolding split split-last Small
-split-small none h = small-whole {f = none} tt
-split-small (more (node k v f) none) h = kids-small k v f (h .0 .0) (h .0 .1)
-split-small (more t (more u f)) h = before-small t (h .0) (split-small (more u f) (h .1))
-
-split-block-small : {s : Split} → SmallSplit s → Small (block-split s)
-unfolding block-split Small
-split-block-small (small-whole g) = search (arith, g)
-split-block-small (small-result g e) = search (arith, g, e)
-
-block-small : (s : Stmts) → SmallStmts s → Small (block-of s)
-unfolding block-of ifb
-block-small s h = go (eqb (kind-of (s .control)) NodeKind.Absent)
-  where
-    go : (b : Bool) → Small (ifb b (λ _. block-split (split (s .suite))) (λ _. Node.expr-block (Node.stmt-list (s .suite) (s .control)) Node.absent))
-    go true = split-block-small (split-small (s .suite) (h .suite))
-    go false = made-block (s .suite) (s .control) (h .suite) (h .control)
-
--- parameters
-data SmallParam : Param → Type 0 where
-  small-required : {v : ℕ} → SmallParam (required v)
-  small-variadic : {v : ℕ} → SmallParam (variadic v)
-  small-default : {v : ℕ} {e : Tree} → Small e → SmallParam (default v e)
-
-record SmallParams (ps : Params) : Type 0 where
-  first : Smalls (ps .required-list)
-  second : Smalls (ps .default-list)
-  third : Small (ps .variadic-one)
-
-param-def-small : (v : ℕ) → Small (Node.param-def v)
-unfolding Small
-param-def-small v = search arith
-
-default-def-small : (v : ℕ) (e : Tree) → Small e → Small (Node.default-def v e)
-unfolding Small
-default-def-small v e h = search (arith, h)
 
 joined-small : (ps : Params) {p : Param} (k : ℕ) (q : List Error) (ts : List ℕ) → SmallParams ps → SmallParam p → Holds SmallParams (joined ps p k q ts)
 unfolding joined
