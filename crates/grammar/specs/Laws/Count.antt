@@ -6,7 +6,7 @@ use Prim.Native.Nat.{ℕ, zero, suc, _≤_, _<_}
 use native.Mathlib.Omega.{arith}
 use lib.ListN.{length}
 use Rattle.tree.specs.Tree.{Tree}
-use Rattle.grammar.specs.Reading.Result.{Error, Res, bad, fail, spoil, either, then, ifb}
+use Rattle.grammar.specs.Reading.Result.{Error, Res, bad, fail, unclean, either, then, ifb}
 use Rattle.grammar.specs.Reading.Expr.{Depth, operators, binop-expr, members}
 use Rattle.grammar.specs.Reading.Primary.{table-items, path}
 use Rattle.grammar.specs.Reading.Block.{branches}
@@ -26,7 +26,7 @@ module _ (I : List ℕ → Type 0) where
       → ((a : A) (q : List Error) (r : List ℕ) → I r → go a q r ≡ go′ a q r) → then q d go ≡ then q d go′
   unfolding then
   same-then q (k-ok i) f = f _ _ _ i
-  same-then q (k-bad i) f = ap (spoil _) (f _ _ _ i)
+  same-then q (k-bad i) f = ap (unclean _) (f _ _ _ i)
   same-then q (k-fail i) f = refl
   same-then q k-stop f = refl
 
@@ -35,8 +35,8 @@ module _ (I : List ℕ → Type 0) where
       → either q d go or ≡ either q d go′ or′
   unfolding either
   same-either q (k-ok i) f g = f _ _ _ i
-  same-either q (k-bad i) f g = ap (spoil _) (f _ _ _ i)
-  same-either q (k-fail i) f g = ap (spoil _) (g _ _ _ i)
+  same-either q (k-bad i) f g = ap (unclean _) (f _ _ _ i)
+  same-either q (k-fail i) f g = ap (unclean _) (g _ _ _ i)
   same-either q k-stop f g = refl
 
 ruleset same = (if-same, k-lose, look-keeps, depth-keeps, here)
@@ -70,7 +70,7 @@ then-fails q go h = rw h
 ruleset fails = (then-fails, look-short, expr-short)
 
 pub synchronize-short : (low : Depth) (inside : Bool) (n : ℕ) (q : List Error) (ts : List ℕ) → length ts < 2 → synchronize low inside n q ts ≡ bad tt q ts
-unfolding synchronize either ifb spoil
+unfolding synchronize either ifb unclean
 synchronize-short low inside zero q ts s = refl
 synchronize-short low inside (suc n) q ts s = rw (look-short q ts s)
 

@@ -7,7 +7,7 @@ use mathlib.Core.List.{List, [], _∷_}
 use Prim.Native.Nat.{ℕ, zero, suc, _≤_, zero-le, suc-le-suc}
 use Rattle.tree.specs.Tree.{Tree, Forest}
 use Rattle.grammar.specs.Reading.Limit.{too-deep}
-use Rattle.grammar.specs.Reading.Result.{Error, Res, ok, bad, fail, stop, spoil, either, then, ifb, push}
+use Rattle.grammar.specs.Reading.Result.{Error, Res, ok, bad, fail, stop, unclean, either, then, ifb, push}
 use Rattle.grammar.specs.Reading.Expr.{Depth, operators, binop-expr, members, tuple-expr, expr}
 use Rattle.grammar.specs.Reading.Primary.{group-expr, atom, indexing-expr, table-field, table-item, table-items, invocation, path, primary, unpack-expr}
 use Rattle.grammar.specs.Reading.Block.{body, block-expr, expr-label, branches}
@@ -24,18 +24,18 @@ pub data Le {A : Type 0} : Res A → Res A → Type 0 where
 
 -- each way to put readings together keeps this
 
-le-spoil : {A : Type 0} (q : List Error) {d e : Res A} → Le d e → Le (spoil q d) (spoil q e)
-unfolding spoil
-le-spoil q le-same = le-same
-le-spoil q le-deep = le-deep
+le-unclean : {A : Type 0} (q : List Error) {d e : Res A} → Le d e → Le (unclean q d) (unclean q e)
+unfolding unclean
+le-unclean q le-same = le-same
+le-unclean q le-deep = le-deep
 
 le-either : {A B : Type 0} (q : List Error) {d e : Res A} {go go′ : A → List Error → List ℕ → Res B} {or or′ : Error → List Error → List ℕ → Res B} → Le d e
     → ((a : A) (q : List Error) (r : List ℕ) → Le (go a q r) (go′ a q r)) → ((n : Error) (q : List Error) (r : List ℕ) → Le (or n q r) (or′ n q r))
     → Le (either q d go or) (either q e go′ or′)
 unfolding either
 le-either q₀ {d = ok a r} le-same f g = f a q₀ r
-le-either q₀ {d = bad a q r} le-same f g = le-spoil _ (f a q r)
-le-either q₀ {d = fail n q r} le-same f g = le-spoil _ (g n q r)
+le-either q₀ {d = bad a q r} le-same f g = le-unclean _ (f a q r)
+le-either q₀ {d = fail n q r} le-same f g = le-unclean _ (g n q r)
 le-either q₀ {d = stop n} le-same f g = le-same
 le-either q₀ le-deep f g = le-deep
 
@@ -43,7 +43,7 @@ le-then : {A B : Type 0} (q : List Error) {d e : Res A} {go go′ : A → List E
     → ((a : A) (q : List Error) (r : List ℕ) → Le (go a q r) (go′ a q r)) → Le (then q d go) (then q e go′)
 unfolding then
 le-then q₀ {d = ok a r} le-same f = f a q₀ r
-le-then q₀ {d = bad a q r} le-same f = le-spoil _ (f a q r)
+le-then q₀ {d = bad a q r} le-same f = le-unclean _ (f a q r)
 le-then q₀ {d = fail n q r} le-same f = le-same
 le-then q₀ {d = stop n} le-same f = le-same
 le-then q₀ le-deep f = le-deep
@@ -53,7 +53,7 @@ le-if b f g = if-each Le b f g
 
 le-push : {A : Type 0} (e : Error) (q : List Error) {k k′ : List Error → Res A} → ((q : List Error) → Le (k q) (k′ q)) → Le (push e q k) (push e q k′)
 unfolding push
-le-push e q f = le-if _ (λ u. le-same) (λ u. le-spoil _ (f _))
+le-push e q f = le-if _ (λ u. le-same) (λ u. le-unclean _ (f _))
 
 le-front : {A : Type 0} (q : List Error) {k k′ : Error → List Error → Res A} → ((e : Error) (q : List Error) → Le (k e q) (k′ e q)) → Le (front q k) (front q k′)
 unfolding front

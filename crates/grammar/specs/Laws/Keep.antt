@@ -2,7 +2,7 @@
 use mathlib.Core.Bool.{Bool}
 use mathlib.Core.List.{List, [], _∷_}
 use Prim.Native.Nat.{ℕ}
-use Rattle.grammar.specs.Reading.Result.{Error, Res, ok, bad, fail, stop, spoil, either, then, ifb, push, pop}
+use Rattle.grammar.specs.Reading.Result.{Error, Res, ok, bad, fail, stop, unclean, either, then, ifb, push, pop}
 use Rattle.grammar.specs.Reading.Expr.{Depth}
 use Rattle.grammar.specs.Reading.Next.{front}
 use Rattle.grammar.specs.Laws.Facts.{if-both}
@@ -49,12 +49,12 @@ module _ {I : List ℕ → Type 0} {J : Error → List ℕ → Type 0} where
   pub k-lose : {A : Type 0} {d : Res A} → ((e : Error) (r : List ℕ) → I r → J e r) → Keep I (λ e. I) d → Keep I J d
   k-lose = k-weaken (λ r i. i)
 
-  pub k-spoil : {A : Type 0} (q : List Error) {d : Res A} → Keep I J d → Keep I J (spoil q d)
-  unfolding spoil
-  k-spoil q (k-ok i) = k-bad i
-  k-spoil q (k-bad i) = k-bad i
-  k-spoil q (k-fail j) = k-fail j
-  k-spoil q k-stop = k-stop
+  pub k-unclean : {A : Type 0} (q : List Error) {d : Res A} → Keep I J d → Keep I J (unclean q d)
+  unfolding unclean
+  k-unclean q (k-ok i) = k-bad i
+  k-unclean q (k-bad i) = k-bad i
+  k-unclean q (k-fail j) = k-fail j
+  k-unclean q k-stop = k-stop
 
   -- one reading after another, where the first has a law of its own
   pub k-or : {M : List ℕ → Type 0} {N : Error → List ℕ → Type 0} {A B : Type 0} (q : List Error) {d : Res A} {go : A → List Error → List ℕ → Res B} {or : Error → List Error → List ℕ → Res B}
@@ -62,15 +62,15 @@ module _ {I : List ℕ → Type 0} {J : Error → List ℕ → Type 0} where
       → Keep I J (either q d go or)
   unfolding either
   k-or q (k-ok i) f g = f _ _ _ i
-  k-or q (k-bad i) f g = k-spoil _ (f _ _ _ i)
-  k-or q (k-fail j) f g = k-spoil _ (g _ _ _ j)
+  k-or q (k-bad i) f g = k-unclean _ (f _ _ _ i)
+  k-or q (k-fail j) f g = k-unclean _ (g _ _ _ j)
   k-or q k-stop f g = k-stop
 
   pub k-on : {M : List ℕ → Type 0} {A B : Type 0} (q : List Error) {d : Res A} {go : A → List Error → List ℕ → Res B}
       → Keep M J d → ((a : A) (q : List Error) (r : List ℕ) → M r → Keep I J (go a q r)) → Keep I J (then q d go)
   unfolding then
   k-on q (k-ok i) f = f _ _ _ i
-  k-on q (k-bad i) f = k-spoil _ (f _ _ _ i)
+  k-on q (k-bad i) f = k-unclean _ (f _ _ _ i)
   k-on q (k-fail j) f = k-fail j
   k-on q k-stop f = k-stop
 
@@ -94,7 +94,7 @@ module _ {I : List ℕ → Type 0} {J : Error → List ℕ → Type 0} where
 
   pub k-push : {A : Type 0} (e : Error) (q : List Error) {k : List Error → Res A} → ((q : List Error) → Keep I J (k q)) → Keep I J (push e q k)
   unfolding push
-  k-push e q f = k-if _ (λ u. k-stop) (λ u. k-spoil _ (f _))
+  k-push e q f = k-if _ (λ u. k-stop) (λ u. k-unclean _ (f _))
 
   pub k-front : {A : Type 0} (q : List Error) {k : Error → List Error → Res A} → ((e : Error) (q : List Error) → Keep I J (k e q)) → Keep I J (front q k)
   unfolding front

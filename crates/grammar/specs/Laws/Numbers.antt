@@ -15,7 +15,7 @@ use Rattle.token.specs.declared.Seen.the-variants.{Good, LexerError, Nothing, B
 use Rattle.tree.specs.Tree.{Tree, Forest}
 use Rattle.tree.specs.Maybe.{Maybe, nothing, just}
 use Rattle.grammar.specs.Reading.Limit.{malformed, too-deep}
-use Rattle.grammar.specs.Reading.Result.{Error, Res, ok, bad, fail, stop, spoil, either, then, ifb, push, pop}
+use Rattle.grammar.specs.Reading.Result.{Error, Res, ok, bad, fail, stop, unclean, either, then, ifb, push, pop}
 use Rattle.grammar.specs.Reading.Look.{looked, look, expect, expect-pattern, try-label, try-assign-keyword}
 use Rattle.grammar.specs.Reading.Expr.{Depth, operators, binop-expr, members, tuple-expr, expr}
 use Rattle.grammar.specs.Reading.Primary.{group-expr, literal, atom, indexing-expr, field-name, table-field, table-item, table-items, member-access, invocation, path, primary, unpack-expr}
@@ -26,7 +26,7 @@ use Rattle.grammar.specs.Reading.Depth.{primary-expr, unary-expr, at-dep
 use Rattle.grammar.specs.Reading.Number
 use Rattle.grammar.specs.Reading.Next.{start, front, failed, next}
 use Rattle.grammar.specs.Laws.Facts.{if-both}
-use Rattle.grammar.specs.Laws.Waits.{IsError, IsStop, Waits, Num, n-ok, n-bad, n-fail, n-stop, waits-none, waits-front, Caught, c-fail, Past, p-ok, p-bad, nums, waits-less, n-spoil, n-then, n-if, c-push, n-caught, n-stays, n-pop, p-either, p-if, n-behind, c-failing}
+use Rattle.grammar.specs.Laws.Waits.{IsError, IsStop, Waits, Num, n-ok, n-bad, n-fail, n-stop, waits-none, waits-front, Caught, c-fail, Past, p-ok, p-bad, nums, waits-less, n-unclean, n-then, n-if, c-push, n-caught, n-stays, n-pop, p-either, p-if, n-behind, c-failing}
 
 -- the same of a reading, whatever waits and is left
 abbrev pub Numbered : {A : Type 0} → (List Error → List ℕ → Res A) → Type 0
@@ -109,7 +109,7 @@ synchronized-nums {n} q ts w = go (look q ts) (look-nums (suc n) q ts w)
   where
     go : (d : Res Token) → Num (suc n) d → Num {A = Unit {0}} n (either q d (λ tok q₁ rest. ifb (eqb (tok .kind) Kind.EOF) (λ _. pop q ts) (λ _. ok tt ts)) (λ e q₁ r. pop q₁ r))
     go (ok tok r) h = n-if _ (λ u. n-caught (n-pop q ts w)) (λ u. n-ok)
-    go (bad tok p r) (n-bad v l) = n-spoil (waits-less v) l (n-if _ (λ u. n-caught (n-pop q ts w)) (λ u. n-ok))
+    go (bad tok p r) (n-bad v l) = n-unclean (waits-less v) l (n-if _ (λ u. n-caught (n-pop q ts w)) (λ u. n-ok))
     go (fail e p r) (n-fail j v) = n-stays p (n-pop p r v)
     go (stop k) (n-stop x) = n-stop x
 
@@ -319,26 +319,26 @@ module _ {X : List ℕ → Type 0} where
   t-then w (t-end x) f = t-end x
   t-then {q = q} w (t-num n) f = t-num (n-then q w n f)
 
-  t-spoil : {A : Type 0} {n : ℕ} {q p : List Error} {d : Res A} → Waits n p → 0 < length p → Top X n q d → Top X n q (spoil p d)
-  unfolding spoil
-  t-spoil w l (t-end x) = t-end x
-  t-spoil w l (t-num n) = t-num (n-spoil w l n)
+  t-unclean : {A : Type 0} {n : ℕ} {q p : List Error} {d : Res A} → Waits n p → 0 < length p → Top X n q d → Top X n q (unclean p d)
+  unfolding unclean
+  t-unclean w l (t-end x) = t-end x
+  t-unclean w l (t-num n) = t-num (n-unclean w l n)
 
   t-if : {A : Type 0} {n : ℕ} {q : List Error} (b : Bool) {x y : Unit {0} → Res A} → ((u : Unit {0}) → Top X n q (x u)) → ((u : Unit {0}) → Top X n q (y u)) → Top X n q (ifb b x y)
   t-if {n = n} {q = q} b f g = if-both (Top X n q) b f g
 
   t-either : {A B : Type 0} {n : ℕ} {q : List Error} (p : List Error) {d : Res A} {go : A → List Error → List ℕ → Res B} (or : Error → List Error → List ℕ → Res B) → Waits n p → Num n d
-      → ((a : A) (p : List Error) (r : List ℕ) → Waits n p → Top X n q (go a p r)) → ((e : Error) (p : List Error) (r : List ℕ) → IsError e → Waits n p → Top X n q (spoil p (or e p r)))
+      → ((a : A) (p : List Error) (r : List ℕ) → Waits n p → Top X n q (go a p r)) → ((e : Error) (p : List Error) (r : List ℕ) → IsError e → Waits n p → Top X n q (unclean p (or e p r)))
       → Top X n q (either p d go or)
   unfolding either
   t-either p or w n-ok f g = f _ _ _ w
-  t-either p or w (n-bad v l) f g = t-spoil v l (f _ _ _ v)
+  t-either p or w (n-bad v l) f g = t-unclean v l (f _ _ _ v)
   t-either p or w (n-fail j v) f g = g _ _ _ j v
   t-either p or w (n-stop s) f g = t-num (n-stop s)
 
 -- a lexer error, or no token left, which is the end
-start-fails : {n : ℕ} (b : Bool) (e : Error) (q p : List Error) (ts r : List ℕ) → IsError e → Waits n q → Top {A = Unit {0}} (λ r. Unit {0}) n q (spoil p (ifb b (λ _. fail 0 q ts) (λ _. fail e q r)))
-unfolding spoil ifb
+start-fails : {n : ℕ} (b : Bool) (e : Error) (q p : List Error) (ts r : List ℕ) → IsError e → Waits n q → Top {A = Unit {0}} (λ r. Unit {0}) n q (unclean p (ifb b (λ _. fail 0 q ts) (λ _. fail e q r)))
+unfolding unclean ifb
 start-fails true e q p ts r j w = t-end tt
 start-fails false e q p ts r j w = t-num (n-fail j w)
 

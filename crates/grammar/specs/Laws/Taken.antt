@@ -6,7 +6,7 @@ use Prim.Native.Nat.{ℕ, zero, suc, _+_, _≤_, _<_}
 use native.Mathlib.Omega.{arith}
 use lib.ListN.{length}
 use Rattle.grammar.specs.Reading.Number
-use Rattle.grammar.specs.Reading.Result.{Error, Res, fail, spoil, either, then, ifb}
+use Rattle.grammar.specs.Reading.Result.{Error, Res, fail, unclean, either, then, ifb}
 use Rattle.grammar.specs.Reading.Look.{look, try-assign-keyword}
 use Rattle.grammar.specs.Reading.Expr.{Depth, expr}
 use Rattle.grammar.specs.Reading.Stmt.{stmt}
@@ -49,7 +49,7 @@ unfolding stmt then
 stmt-short low q ts h = rw (look-short q ts h)
 
 pub start-short : (n : ℕ) (q : List Error) (ts : List ℕ) → length ts < 2 → start n q ts ≡ fail 0 q ts
-unfolding start either ifb spoil
+unfolding start either ifb unclean
 start-short zero q ts h = refl
 start-short (suc n) q ts h = rw (look-short q ts h)
 

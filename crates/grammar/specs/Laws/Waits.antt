@@ -9,7 +9,7 @@ use borrow.Author.Tests.{eqb-false}
 use lib.Dec.{eqb}
 use lib.ListN.{length, length-append}
 use Rattle.grammar.specs.Reading.Limit.{queue-limit, queue-full}
-use Rattle.grammar.specs.Reading.Result.{Error, Res, ok, bad, fail, stop, spoil, either, then, ifb, push, pop}
+use Rattle.grammar.specs.Reading.Result.{Error, Res, ok, bad, fail, stop, unclean, either, then, ifb, push, pop}
 use Rattle.grammar.specs.Reading.Expr.{keyword-alone}
 use Rattle.grammar.specs.Reading.Primary.{atom-error}
 use Rattle.grammar.specs.Reading.Stmt.{not-last}
@@ -78,21 +78,21 @@ n-caught (c-stop p) = n-stop p
 
 -- each way to put readings together keeps this
 
-c-spoil : {A : Type 0} {n : ℕ} {q : List Error} {d : Res A} → Waits n q → 0 < length q → Num n d → Caught n (spoil q d)
-unfolding spoil
-c-spoil w l n-ok = c-bad w l
-c-spoil w l (n-bad v k) = c-bad v k
-c-spoil w l (n-fail j v) = c-fail j v
-c-spoil w l (n-stop p) = c-stop p
+c-unclean : {A : Type 0} {n : ℕ} {q : List Error} {d : Res A} → Waits n q → 0 < length q → Num n d → Caught n (unclean q d)
+unfolding unclean
+c-unclean w l n-ok = c-bad w l
+c-unclean w l (n-bad v k) = c-bad v k
+c-unclean w l (n-fail j v) = c-fail j v
+c-unclean w l (n-stop p) = c-stop p
 
-pub n-spoil : {A : Type 0} {n : ℕ} {q : List Error} {d : Res A} → Waits n q → 0 < length q → Num n d → Num n (spoil q d)
-n-spoil w l h = n-caught (c-spoil w l h)
+pub n-unclean : {A : Type 0} {n : ℕ} {q : List Error} {d : Res A} → Waits n q → 0 < length q → Num n d → Num n (unclean q d)
+n-unclean w l h = n-caught (c-unclean w l h)
 
 pub n-then : {A B : Type 0} {n : ℕ} (q : List Error) {d : Res A} {go : A → List Error → List ℕ → Res B} → Waits n q → Num n d
     → ((a : A) (q : List Error) (r : List ℕ) → Waits n q → Num n (go a q r)) → Num n (then q d go)
 unfolding then
 n-then q w n-ok f = f _ _ _ w
-n-then q w (n-bad v l) f = n-spoil v l (f _ _ _ v)
+n-then q w (n-bad v l) f = n-unclean v l (f _ _ _ v)
 n-then q w (n-fail j v) f = n-fail j v
 n-then q w (n-stop p) f = n-stop p
 
@@ -101,7 +101,7 @@ n-if {n = n} b f g = if-both (Num n) b f g
 
 pub c-then : {A B : Type 0} {n : ℕ} (q : List Error) {d : Res A} {go : A → List Error → List ℕ → Res B} → Caught n d → ((a : A) (q : List Error) (r : List ℕ) → Waits n q → Num n (go a q r)) → Caught n (then q d go)
 unfolding then
-c-then q (c-bad w l) f = c-spoil w l (f _ _ _ w)
+c-then q (c-bad w l) f = c-unclean w l (f _ _ _ w)
 c-then q (c-fail j w) f = c-fail j w
 c-then q (c-stop p) f = c-stop p
 
@@ -110,10 +110,10 @@ unfolding push
 c-push {n = n} e q j w f =
     if-tested (Caught n) (eqb (length q) queue-limit)
     (λ u h. c-stop {k = queue-full} (refl, omega arith))
-    (λ u h. let v = waits-snoc e q j w h in c-spoil (waits-less v) (omega (arith, v .many)) (f _ v))
+    (λ u h. let v = waits-snoc e q j w h in c-unclean (waits-less v) (omega (arith, v .many)) (f _ v))
 
-pub n-stays : {A : Type 0} {n : ℕ} {d : Res A} (q : List Error) → Caught n d → Num n (spoil q d)
-unfolding spoil
+pub n-stays : {A : Type 0} {n : ℕ} {d : Res A} (q : List Error) → Caught n d → Num n (unclean q d)
+unfolding unclean
 n-stays q (c-bad w l) = n-bad w l
 n-stays q (c-fail j w) = n-fail j w
 n-stays q (c-stop p) = n-stop p
@@ -126,7 +126,7 @@ pub n-either : {A B : Type 0} {n : ℕ} (q : List Error) {d : Res A} {go : A →
     → Num n (either q d go or)
 unfolding either
 n-either q w n-ok f g = f _ _ _ w
-n-either q w (n-bad v l) f g = n-spoil v l (f _ _ _ v)
+n-either q w (n-bad v l) f g = n-unclean v l (f _ _ _ v)
 n-either q w (n-fail j v) f g = n-stays _ (g _ _ _ j v)
 n-either q w (n-stop p) f g = n-stop p
 
@@ -141,18 +141,18 @@ pub data Past (n : ℕ) : Res (Unit {0}) → Type 0 where
   p-bad : {u : Unit {0}} {q : List Error} {r : List ℕ} → Waits n q → Past n (bad u q r)
   p-stop : {k : ℕ} → IsStop k → Past n (stop k)
 
-p-spoil : {n : ℕ} {q : List Error} {d : Res (Unit {0})} → Waits n q → Past n d → Past n (spoil q d)
-unfolding spoil
-p-spoil w p-ok = p-bad w
-p-spoil w (p-bad v) = p-bad v
-p-spoil w (p-stop k) = p-stop k
+p-unclean : {n : ℕ} {q : List Error} {d : Res (Unit {0})} → Waits n q → Past n d → Past n (unclean q d)
+unfolding unclean
+p-unclean w p-ok = p-bad w
+p-unclean w (p-bad v) = p-bad v
+p-unclean w (p-stop k) = p-stop k
 
 pub p-either : {A : Type 0} {n : ℕ} (q : List Error) {d : Res A} {go : A → List Error → List ℕ → Res (Unit {0})} {or : Error → List Error → List ℕ → Res (Unit {0})} → Waits n q → Num n d
     → ((a : A) (q : List Error) (r : List ℕ) → Waits n q → Past n (go a q r)) → ((e : Error) (q : List Error) (r : List ℕ) → Waits n q → Past n (or e q r)) → Past n (either q d go or)
 unfolding either
 p-either q w n-ok f g = f _ _ _ w
-p-either q w (n-bad v l) f g = p-spoil v (f _ _ _ v)
-p-either q w (n-fail j v) f g = p-spoil v (g _ _ _ v)
+p-either q w (n-bad v l) f g = p-unclean v (f _ _ _ v)
+p-either q w (n-fail j v) f g = p-unclean v (g _ _ _ v)
 p-either q w (n-stop k) f g = p-stop k
 
 pub p-if : {n : ℕ} (b : Bool) {x y : Unit {0} → Res (Unit {0})} → ((u : Unit {0}) → Past n (x u)) → ((u : Unit {0}) → Past n (y u)) → Past n (ifb b x y)
@@ -163,11 +163,11 @@ pub n-behind : {n : ℕ} (q : List Error) {d : Res (Unit {0})} {go : Unit {0} �
     → ((u : Unit {0}) (q : List Error) (r : List ℕ) → Waits (suc n) q → Num n (go u q r)) → Num n (then q d go)
 unfolding then
 n-behind q w p-ok f = f _ _ _ w
-n-behind q w (p-bad v) f = n-spoil (waits-less v) (omega (arith, v .many)) (f _ _ _ v)
+n-behind q w (p-bad v) f = n-unclean (waits-less v) (omega (arith, v .many)) (f _ _ _ v)
 n-behind q w (p-stop k) f = n-stop k
 
 pub c-failing : {A : Type 0} {n : ℕ} (q : List Error) {d : Res (Unit {0})} (e : Error) → IsError e → Waits n q → Past n d → Caught {A = A} n (then q d λ u q r. fail e q r)
-unfolding then spoil
+unfolding then unclean
 c-failing q e j w p-ok = c-fail j w
 c-failing q e j w (p-bad v) = c-fail j v
 c-failing q e j w (p-stop k) = c-stop k

@@ -14,7 +14,7 @@ use Rattle.token.specs.declared.Seen.{Seen}
 use Rattle.token.specs.declared.Seen.the-variants.{Good, LexerError, Nothing, Bad}
 use Rattle.tree.specs.Tree.{Tree}
 use Rattle.grammar.specs.Reading.Number
-use Rattle.grammar.specs.Reading.Result.{Error, Res, ok, spoil, either, then, ifb}
+use Rattle.grammar.specs.Reading.Result.{Error, Res, ok, unclean, either, then, ifb}
 use Rattle.grammar.specs.Reading.Look.{looked, look}
 use Rattle.grammar.specs.Reading.Expr.{Depth, expr}
 use Rattle.grammar.specs.Reading.Stmt.{loop, while-loop, for-loop, stmt-label, stmt, synchronize}
@@ -59,12 +59,12 @@ module _ {F : Error → Bool} {I : List ℕ → Type 0} where
   ends-kept (k-fail i) = e-fail (λ e. i)
   ends-kept k-stop = e-stop
 
-  ends-spoil : (q : List Error) {x : Res Tree} → Ends F I x → Ends F I (spoil q x)
-  unfolding spoil
-  ends-spoil q (e-ok i) = e-bad i
-  ends-spoil q (e-bad i) = e-bad i
-  ends-spoil q (e-fail i) = e-fail i
-  ends-spoil q e-stop = e-stop
+  ends-unclean : (q : List Error) {x : Res Tree} → Ends F I x → Ends F I (unclean q x)
+  unfolding unclean
+  ends-unclean q (e-ok i) = e-bad i
+  ends-unclean q (e-bad i) = e-bad i
+  ends-unclean q (e-fail i) = e-fail i
+  ends-unclean q e-stop = e-stop
 
   ends-if : (c : Bool) {x y : Unit {0} → Res Tree} → ((u : Unit {0}) → Ends F I (x u)) → ((u : Unit {0}) → Ends F I (y u)) → Ends F I (ifb c x y)
   ends-if c h k = if-both (Ends F I) c h k
@@ -73,7 +73,7 @@ module _ {F : Error → Bool} {I : List ℕ → Type 0} where
       → ((a : A) (q : List Error) (r : List ℕ) → M r → Ends F I (go a q r)) → Ends F I (then q d go)
   unfolding then
   ends-then q (k-ok i) h = h _ _ _ i
-  ends-then q (k-bad i) h = ends-spoil _ (h _ _ _ i)
+  ends-then q (k-bad i) h = ends-unclean _ (h _ _ _ i)
   ends-then q (k-fail i) h = e-fail i
   ends-then q k-stop h = e-stop
 
@@ -211,10 +211,10 @@ failed-fits d e q ts = k-push e q λ q₁. k-front q₁ λ f q₂. k-on q₂ (sy
 
 -- a statement, or its error behind a resynchronization
 stmt-answered : (d : ℕ) (q : List Error) {x : Res Tree} → Ends no-error Fits x → Ends no-lexer Fits (either q x (λ t q₂ s. ok t s) (failed d))
-unfolding either spoil
+unfolding either unclean
 stmt-answered d q (e-ok i) = e-ok i
 stmt-answered d q (e-bad i) = e-bad i
-stmt-answered d q (e-fail i) = ends-spoil _ (ends-kept (failed-fits d _ _ _))
+stmt-answered d q (e-fail i) = ends-unclean _ (ends-kept (failed-fits d _ _ _))
 stmt-answered d q e-stop = e-stop
 
 next-fits : (d : ℕ) (q : List Error) (ts : List ℕ) → Ends no-lexer Fits (next d q ts)
