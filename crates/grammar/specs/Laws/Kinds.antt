@@ -21,6 +21,7 @@ use Rattle.grammar.specs.Laws.Holds.{Holds, h-ok, h-fail, h-stop, holds-
 use Rattle.grammar.specs.Laws.Converted.{modified-small, pattern-small}
 use Rattle.grammar.specs.Laws.Parts.{smalls-snoc, SmallStmts, with-action-small, arguments-small, with-path-small, nothing-small, absent-small, index-small, invoke-table-small, branch-small, if-small, block-small, SmallParam, small-required, small-variadic, small-default, SmallParams, param-def-small, default-def-small}
 
+-- what the readings with one depth less give
 pub record SmallDepth (low : Depth) : Type 0 where
   pub s-unary : (q : List Error) (ts : List ℕ) → Holds Small (low .unary q ts)
   pub s-right : (q : List Error) (ts : List ℕ) → Holds Small (low .right q ts)

@@ -19,7 +19,7 @@ unfolding Small snoc
 smalls-snoc none t f h = (h, tt)
 smalls-snoc (more u g) t f h = (f .0, smalls-snoc g t (f .1) h)
 
--- what a reading of each kind gives
+-- of a statement list
 pub record SmallStmts (s : Stmts) : Type 0 where
   pub suite : Smalls (s .suite)
   pub control : Small (s .control)
