@@ -6,11 +6,11 @@ use Prim.Native.Nat.{ℕ, _≤_}
 use borrow.Author.Tests.{eq-eqb, ne-eqb}
 use lib.ListN.{length, take}
 use lib.Seq.{length-take-le}
-use Rattle.grammar.specs.Reading.Result.{Res, fail, stop, spoil, ifb, push, pop}
+use Rattle.grammar.specs.Reading.Result.{Res, fail, stop, unclean, ifb, push, pop}
 use Rattle.parser.specs.Post.{As, Failed, Queues}
 use Rattle.parser.specs.declared.Step.{Step}
 use Rattle.parser.specs.declared.Step.the-variants.{Done, Fail, Stop}
-use Rattle.parser.proofs.Laws.{way, link, spoiled}
+use Rattle.parser.proofs.Laws.{way, link, as-unclean}
 use Rattle.grammar.specs.Reading.Limit.{queue-full}
 
 -- a choice
@@ -27,12 +27,12 @@ pub push-full : {A : Type 0} (e w : ℕ) (Q : List ℕ) (k : List ℕ → Res A)
 unfolding push ifb
 push-full e w Q k h g = rw (eq-eqb _ _ (length-take-le w Q g ∙ h))
 
-push-room : {A : Type 0} (e w : ℕ) (Q : List ℕ) (k : List ℕ → Res A) → (w ≡ 96 → ⊥) → w ≤ length Q → push e (take w Q) k ≡ spoil (take w Q ++ e ∷ []) (k (take w Q ++ e ∷ []))
+push-room : {A : Type 0} (e w : ℕ) (Q : List ℕ) (k : List ℕ → Res A) → (w ≡ 96 → ⊥) → w ≤ length Q → push e (take w Q) k ≡ unclean (take w Q ++ e ∷ []) (k (take w Q ++ e ∷ []))
 unfolding push ifb
 push-room e w Q k h g = rw (ne-eqb _ _ (λ i. h (sym (length-take-le w Q g) ∙ i)))
 
 pub pushes : {A : Type 0} (e w : ℕ) (Q : List ℕ) (k : List ℕ → Res A) {q : List ℕ} → (w ≡ 96 → ⊥) → w ≤ length Q → q ≡ take w Q ++ e ∷ [] → As (take w Q) (push e (take w Q) k) q (k q)
-pushes e w Q k {q} h g x = rw x (link (way _ (push-room e w Q k h g)) (spoiled _ _))
+pushes e w Q k {q} h g x = rw x (link (way _ (push-room e w Q k h g)) (as-unclean _ _))
 
 pub pops : {A : Type 0} (q r : List ℕ) {e : ℕ} {q′ : List ℕ} → q ≡ e ∷ q′ → pop {A = A} q r ≡ fail e q′ r
 unfolding pop
