@@ -37,7 +37,7 @@ defined T R [] = R
 defined T R (c ∷ cs) = defined T (next-stmt R T (length (c .store)) .step .reader) cs
 
 -- no error waits, and the reader is not stopped
-pub record Calm (R : Reader) : Type 0 where
+pub record NonePending (R : Reader) : Type 0 where
   pub waiting : R .waiting ≡ 0
   pub stopped : R .stopped ≡ 0
 

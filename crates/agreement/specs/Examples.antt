@@ -30,7 +30,7 @@ use Rattle.grammar.specs.Sheets as Sheets
 use Rattle.grammar.specs.Theorems.{sound}
 use Rattle.grammar.specs.declared.Answer.{Answer}
 use Rattle.grammar.specs.declared.Reader.{Reader}
-use Rattle.agreement.specs.Calls.{Entry, by-value, kept, Call, Gives, Run, no-call, a-call, defined, Calm, unread}
+use Rattle.agreement.specs.Calls.{Entry, by-value, kept, Call, Gives, Run, no-call, a-call, defined, NonePending, unread}
 use Rattle.agreement.specs.Answers.{Seen, tree, end, Afresh, Remaining, NoFault, no-answer, a-tree, an-end, answers-of, Lacks62, lacks-none, lacks-more}
 use Rattle.agreement.specs.Statement.{Left}
 use Rattle.agreement.specs.Theorem.{two-sheets}
@@ -74,7 +74,7 @@ lacks-answers none = lacks-more {a = end} (λ e. let z : _≡_ {A = ℕ} 0 1 = c
 lacks-answers (more t f) = lacks-more {a = tree (records t)} (λ e. let z : _≡_ {A = ℕ} 0 1 = cc in omega arith) (lacks-answers f)
 
 -- what the theorem supposes holds of a reader and some calls, where what they leave reads cleanly and is not too long or too deep
-sheet-left : (T : List ℕ) (R : Reader) (cs : List Call) (f : Forest) → length T ≤ 2 * length-limit → Accepted T R → Calm (defined T R cs) → clean-reading depth-limit (unread T (defined T R cs)) ≡ just f
+sheet-left : (T : List ℕ) (R : Reader) (cs : List Call) (f : Forest) → length T ≤ 2 * length-limit → Accepted T R → NonePending (defined T R cs) → clean-reading depth-limit (unread T (defined T R cs)) ≡ just f
     → length (run f) ≤ 2 * length-limit → need (Node.list f) own ≤ depth-limit → Left
 sheet-left T R cs f h a c e l d =
     let m = made T R cs in
@@ -90,7 +90,7 @@ sheet-left T R cs f h a c e l d =
       given = m .given;
       after = D;
       ran = m .ran;
-      calm = c;
+      none-pending = c;
       answers = answers-of f;
       read = clean-reads (clean-of U e) (before-fresh (clean-even U e) (omega (arith, length-drop (2 * D .position) T)));
       clean = no-fault f;
@@ -113,54 +113,54 @@ just-name n = Node.expression (Node.identifier n)
 abbrev two-names : Forest
 two-names = more (just-name 0) (one (just-name 1))
 
-abbrev calm : {R : Reader} → R .waiting ≡ 0 → R .stopped ≡ 0 → Calm R
-calm w s = record { waiting = w; stopped = s }
+abbrev none-pending : {R : Reader} → R .waiting ≡ 0 → R .stopped ≡ 0 → NonePending R
+none-pending w s = record { waiting = w; stopped = s }
 
 -- `a; b`
 pub apart : Left
 unfolding Sheets.canonical defined need
-apart = sheet-left (name 0 (symbol Kind.Semicolon (name 1 eof))) fresh [] two-names (omega arith) (fresh-accepted _) (calm refl refl) refl (omega arith) (omega arith)
+apart = sheet-left (name 0 (symbol Kind.Semicolon (name 1 eof))) fresh [] two-names (omega arith) (fresh-accepted _) (none-pending refl refl) refl (omega arith) (omega arith)
 
 -- `a b`
 pub together : Left
 unfolding Sheets.canonical defined need
-together = sheet-left (name 0 (name 1 eof)) fresh [] two-names (omega arith) (fresh-accepted _) (calm refl refl) refl (omega arith) (omega arith)
+together = sheet-left (name 0 (name 1 eof)) fresh [] two-names (omega arith) (fresh-accepted _) (none-pending refl refl) refl (omega arith) (omega arith)
 
 -- `c; a b` behind two calls: one by value with no store, which is refused, and one on the kept reader, which answers `c`
 pub behind : Left
 unfolding Sheets.canonical defined need
 behind =
     sheet-left (name 2 (symbol Kind.Semicolon (name 0 (name 1 eof)))) fresh (record { entry = by-value; store = [] } ∷ record { entry = kept; store = replicate 80 7 } ∷ [])
-    two-names (omega arith) (fresh-accepted _) (calm refl refl) refl (omega arith) (omega arith)
+    two-names (omega arith) (fresh-accepted _) (none-pending refl refl) refl (omega arith) (omega arith)
 
 -- `) a b` from a reader behind `)` with 47 waiting: one call, which hands it over
 pub resumed : Left
 unfolding Sheets.canonical defined need queue-fits ifb
 resumed =
     sheet-left (symbol Kind.CloseParen (name 0 (name 1 eof))) (reader-at 1 (Number.unmatched-paren ∷ [])) (record { entry = kept; store = [] } ∷ [])
-    two-names (omega arith) (record { within = omega arith; few = omega arith; stops = refl; queue = refl }) (calm refl refl) refl (omega arith) (omega arith)
+    two-names (omega arith) (record { within = omega arith; few = omega arith; stops = refl; queue = refl }) (none-pending refl refl) refl (omega arith) (omega arith)
 
 -- `) a b` behind a call, which answers 47 and passes over `a`
 pub damaged : Left
 unfolding Sheets.canonical defined need
 damaged =
     sheet-left (symbol Kind.CloseParen (name 0 (name 1 eof))) fresh (record { entry = kept; store = replicate 64 7 } ∷ [])
-    (one (just-name 1)) (omega arith) (fresh-accepted _) (calm refl refl) refl (omega arith) (omega arith)
+    (one (just-name 1)) (omega arith) (fresh-accepted _) (none-pending refl refl) refl (omega arith) (omega arith)
 
 -- `b`
 pub only : Left
 unfolding Sheets.canonical defined need
-only = sheet-left (name 1 eof) fresh [] (one (just-name 1)) (omega arith) (fresh-accepted _) (calm refl refl) refl (omega arith) (omega arith)
+only = sheet-left (name 1 eof) fresh [] (one (just-name 1)) (omega arith) (fresh-accepted _) (none-pending refl refl) refl (omega arith) (omega arith)
 
 -- `(a)`
 pub grouped : Left
 unfolding Sheets.canonical defined need
-grouped = sheet-left (symbol Kind.OpenParen (name 0 (symbol Kind.CloseParen eof))) fresh [] (one (Node.expression (Node.group 0 (Node.identifier 0)))) (omega arith) (fresh-accepted _) (calm refl refl) refl (omega arith) (omega arith)
+grouped = sheet-left (symbol Kind.OpenParen (name 0 (symbol Kind.CloseParen eof))) fresh [] (one (Node.expression (Node.group 0 (Node.identifier 0)))) (omega arith) (fresh-accepted _) (none-pending refl refl) refl (omega arith) (omega arith)
 
 -- `a`
 pub plain : Left
 unfolding Sheets.canonical defined need
-plain = sheet-left (name 0 eof) fresh [] (one (just-name 0)) (omega arith) (fresh-accepted _) (calm refl refl) refl (omega arith) (omega arith)
+plain = sheet-left (name 0 eof) fresh [] (one (just-name 0)) (omega arith) (fresh-accepted _) (none-pending refl refl) refl (omega arith) (omega arith)
 
 -- the same remaining answers, by the theorem
 abbrev Same : Left → Left → Type 0

@@ -20,7 +20,7 @@ use Rattle.grammar.specs.Theorems.{Among}
 use Rattle.grammar.specs.declared.Reader.{Reader}
 use Rattle.grammar.specs.declared.Written.{Written}
 use Rattle.grammar.specs.declared.Written.the-variants.{Tokens, Refused}
-use Rattle.agreement.specs.Calls.{Call, Run, defined, Calm, unread}
+use Rattle.agreement.specs.Calls.{Call, Run, defined, NonePending, unread}
 use Rattle.agreement.specs.Answers.{Seen, tree, Reads, Afresh, Remaining, NoFault, answers-of, trees-of, canonical, Keeps}
 
 -- one sheet, the calls made on it, and what they left
@@ -33,7 +33,7 @@ pub record Left : Type 0 where
   pub given : List Called
   pub after : Reader
   pub ran : Run sheet reader calls given after
-  pub calm : Calm (defined sheet reader calls)
+  pub none-pending : NonePending (defined sheet reader calls)
   pub answers : List Seen
   pub read : Afresh (unread sheet (defined sheet reader calls)) answers
   pub clean : NoFault answers

@@ -47,7 +47,7 @@ known s =
     let a : Accepted T D = defined-accepted (s .calls) (s .accepted) in
     let n : length U ≡ length T - 2 * D .position = length-drop (2 * D .position) T in
     let e : length T % 2 ≡ 0 = omega (arith, b .going .sheet .even, n, a .within) in
-    let f : Before T D U = record { going = record { sheet = record { even = e; within = omega (arith, s .within) }; accepted = a; going = s .calm .stopped }; none-waits = s .calm .waiting; left = refl } in
+    let f : Before T D U = record { going = record { sheet = record { even = e; within = omega (arith, s .within) }; accepted = a; going = s .none-pending .stopped }; none-waits = s .none-pending .waiting; left = refl } in
     let (g, x) = faultless-trees (s .read) (s .clean) in
     let v : Valids stmt (trees-of U) = sound depth-limit U (trees-of U) g in
     record { before = rw (run-is (s .ran)) f; given = g; clean = clean-of U g; answered = x; valid = v; enough = shallow-enough v (s .keeps) }

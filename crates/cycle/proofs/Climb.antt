@@ -21,7 +21,9 @@ use Rattle.grammar.specs.Reading.Result.{Res, ok, bad, fail, stop, then, ifb, E
 use Rattle.grammar.specs.Reading.Look.{looked, look}
 use Rattle.grammar.specs.Reading.Expr.{Depth, operators, binop-expr}
 use Rattle.grammar.specs.Reading.Depth.{at-depth}
-use Rattle.grammar.specs.Laws.Progress.{Keep, k-ok, k-fail, k-stop, k-weaken, k-all, k-both, k-on, Keeps, here, Left, left-step, binop-keeps, depth-keeps}
+use Rattle.grammar.specs.Laws.Keep.{Keep, k-ok, k-fail, k-stop, k-weaken, k-all, k-both, k-on, Keeps, here}
+use Rattle.grammar.specs.Laws.Progress.{binop-keeps, depth-keeps}
+use Rattle.grammar.specs.Laws.Taken.{Left, left-step}
 use Rattle.grammar.specs.Laws.Count.{same-then}
 use Rattle.scan.specs.Post.{Taken}
 use Rattle.nodes.proofs.Algebra.{then-fail, then-ok, then-then, then-same}

@@ -17,7 +17,9 @@ use Rattle.tree.specs.Tree.{Tree, Forest, node, none, more, one, snoc, count, r
 use Rattle.tree.specs.Node
 use Rattle.tree.specs.Store.{Emitted}
 use Rattle.tree.specs.Records.{Small, Smalls}
-use Rattle.grammar.specs.Laws.Kinds.{Holds, h-ok, h-fail, holds-then, holds-past, holds-if, depth-small, expr-small, atom-small, pattern-small}
+use Rattle.grammar.specs.Laws.Holds.{Holds, h-ok, h-fail, holds-then, holds-past, holds-if}
+use Rattle.grammar.specs.Laws.Converted.{pattern-small}
+use Rattle.grammar.specs.Laws.Kinds.{depth-small, expr-small, atom-small}
 use Rattle.grammar.specs.Reading.Number
 use Rattle.grammar.specs.Reading.Result.{Res, ok, then, ifb, Error}
 use Rattle.grammar.specs.Reading.Look.{look, expect, expect-pattern}

@@ -19,13 +19,14 @@ use Rattle.tree.specs.Records.{Small}
 use Rattle.tree.specs.Node
 use Rattle.grammar.specs.Reading.Limit.{too-deep, queue-limit}
 use Rattle.grammar.specs.Reading.Number
-use Rattle.grammar.specs.Reading.Result.{Res, ok, bad, fail, stop, spoil, either, then, ifb, push, pop, Error}
+use Rattle.grammar.specs.Reading.Result.{Res, ok, bad, fail, stop, unclean, either, then, ifb, push, pop, Error}
 use Rattle.grammar.specs.Reading.Look.{looked, look, try-label}
 use Rattle.grammar.specs.Reading.Expr.{Depth, Stmts, expr}
 use Rattle.grammar.specs.Reading.Block.{whole, split-before, split-last, split}
 use Rattle.grammar.specs.Reading.Stmt.{ends, control-value, is-control, control-flow, starts-stmt, control-last, synchronize, synchronized, stmt, caught, stmts}
 use Rattle.grammar.specs.Reading.Depth.{at-depth}
-use Rattle.grammar.specs.Laws.Kinds.{Holds, h-ok, h-bad, h-fail, h-stop, holds-past, holds-if, stmt-small, depth-small}
+use Rattle.grammar.specs.Laws.Kinds.{stmt-small, depth-small}
+use Rattle.grammar.specs.Laws.Holds.{Holds, h-ok, h-bad, h-fail, h-stop, holds-past, holds-if}
 use Rattle.scan.specs.Post.{won, out, As, no-words, Failed, Wrote, Agrees, Taken, Missed, Queues, Resumes, waiting-errors}
 use Rattle.cycle.specs.Parts.{Place, a-stmt, a-control, a-caught, resume, turn, control-words}
 use Rattle.scan.specs.Parts.{closed-step, resumed-step}
@@ -38,7 +39,7 @@ use Rattle.scan.specs.declared.Step.the-variants.{Done, Fail, Stop}
 use Rattle.scan.specs.declared.Entry.{Entry}
 use Rattle.scan.specs.declared.Entry.the-variants.{Stmt as EStmt, Control as EControl, Caught as ECaught, Not as ENot}
 use Rattle.nodes.proofs.Algebra.{then-ok, then-then, then-either, then-if, then-same, either-same, if-same}
-use Rattle.scan.proofs.Laws.{Looks, way, link, spoiled, goes, shorter, fails, elsewhere, prefix}
+use Rattle.scan.proofs.Laws.{Looks, way, link, as-unclean, goes, shorter, fails, elsewhere, prefix}
 use Rattle.cycle.proofs.Shapes.{given}
 
 -- the value of a control
@@ -110,7 +111,7 @@ module _ (low : Depth) (inside : Bool) (q : List Error) where
   unfolding either
   sync-taken fuel ts e = sync-suc fuel ts ∙ rw e
 
-  sync-missed : (fuel : ℕ) (ts : List ℕ) {e : ℕ} {r : List ℕ} → look q ts ≡ fail e q r → synchronize low inside (suc fuel) q ts ≡ spoil q (ifb (eqb e Number.end-of-tokens) (λ _. ok tt ts) (λ _. synchronize low inside fuel q r))
+  sync-missed : (fuel : ℕ) (ts : List ℕ) {e : ℕ} {r : List ℕ} → look q ts ≡ fail e q r → synchronize low inside (suc fuel) q ts ≡ unclean q (ifb (eqb e Number.end-of-tokens) (λ _. ok tt ts) (λ _. synchronize low inside fuel q r))
   unfolding either
   sync-missed fuel ts e = sync-suc fuel ts ∙ rw e
 
@@ -119,9 +120,9 @@ module _ (low : Depth) (inside : Bool) (q : List Error) where
   sync-halted fuel ts e = sync-suc fuel ts ∙ rw e
 
   sync-empty : (fuel : ℕ) (ts : List ℕ) {e : ℕ} {r : List ℕ} → length ts ≤ fuel → look q ts ≡ fail e q r → e ≡ Number.end-of-tokens → As q (synchronize low inside fuel q ts) q (ok tt ts)
-  unfolding synchronize ifb spoil
+  unfolding synchronize ifb unclean
   sync-empty zero ts h l f = record { is = refl }
-  sync-empty (suc fuel) ts {e} {r} h l f = link (way q (sync-missed fuel ts l)) (link (spoiled q q) (way q (empty e (synchronize low inside fuel q r) f)))
+  sync-empty (suc fuel) ts {e} {r} h l f = link (way q (sync-missed fuel ts l)) (link (as-unclean q q) (way q (empty e (synchronize low inside fuel q r) f)))
     where
       empty : (e : ℕ) (x : Res (Unit {0})) → e ≡ Number.end-of-tokens → ifb (eqb e Number.end-of-tokens) (λ _. ok tt ts) (λ _. x) ≡ ok tt ts
       empty e x h = rw (eq-eqb _ _ h)
@@ -136,7 +137,7 @@ module _ (low : Depth) (inside : Bool) (q : List Error) where
         let x = m .past e in
         let y = m .lacks .within in
         let f : suc (fuel - 1) ≡ fuel = omega arith in
-        link (way _ (ap (λ (n : ℕ). synchronize low inside n q (drop p T)) (sym f) ∙ sync-missed (fuel - 1) (drop p T) (m .lacks .same q) ∙ rw (ne-eqb _ _ e))) (spoiled q q)
+        link (way _ (ap (λ (n : ℕ). synchronize low inside n q (drop p T)) (sym f) ∙ sync-missed (fuel - 1) (drop p T) (m .lacks .same q) ∙ rw (ne-eqb _ _ e))) (as-unclean q q)
 
     module _ {k n v : ℕ} (at : Taken T p k n v) where
       pub sync-halt : halts-at inside k ≡ true → synchronize low inside fuel q (drop p T) ≡ ok tt (drop p T)
@@ -232,17 +233,17 @@ pub data Two {A : Type 0} : Res A → Type 0 where
   t-fail : {e : ℕ} {q : List Error} {r : List ℕ} → Two (fail e q r)
   t-stop : {n : ℕ} → Two (stop n)
 
-two-spoil : {A : Type 0} (q : List Error) {d : Res A} → Two d → Two (spoil q d)
-unfolding spoil
-two-spoil q (t-ok h) = t-bad h
-two-spoil q (t-bad h) = t-bad h
-two-spoil q t-fail = t-fail
-two-spoil q t-stop = t-stop
+two-unclean : {A : Type 0} (q : List Error) {d : Res A} → Two d → Two (unclean q d)
+unfolding unclean
+two-unclean q (t-ok h) = t-bad h
+two-unclean q (t-bad h) = t-bad h
+two-unclean q t-fail = t-fail
+two-unclean q t-stop = t-stop
 
 two-then : {A B : Type 0} (q : List Error) (d : Res A) {k : A → List Error → List ℕ → Res B} → ((a : A) (q : List Error) (r : List ℕ) → Two (k a q r)) → Two (then q d k)
 unfolding then
 two-then q (ok a r) h = h a q r
-two-then q (bad a q′ r) h = two-spoil q′ (h a q′ r)
+two-then q (bad a q′ r) h = two-unclean q′ (h a q′ r)
 two-then q (fail e q′ r) h = t-fail
 two-then q (stop n) h = t-stop
 
@@ -257,20 +258,20 @@ two-pop [] r = t-fail
 two-pop (e ∷ q) r = t-fail
 
 synced-two : (q : List Error) (ts : List ℕ) → Two (synchronized q ts)
-unfolding synchronized look either spoil
-synced-two q [] = two-spoil q (two-pop q [])
-synced-two q (w ∷ []) = two-spoil q (two-pop q (w ∷ []))
+unfolding synchronized look either unclean
+synced-two q [] = two-unclean q (two-pop q [])
+synced-two q (w ∷ []) = two-unclean q (two-pop q (w ∷ []))
 synced-two q (w ∷ (v ∷ r)) = by (looked q r (seen-word w v))
   where
     by : (d : Res Token) → Two {A = Unit {0}} (either q d (λ tok q₁ rest. ifb (eqb (tok .kind) Kind.EOF) (λ _. pop q (w ∷ (v ∷ r))) (λ _. ok tt (w ∷ (v ∷ r)))) (λ e q₁ r. pop q₁ r))
     by (ok tok s) = two-if _ (λ _. two-pop q (w ∷ (v ∷ r))) (λ _. t-ok (omega arith))
-    by (bad tok q₁ s) = two-spoil q₁ (two-if _ (λ _. two-pop q (w ∷ (v ∷ r))) (λ _. t-ok (omega arith)))
-    by (fail e q₁ s) = two-spoil q₁ (two-pop q₁ s)
+    by (bad tok q₁ s) = two-unclean q₁ (two-if _ (λ _. two-pop q (w ∷ (v ∷ r))) (λ _. t-ok (omega arith)))
+    by (fail e q₁ s) = two-unclean q₁ (two-pop q₁ s)
     by (stop n) = t-stop
 
 pub caught-two : (low : Depth) (e : ℕ) (q : List Error) (ts : List ℕ) → Two (caught low e q ts)
 unfolding caught push
-caught-two low e q ts = two-if _ (λ _. t-fail) (λ _. two-if _ (λ _. t-stop) (λ _. two-spoil _ (two-then _ _ λ u q₂ r. synced-two q₂ r)))
+caught-two low e q ts = two-if _ (λ _. t-fail) (λ _. two-if _ (λ _. t-stop) (λ _. two-unclean _ (two-then _ _ λ u q₂ r. synced-two q₂ r)))
 
 two-left : {A : Type 0} {d : Res A} {q q′ : List Error} {r : List ℕ} {x : A} → Two d → As q d q′ (ok x r) → 2 ≤ length r
 two-left {A = A} {q = q} {q′ = q′} {r = r} {x = x} h a = by q h (a .is)
@@ -444,19 +445,19 @@ Small-place (a-stmt t) = Small t
 Small-place (a-control t) = Unit {0}
 Small-place a-caught = Unit {0}
 
-held-spoil : {A : Type 0} {P : A → Type 0} (q : List Error) {d : Res A} → Holds P d → Holds P (spoil q d)
-unfolding spoil
-held-spoil q (h-ok x) = h-bad x
-held-spoil q (h-bad x) = h-bad x
-held-spoil q h-fail = h-fail
-held-spoil q h-stop = h-stop
+held-unclean : {A : Type 0} {P : A → Type 0} (q : List Error) {d : Res A} → Holds P d → Holds P (unclean q d)
+unfolding unclean
+held-unclean q (h-ok x) = h-bad x
+held-unclean q (h-bad x) = h-bad x
+held-unclean q h-fail = h-fail
+held-unclean q h-stop = h-stop
 
 held-either : {A B : Type 0} {Q : A → Type 0} {P : B → Type 0} (q : List Error) {d : Res A} {k : A → List Error → List ℕ → Res B} {or : ℕ → List Error → List ℕ → Res B}
     → Holds Q d → ((a : A) (q : List Error) (r : List ℕ) → Q a → Holds P (k a q r)) → ((e : ℕ) (q : List Error) (r : List ℕ) → Holds P (or e q r)) → Holds P (either q d k or)
 unfolding either
 held-either q (h-ok x) h g = h _ _ _ x
-held-either q (h-bad x) h g = held-spoil _ (h _ _ _ x)
-held-either q h-fail h g = held-spoil _ (g _ _ _)
+held-either q (h-bad x) h g = held-unclean _ (h _ _ _ x)
+held-either q h-fail h g = held-unclean _ (g _ _ _)
 held-either q h-stop h g = h-stop
 
 turn-small : (d end k : ℕ) (rest : List ℕ) (q : List Error) (ts : List ℕ) → Holds Small-place (turn (at-depth d) end k rest q ts)

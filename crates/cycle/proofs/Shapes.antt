@@ -19,7 +19,8 @@ use Rattle.grammar.specs.Reading.Primary.{group-expr, literal, atom, path, tabl
 use Rattle.grammar.specs.Reading.Block.{body, block-expr, expr-label, branches}
 use Rattle.grammar.specs.Reading.Function.{params, function-def, function-assignment-target, function-decl-expr}
 use Rattle.grammar.specs.Reading.Depth.{primary-expr, unary-expr, at-depth}
-use Rattle.grammar.specs.Laws.Kinds.{Holds, h-ok, h-bad, h-fail, h-stop, holds-then, holds-past, holds-if, depth-small, tuple-small, expr-small}
+use Rattle.grammar.specs.Laws.Kinds.{depth-small, tuple-small, expr-small}
+use Rattle.grammar.specs.Laws.Holds.{Holds, h-ok, h-bad, h-fail, h-stop, holds-then, holds-past, holds-if}
 use Rattle.scan.specs.Post.{As}
 use Rattle.nodes.specs.Ends.{Shape, other, a-tuple, lone, unpacked}
 

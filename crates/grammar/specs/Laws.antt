@@ -1,8 +1,11 @@
 -- Theorems on the definitions of reading and of canonical tokens.
 pub mod Depth
+pub mod Keep
 pub mod Progress
+pub mod Taken
 pub mod Count
 pub mod Facts
+pub mod Roles
 pub mod Post
 pub mod Convert
 pub mod Views
@@ -10,7 +13,11 @@ pub mod Sound
 pub mod Small
 pub mod Length
 pub mod Append
+pub mod Holds
+pub mod Converted
+pub mod Parts
 pub mod Kinds
+pub mod Waits
 pub mod Numbers
 pub mod Returned
 pub mod Clean

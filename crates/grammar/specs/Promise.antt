@@ -20,7 +20,8 @@ use Rattle.grammar.specs.Reading.Result.{Error, Res, ok, bad, fail, stop
 use Rattle.grammar.specs.Reading.Next.{next, kind-number, number, error-kind, is-error, is-stop, queue-fits, Accepted, Called, bare, halted, error-answer, called, answered, next-stmt}
 use Rattle.grammar.specs.Reading.Looked.{looks, call-looks}
 use Rattle.grammar.specs.Laws.Facts.{and-l, and-r, or-true, not-true, apart, by-test}
-use Rattle.grammar.specs.Laws.Numbers.{IsError, IsStop, All, a-cons, waits-none, n-fail, n-stop, Top, t-end, t-num, next-numbers}
+use Rattle.grammar.specs.Laws.Waits.{IsError, IsStop, All, a-cons, waits-none, n-fail, n-stop}
+use Rattle.grammar.specs.Laws.Numbers.{Top, t-end, t-num, next-numbers}
 use Rattle.grammar.specs.Laws.Returned.{fits-all}
 use Rattle.grammar.specs.declared.Answer.the-variants.{Stopped, Refused}
 use Rattle.grammar.specs.declared.Reader.{Reader}

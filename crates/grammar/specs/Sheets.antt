@@ -13,7 +13,7 @@ use Rattle.tree.specs.Maybe.{Maybe, nothing, just, bindM}
 use Rattle.grammar.specs.Reading.Pattern.{conv, all-conv, last-of, front-of}
 use Rattle.grammar.specs.Reading.Limit.{depth-limit}
 use Rattle.grammar.specs.Reading.Number
-use Rattle.grammar.specs.Reading.Result.{Error, spoil, either, then, ifb, push, pop}
+use Rattle.grammar.specs.Reading.Result.{Error, unclean, either, then, ifb, push, pop}
 use Rattle.grammar.specs.Reading.Look.{looked, look, expect, expect-pattern, try-label, try-assign-keyword}
 use Rattle.grammar.specs.Reading.Expr.{operators, binop-expr, members, tuple-expr, expr}
 use Rattle.grammar.specs.Reading.Primary.{group-expr, literal, atom, indexing-expr, field-name, table-field, table-item, table-items, member-access, invocation, path, primary, unpack-expr}
@@ -38,7 +38,7 @@ and-on (Refused k) c others = c ∷ []
 
 -- the calls on a sheet from a reader on, at most n, with stores of m words
 unfoldable pub calls : ℕ → ℕ → List ℕ → Reader → List Called
-unfolding which-unary-op which-binary-op which-assignment-op op-level op-number unary-code assign-code count snoc records all-records conv all-conv last-of front-of spoil either then ifb push pop looked look expect expect-pattern try-label try-assign-keyword operators binop-expr members tuple-expr expr group-expr literal atom indexing-expr field-name table-field table-item table-items member-access invocation path primary unpack-expr split-before split-kids split-last split block-split block-of body block-expr expr-label branches param-mode variadic-param plain-param param joined params function-def function-assignment-target function-decl-expr loop while-loop lvalue-list for-loop stmt-label stmt control-value control-flow control-last synchronize synchronized caught stmts primary-expr unary-expr at-depth start front failed next queue-fits error-answer next-stmt
+unfolding which-unary-op which-binary-op which-assignment-op op-level op-number unary-code assign-code count snoc records all-records conv all-conv last-of front-of unclean either then ifb push pop looked look expect expect-pattern try-label try-assign-keyword operators binop-expr members tuple-expr expr group-expr literal atom indexing-expr field-name table-field table-item table-items member-access invocation path primary unpack-expr split-before split-kids split-last split block-split block-of body block-expr expr-label branches param-mode variadic-param plain-param param joined params function-def function-assignment-target function-decl-expr loop while-loop lvalue-list for-loop stmt-label stmt control-value control-flow control-last synchronize synchronized caught stmts primary-expr unary-expr at-depth start front failed next queue-fits error-answer next-stmt
 calls zero m ts R = []
 calls (suc n) m ts R =
     let x = next-stmt R ts m in

@@ -3,13 +3,14 @@
 -- 2. A valid statement's canonical tokens, followed by any rest, read to that tree and that rest, at every depth that is large enough; so do the canonical runs.
 -- 3. A tree is valid exactly if there are tokens whose clean reading, limits aside, gives it; and exactly if the writer does not refuse it with 65.
 -- 4. The depth that a statement's canonical tokens need is a number computed from the tree: with fewer depths the reading stops with 62, else it ends.
+--    More depth changes no reading that did not stop with 62.
 -- 5. The number of tokens of a statement, computed from the tree, is half the length of what is written.
 -- 6. What a statement writes does not depend on what follows it: a run is the statements' tokens in turn, then `EOF`.
 -- 7. Of two sheets that read cleanly, the trees are the same exactly if the canonical runs are, and each run reads back to those trees.
 -- 8. Trees with the same records are the same, and decoding a tree's records gives the tree; words that decode to no tree are no clean reading's.
 -- 9. The sheets of document 01 say what it says, those with the same and with other canonical tokens among them: `sheets-tried` in Sheets.antt.
 use mathlib.Core.Path.{_≡_, refl, sym, ap, _∙_, subst}
-use mathlib.Core.Logic.{_↔_}
+use mathlib.Core.Logic.{_↔_, _≢_}
 use mathlib.Core.Bool.{Bool, true, false}
 use mathlib.Core.List.{List, [], _∷_, _++_}
 use Prim.Native.Nat.{ℕ, suc, _*_, _-_, _/_, _≤_, max}
@@ -24,7 +25,7 @@ use Rattle.tree.specs.Maybe.{Maybe, nothing, just}
 use Rattle.tree.specs.Decode.{decode}
 use Rattle.tree.specs.Records.{Small, decode-records, records-same, decode-text}
 use Rattle.grammar.specs.Reading.Limit.{depth-limit, too-deep, no-statement, short-output}
-use Rattle.grammar.specs.Reading.Result.{Error, ok, ifb}
+use Rattle.grammar.specs.Reading.Result.{Error, ok, stop, ifb}
 use Rattle.grammar.specs.Reading.Depth.{at-depth}
 use Rattle.grammar.specs.Reading.Next.{next}
 use Rattle.grammar.specs.Reading.Stmt as Stmt
@@ -35,6 +36,7 @@ use Rattle.grammar.specs.Canonical.Valid.{stmt, Valid, Valids, v-none, v
 use Rattle.grammar.specs.Canonical.Writing.{clean-reading, statement-words, same-words, gives, readable, is-too-deep, exceeds-depth, bare, written, write-stmt}
 use borrow.Author.Tests.{eqb-true, eq-eqb, le-leb}
 use Rattle.grammar.specs.Laws.Facts.{clash, and-l, and-r, not-true}
+use Rattle.grammar.specs.Laws.Depth.{enough, next-depth}
 use Rattle.grammar.specs.Laws.Back.Steps.{reach}
 use Rattle.grammar.specs.Sheets.{read, expected, table, sheets-tried}
 use Rattle.grammar.specs.declared.Written.the-variants.{Tokens, Stopped, Refused}
@@ -163,6 +165,9 @@ limit-exact h = depth-is h depth-limit
 
 pub depth-enough : {t : Tree} → Valid stmt t → (d e : ℕ) → need t own ≤ d → need t own ≤ e → (q : List Error) (r : List ℕ) → next d q (statement t r) ≡ next e q (statement t r)
 depth-enough h d e l m q r = rw (next-back h d q r, next-back h e q r, le-leb _ d l, le-leb _ e m)
+
+pub deep-enough : {d e : ℕ} → d ≤ e → (q : List Error) (ts : List ℕ) → next d q ts ≢ stop too-deep → next e q ts ≡ next d q ts
+deep-enough h q ts = enough (next-depth h q ts)
 
 -- 5
 pub token-count : (t : Tree) → length (statement-words t) ≡ 2 * suc (tokens t own)

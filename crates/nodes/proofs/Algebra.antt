@@ -7,23 +7,23 @@ use Rattle.token.specs.Look.{seen-word}
 use Rattle.token.specs.declared.Token.{Token}
 use Rattle.token.specs.declared.Seen.{Seen}
 use Rattle.token.specs.declared.Seen.the-variants.{Good, LexerError, Nothing, Bad}
-use Rattle.grammar.specs.Reading.Result.{Res, ok, bad, fail, stop, spoil, either, then, ifb, Error}
+use Rattle.grammar.specs.Reading.Result.{Res, ok, bad, fail, stop, unclean, either, then, ifb, Error}
 use Rattle.grammar.specs.Reading.Look.{looked, look}
 use native.Mathlib.Omega.{arith}
 
-spoil-spoil : {A : Type 0} (q q′ : List Error) (d : Res A) → spoil q (spoil q′ d) ≡ spoil q′ d
-unfolding spoil
-spoil-spoil q q′ (ok a r) = refl
-spoil-spoil q q′ (bad a q″ r) = refl
-spoil-spoil q q′ (fail e q″ r) = refl
-spoil-spoil q q′ (stop n) = refl
+unclean-twice : {A : Type 0} (q q′ : List Error) (d : Res A) → unclean q (unclean q′ d) ≡ unclean q′ d
+unfolding unclean
+unclean-twice q q′ (ok a r) = refl
+unclean-twice q q′ (bad a q″ r) = refl
+unclean-twice q q′ (fail e q″ r) = refl
+unclean-twice q q′ (stop n) = refl
 
-then-spoil : {A B : Type 0} (q q′ : List Error) (d : Res A) (k : A → List Error → List ℕ → Res B) → then q (spoil q′ d) k ≡ spoil q′ (then q′ d k)
-unfolding spoil then
-then-spoil q q′ (ok a r) k = refl
-then-spoil q q′ (bad a q″ r) k = sym (spoil-spoil q′ q″ (k a q″ r))
-then-spoil q q′ (fail e q″ r) k = refl
-then-spoil q q′ (stop n) k = refl
+then-unclean : {A B : Type 0} (q q′ : List Error) (d : Res A) (k : A → List Error → List ℕ → Res B) → then q (unclean q′ d) k ≡ unclean q′ (then q′ d k)
+unfolding unclean then
+then-unclean q q′ (ok a r) k = refl
+then-unclean q q′ (bad a q″ r) k = sym (unclean-twice q′ q″ (k a q″ r))
+then-unclean q q′ (fail e q″ r) k = refl
+then-unclean q q′ (stop n) k = refl
 
 -- behind what failed, and what read
 pub then-fail : {A B : Type 0} (q : List Error) {e : ℕ} {q′ : List Error} {r : List ℕ} (k : A → List Error → List ℕ → Res B) → then q (fail e q′ r) k ≡ fail e q′ r
@@ -38,7 +38,7 @@ then-ok q k = refl
 pub then-then : {A B C : Type 0} (q : List Error) (d : Res A) (f : A → List Error → List ℕ → Res B) (k : B → List Error → List ℕ → Res C) → then q (then q d f) k ≡ then q d (λ a q₁ r. then q₁ (f a q₁ r) k)
 unfolding then
 then-then q (ok a r) f k = refl
-then-then q (bad a q₁ r) f k = then-spoil q q₁ (f a q₁ r) k
+then-then q (bad a q₁ r) f k = then-unclean q q₁ (f a q₁ r) k
 then-then q (fail e q₁ r) f k = refl
 then-then q (stop n) f k = refl
 
@@ -46,8 +46,8 @@ pub then-either : {A B C : Type 0} (q : List Error) (d : Res A) (go : A → List
     → then q (either q d go or) k ≡ either q d (λ a q₁ r. then q₁ (go a q₁ r) k) (λ e q₁ r. then q₁ (or e q₁ r) k)
 unfolding then either
 then-either q (ok a r) go or k = refl
-then-either q (bad a q₁ r) go or k = then-spoil q q₁ (go a q₁ r) k
-then-either q (fail e q₁ r) go or k = then-spoil q q₁ (or e q₁ r) k
+then-either q (bad a q₁ r) go or k = then-unclean q q₁ (go a q₁ r) k
+then-either q (fail e q₁ r) go or k = then-unclean q q₁ (or e q₁ r) k
 then-either q (stop n) go or k = refl
 
 pub then-if : {A B : Type 0} (q : List Error) (b : Bool) (x y : Unit {0} → Res A) (k : A → List Error → List ℕ → Res B) → then q (ifb b x y) k ≡ ifb b (λ u. then q (x u) k) (λ u. then q (y u) k)
@@ -59,15 +59,15 @@ then-if q false x y k = refl
 pub then-same : {A B : Type 0} (q : List Error) (d : Res A) {f g : A → List Error → List ℕ → Res B} → ((a : A) (q : List Error) (r : List ℕ) → f a q r ≡ g a q r) → then q d f ≡ then q d g
 unfolding then
 then-same q (ok a r) h = h a q r
-then-same q (bad a q₁ r) h = ap (spoil q₁) (h a q₁ r)
+then-same q (bad a q₁ r) h = ap (unclean q₁) (h a q₁ r)
 then-same q (fail e q₁ r) h = refl
 then-same q (stop n) h = refl
 
 pub either-same : {A B : Type 0} (q : List Error) (d : Res A) {f g : A → List Error → List ℕ → Res B} {x y : ℕ → List Error → List ℕ → Res B} → ((a : A) (q : List Error) (r : List ℕ) → f a q r ≡ g a q r) → ((e : ℕ) (q : List Error) (r : List ℕ) → x e q r ≡ y e q r) → either q d f x ≡ either q d g y
 unfolding either
 either-same q (ok a r) h i = h a q r
-either-same q (bad a q₁ r) h i = ap (spoil q₁) (h a q₁ r)
-either-same q (fail e q₁ r) h i = ap (spoil q₁) (i e q₁ r)
+either-same q (bad a q₁ r) h i = ap (unclean q₁) (h a q₁ r)
+either-same q (fail e q₁ r) h i = ap (unclean q₁) (i e q₁ r)
 either-same q (stop n) h i = refl
 
 pub if-same : {A : Type 0} (b : Bool) {x y x′ y′ : Unit {0} → A} → ((u : Unit {0}) → x u ≡ x′ u) → ((u : Unit {0}) → y u ≡ y′ u) → ifb b x y ≡ ifb b x′ y′

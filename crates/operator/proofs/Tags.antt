@@ -27,48 +27,35 @@ at-keys f value (key ∷ (next ∷ keys)) x t o =
     (λ l. at-keys f value (next ∷ keys) x (and-right (eqb (f key) value) (agrees f value (next ∷ keys)) t) l)
     o
 
-pub number-tag : (op : BinaryOp) → binary-number op ≡ tagOf the-type op
-number-tag Mul = refl
-number-tag Div = refl
-number-tag Mod = refl
-number-tag Add = refl
-number-tag Sub = refl
-number-tag LShift = refl
-number-tag RShift = refl
-number-tag BitAnd = refl
-number-tag BitXor = refl
-number-tag BitOr = refl
-number-tag LT = refl
-number-tag GT = refl
-number-tag LE = refl
-number-tag GE = refl
-number-tag EQ = refl
-number-tag NE = refl
-number-tag And = refl
-number-tag Or = refl
+-- the operators by their numbers, and the level of each
+abbrev operators : List BinaryOp
+operators = Mul ∷ Div ∷ Mod ∷ Add ∷ Sub ∷ LShift ∷ RShift ∷ BitAnd ∷ BitXor ∷ BitOr ∷ LT ∷ GT ∷ LE ∷ GE ∷ EQ ∷ NE ∷ And ∷ Or ∷ []
 
 abbrev pub level-at : ℕ → ℕ
-level-at tag = getD (1 ∷ 1 ∷ 1 ∷ 2 ∷ 2 ∷ 3 ∷ 3 ∷ 4 ∷ 5 ∷ 6 ∷ 7 ∷ 7 ∷ 7 ∷ 7 ∷ 8 ∷ 8 ∷ 9 ∷ 10 ∷ []) tag 0
+level-at tag = precedence-level (getD operators tag Mul)
 
-level-tag : (op : BinaryOp) → precedence-level op ≡ level-at (tagOf the-type op)
-level-tag Mul = refl
-level-tag Div = refl
-level-tag Mod = refl
-level-tag Add = refl
-level-tag Sub = refl
-level-tag LShift = refl
-level-tag RShift = refl
-level-tag BitAnd = refl
-level-tag BitXor = refl
-level-tag BitOr = refl
-level-tag LT = refl
-level-tag GT = refl
-level-tag LE = refl
-level-tag GE = refl
-level-tag EQ = refl
-level-tag NE = refl
-level-tag And = refl
-level-tag Or = refl
+tags : (op : BinaryOp) → (binary-number op ≡ tagOf the-type op) × (precedence-level op ≡ level-at (tagOf the-type op))
+tags Mul = (refl, refl)
+tags Div = (refl, refl)
+tags Mod = (refl, refl)
+tags Add = (refl, refl)
+tags Sub = (refl, refl)
+tags LShift = (refl, refl)
+tags RShift = (refl, refl)
+tags BitAnd = (refl, refl)
+tags BitXor = (refl, refl)
+tags BitOr = (refl, refl)
+tags LT = (refl, refl)
+tags GT = (refl, refl)
+tags LE = (refl, refl)
+tags GE = (refl, refl)
+tags EQ = (refl, refl)
+tags NE = (refl, refl)
+tags And = (refl, refl)
+tags Or = (refl, refl)
+
+pub number-tag : (op : BinaryOp) → binary-number op ≡ tagOf the-type op
+number-tag op = tags op .0
 
 pub level-at-keys : (op : BinaryOp) (level : ℕ) (keys : List ℕ) → T (agrees level-at level keys) → OneOf keys (tagOf the-type op) → level ≡ precedence-level op
-level-at-keys op level keys t o = sym (level-tag op ∙ at-keys level-at level keys (tagOf the-type op) t o)
+level-at-keys op level keys t o = sym (tags op .1 ∙ at-keys level-at level keys (tagOf the-type op) t o)

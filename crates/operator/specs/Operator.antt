@@ -66,7 +66,11 @@ which-assignment-op kind =
     if eqb kind Kind.OpRShiftAssign then With RShift else
     NotAssignment
 
--- from 1, which binds the tightest, to 10
+-- how many levels there are
+abbrev pub level-count : ℕ
+level-count = 10
+
+-- from 1, which binds the tightest, to `level-count`
 abbrev pub precedence-level : BinaryOp → ℕ
 precedence-level Mul = 1
 precedence-level Div = 1

@@ -13,7 +13,8 @@ use Rattle.tree.specs.Tree.{Tree, records}
 use Rattle.grammar.specs.Reading.Limit.{depth-limit, length-limit, queue-limit, store-share, malformed, bad-reader, short-store}
 use Rattle.grammar.specs.Reading.Result.{Res, ok, bad, fail, stop, ifb, Error}
 use Rattle.grammar.specs.Reading.Next.{is-stop, queue-fits, pad, reader-at, Called, bare, halted, error-kind, error-answer, tree-called, called, answered, next-stmt, next}
-use Rattle.grammar.specs.Laws.Progress.{Keep, k-ok, k-bad, k-fail, k-stop, next-keeps}
+use Rattle.grammar.specs.Laws.Progress.{next-keeps}
+use Rattle.grammar.specs.Laws.Keep.{Keep, k-ok, k-bad, k-fail, k-stop}
 use Rattle.grammar.specs.declared.ErrorKind.{ErrorKind}
 use Rattle.grammar.specs.declared.Answer.{Answer}
 use Rattle.grammar.specs.declared.Answer.the-variants.{Tree as ATree, Error as AError, Refused, Stopped}

@@ -10,7 +10,7 @@ use lib.ListN.{length, take, drop}
 use lib.Seq.{length-take-le, take-take, take-append-le}
 use Rattle.token.specs.declared.Token.{Token}
 use Rattle.grammar.specs.Reading.Limit.{queue-limit}
-use Rattle.grammar.specs.Reading.Result.{Res, ok, bad, fail, stop, spoil, either, then, Error}
+use Rattle.grammar.specs.Reading.Result.{Res, ok, bad, fail, stop, unclean, either, then, Error}
 use Rattle.grammar.specs.Reading.Look.{look}
 use Rattle.scan.specs.Post.{Out, won, lost, halt, out, As, clean, Moved, Room, Lost, FailedAs, Failed, Wrote, AgreesAs, Agrees, Unread, Taken, Missed, Saw, Got, Passed, Reads, Number-at, Finds, waiting-errors}
 use Rattle.scan.specs.declared.Failure.{Failure}
@@ -38,16 +38,16 @@ ends e = record { is = rw e }
 pub refail : {A : Type 0} {d : Res A} {q q₁ q₂ : List Error} {r : List ℕ} {e : ℕ} → As q d q₁ (fail e q₂ r) → As q d q₂ (fail e q₂ r)
 refail a = record { is = a .is }
 
-out-spoil : {A : Type 0} (q : List Error) (p : List ℕ) (d : Res A) → out p (spoil q d) ≡ out q d
-unfolding spoil
-out-spoil q p (ok a r) = refl
-out-spoil q p (bad a q′ r) = refl
-out-spoil q p (fail e q′ r) = refl
-out-spoil q p (stop n) = refl
+out-unclean : {A : Type 0} (q : List Error) (p : List ℕ) (d : Res A) → out p (unclean q d) ≡ out q d
+unfolding unclean
+out-unclean q p (ok a r) = refl
+out-unclean q p (bad a q′ r) = refl
+out-unclean q p (fail e q′ r) = refl
+out-unclean q p (stop n) = refl
 
 -- what a push makes of what goes on
-pub spoiled : {A : Type 0} {d : Res A} (q : List Error) (p : List ℕ) → As p (spoil q d) q d
-spoiled {d = d} q p = record { is = out-spoil q p d }
+pub as-unclean : {A : Type 0} {d : Res A} (q : List Error) (p : List ℕ) → As p (unclean q d) q d
+as-unclean {d = d} q p = record { is = out-unclean q p d }
 
 module _ {A B : Type 0} (go : A → List Error → List ℕ → Res B) where
   carry : {x y : A} {q q′ : List Error} {r r′ : List ℕ} → won x q r ≡ won y q′ r′ → out q (go x q r) ≡ out q′ (go y q′ r′)
@@ -60,7 +60,7 @@ module _ {A B : Type 0} (go : A → List Error → List ℕ → Res B) where
   then-won : (q : List Error) (d : Res A) {x : A} {q′ : List Error} {r : List ℕ} → out q d ≡ won x q′ r → out q (then q d go) ≡ out q′ (go x q′ r)
   unfolding then
   then-won q (ok a r) e = carry e
-  then-won q (bad a q₁ r) e = out-spoil q₁ q (go a q₁ r) ∙ carry e
+  then-won q (bad a q₁ r) e = out-unclean q₁ q (go a q₁ r) ∙ carry e
   then-won q (fail n q₁ r) e = absurd (let z : _≡_ {A = ℕ} 0 1 = cc in omega arith)
   then-won q (stop n) e = absurd (let z : _≡_ {A = ℕ} 0 1 = cc in omega arith)
 
@@ -89,7 +89,7 @@ module _ {A B : Type 0} (go : A → List Error → List ℕ → Res B) where
     either-won : (q : List Error) (d : Res A) {x : A} {q′ : List Error} {r : List ℕ} → out q d ≡ won x q′ r → out q (either q d go or) ≡ out q′ (go x q′ r)
     unfolding either
     either-won q (ok a r) e = carry e
-    either-won q (bad a q₁ r) e = out-spoil q₁ q (go a q₁ r) ∙ carry e
+    either-won q (bad a q₁ r) e = out-unclean q₁ q (go a q₁ r) ∙ carry e
     either-won q (fail n q₁ r) e = absurd (let z : _≡_ {A = ℕ} 0 1 = cc in omega arith)
     either-won q (stop n) e = absurd (let z : _≡_ {A = ℕ} 0 1 = cc in omega arith)
 
@@ -97,7 +97,7 @@ module _ {A B : Type 0} (go : A → List Error → List ℕ → Res B) where
     unfolding either
     either-lost q (ok a r) e = absurd (let z : _≡_ {A = ℕ} 0 1 = cc in omega arith)
     either-lost q (bad a q₁ r) e = absurd (let z : _≡_ {A = ℕ} 0 1 = cc in omega arith)
-    either-lost q (fail n q₁ r) e = out-spoil q₁ q (or n q₁ r) ∙ carry-or e
+    either-lost q (fail n q₁ r) e = out-unclean q₁ q (or n q₁ r) ∙ carry-or e
     either-lost q (stop n) e = absurd (let z : _≡_ {A = ℕ} 0 1 = cc in omega arith)
 
     either-halt : (q : List Error) (d : Res A) {n : ℕ} → out q d ≡ halt n → out q (either q d go or) ≡ halt n
@@ -355,7 +355,7 @@ halted-as e h = (rw e at (h .how)) .how
 
 -- where every success becomes the error f, the base does not matter
 lose-out : {A B : Type 0} (q q′ q₂ : List Error) (f : ℕ) (d : Res A) → out {A = B} q (then q₂ d (λ u q₃ r. fail f q₃ r)) ≡ out q′ (then q₂ d (λ u q₃ r. fail f q₃ r))
-unfolding then spoil
+unfolding then unclean
 lose-out q q′ q₂ f (ok a r) = refl
 lose-out q q′ q₂ f (bad a q₁ r) = refl
 lose-out q q′ q₂ f (fail e q₁ r) = refl

@@ -12,7 +12,7 @@ use lib.ListN.{length, drop, length-drop}
 use Rattle.token.specs.Kind
 use Rattle.token.specs.declared.Token.{Token}
 use Rattle.grammar.specs.Reading.Number
-use Rattle.grammar.specs.Reading.Result.{Res, ok, fail, stop, spoil, either, ifb, Error}
+use Rattle.grammar.specs.Reading.Result.{Res, ok, fail, stop, unclean, either, ifb, Error}
 use Rattle.grammar.specs.Reading.Look.{look}
 use Rattle.grammar.specs.Reading.Next.{start}
 use Rattle.scan.specs.Post.{Taken, Missed, Saw, Reads}
@@ -39,7 +39,7 @@ module _ (q : List Error) where
   unfolding start
   start-suc n ts = refl
 
-  start-missed : (n : ℕ) (ts : List ℕ) {e : ℕ} {r : List ℕ} → look q ts ≡ fail e q r → start (suc n) q ts ≡ spoil q (start-or q ts e q r)
+  start-missed : (n : ℕ) (ts : List ℕ) {e : ℕ} {r : List ℕ} → look q ts ≡ fail e q r → start (suc n) q ts ≡ unclean q (start-or q ts e q r)
   unfolding either
   start-missed n ts e = start-suc n ts ∙ rw e
 
@@ -48,7 +48,7 @@ module _ (q : List Error) where
   start-taken n ts e = start-suc n ts ∙ rw e
 
   start-out : (n : ℕ) (ts : List ℕ) {e : ℕ} {r : List ℕ} → look q ts ≡ fail e q r → e ≡ Number.end-of-tokens → start n q ts ≡ fail 0 q ts
-  unfolding start ifb spoil
+  unfolding start ifb unclean
   start-out zero ts l h = refl
   start-out (suc n) ts l h = start-missed n ts l ∙ rw (eq-eqb _ _ h)
 
@@ -66,7 +66,7 @@ module _ (q : List Error) where
     start-none m e = start-out fuel (drop p T) (m .lacks .same q) e
 
     pub start-lexer : {w₀ : ℕ} {f : Failure} → Missed T p w₀ f → (f .error ≡ Number.end-of-tokens → ⊥) → start fuel q (drop p T) ≡ fail (f .error) q (drop (f .pos) T)
-    unfolding ifb spoil
+    unfolding ifb unclean
     start-lexer m e =
         let x = m .past e in
         let y = m .lacks .within in

@@ -6,11 +6,11 @@ use Prim.Native.Nat.{ℕ, _≤_}
 use borrow.Author.Tests.{eq-eqb, ne-eqb}
 use lib.ListN.{length, take}
 use lib.Seq.{length-take-le}
-use Rattle.grammar.specs.Reading.Result.{Res, fail, stop, spoil, ifb, push, pop, Error}
+use Rattle.grammar.specs.Reading.Result.{Res, fail, stop, unclean, ifb, push, pop, Error}
 use Rattle.scan.specs.Post.{As, Failed, Queues, waiting-errors}
 use Rattle.scan.specs.declared.Step.{Step}
 use Rattle.scan.specs.declared.Step.the-variants.{Done, Fail, Stop}
-use Rattle.scan.proofs.Laws.{way, link, spoiled}
+use Rattle.scan.proofs.Laws.{way, link, as-unclean}
 use Rattle.grammar.specs.Reading.Limit.{queue-full, queue-limit}
 
 -- a choice
@@ -27,12 +27,12 @@ pub push-full : {A : Type 0} (e w : ℕ) (Q : List ℕ) (k : List Error → Res 
 unfolding push ifb
 push-full e w Q k h g = rw (eq-eqb _ _ (length-take-le w Q g ∙ h))
 
-push-room : {A : Type 0} (e w : ℕ) (Q : List ℕ) (k : List Error → Res A) → (w ≡ queue-limit → ⊥) → w ≤ length Q → push e (waiting-errors w Q) k ≡ spoil (take w Q ++ e ∷ []) (k (take w Q ++ e ∷ []))
+push-room : {A : Type 0} (e w : ℕ) (Q : List ℕ) (k : List Error → Res A) → (w ≡ queue-limit → ⊥) → w ≤ length Q → push e (waiting-errors w Q) k ≡ unclean (take w Q ++ e ∷ []) (k (take w Q ++ e ∷ []))
 unfolding push ifb
 push-room e w Q k h g = rw (ne-eqb _ _ (λ i. h (sym (length-take-le w Q g) ∙ i)))
 
 pub pushes : {A : Type 0} (e w : ℕ) (Q : List ℕ) (k : List Error → Res A) {q : List Error} → (w ≡ queue-limit → ⊥) → w ≤ length Q → q ≡ waiting-errors w Q ++ e ∷ [] → As (waiting-errors w Q) (push e (waiting-errors w Q) k) q (k q)
-pushes e w Q k {q} h g x = rw x (link (way _ (push-room e w Q k h g)) (spoiled _ _))
+pushes e w Q k {q} h g x = rw x (link (way _ (push-room e w Q k h g)) (as-unclean _ _))
 
 pub pops : {A : Type 0} (q : List Error) (r : List ℕ) {e : ℕ} {q′ : List Error} → q ≡ e ∷ q′ → pop {A = A} q r ≡ fail e q′ r
 unfolding pop

@@ -6,8 +6,9 @@ use native.Mathlib.Numerals.{add-one, add-two}
 use native.Mathlib.Omega.{arith}
 use native.Mathlib.Nat.{sub-zero}
 use lib.ListN.{length, take, drop, getD, set, length-set, length-drop}
-use lib.Seq.{drop-cons, take-suc-set, length-take-le, take-take, take-append-le, drop-set-lt, take-set-le, drop-at, getD-set-same, getD-take, take-add, take-append-add, drop-drop}
+use lib.Seq.{drop-cons, take-suc-set, length-take-le, take-take, take-append-le, drop-set-lt, take-set-le, getD-set-same, getD-take, take-add, take-append-add, drop-drop}
 use Rattle.tree.specs.Store.{Emitted, Led, leading}
+use Rattle.tree.specs.Written.{three-written, drop-take}
 
 -- the two words that `emit` writes
 pub emitted : (S : List ℕ) (at w v : ℕ) → at + 2 ≤ length S → take (at + 2) (set (set S at w) (at + 1) v) ≡ take at S ++ w ∷ v ∷ []
@@ -44,13 +45,6 @@ led S S₁ X m e f =
     let z : m + 6 ≡ 6 + m = omega arith in
     ap (λ (k : ℕ). take k S₁) z ∙ take-add 6 m S₁ ∙ rw (e, f)
 
--- records that were written one after the other
-two-words : {a w₁ v₁ r₁ w₂ v₂ r₂ : ℕ} {S S₁ S₂ : List ℕ} → Emitted a w₁ v₁ r₁ S S₁ → Emitted r₁ w₂ v₂ r₂ S₁ S₂ → take r₂ S₂ ≡ take a S ++ w₁ ∷ v₁ ∷ w₂ ∷ v₂ ∷ []
-two-words {a} {w₁} {v₁} {r₁} {w₂} {v₂} {r₂} {S} e f = f .text ∙ ap (λ (l : List ℕ). l ++ w₂ ∷ v₂ ∷ []) (e .text) ∙ append-assoc (take a S) (w₁ ∷ v₁ ∷ []) (w₂ ∷ v₂ ∷ [])
-
-three-words : {a w₁ v₁ r₁ w₂ v₂ r₂ w₃ v₃ r₃ : ℕ} {S S₁ S₂ S₃ : List ℕ} → Emitted a w₁ v₁ r₁ S S₁ → Emitted r₁ w₂ v₂ r₂ S₁ S₂ → Emitted r₂ w₃ v₃ r₃ S₂ S₃ → take r₃ S₃ ≡ take a S ++ w₁ ∷ v₁ ∷ w₂ ∷ v₂ ∷ w₃ ∷ v₃ ∷ []
-three-words {a} {w₁} {v₁} {r₁} {w₂} {v₂} {r₂} {w₃} {v₃} {r₃} {S} e f g = g .text ∙ ap (λ (l : List ℕ). l ++ w₃ ∷ v₃ ∷ []) (two-words e f) ∙ append-assoc (take a S) (w₁ ∷ v₁ ∷ w₂ ∷ v₂ ∷ []) (w₃ ∷ v₃ ∷ [])
-
 -- three records at the front, and behind them what was moved there
 pub led-all : {w₁ v₁ r₁ w₂ v₂ r₂ w₃ v₃ r₃ : ℕ} {S S₁ S₂ S₃ : List ℕ} (S₀ : List ℕ) (m : ℕ) → Emitted 0 w₁ v₁ r₁ S S₁ → Emitted r₁ w₂ v₂ r₂ S₁ S₂ → Emitted r₂ w₃ v₃ r₃ S₂ S₃
     → take (m - 0) (drop (0 + 6) S) ≡ take (m - 0) (drop 0 S₀) → take (m + 6) S₃ ≡ w₁ ∷ v₁ ∷ w₂ ∷ v₂ ∷ w₃ ∷ v₃ ∷ take m S₀
@@ -67,7 +61,7 @@ led-all {w₁} {v₁} {r₁} {w₂} {v₂} {r₂} {w₃} {v₃} {r₃} {S} {S₁
     let x₆ : drop 6 S₁ ≡ drop 6 S = sym (drop-drop 4 2 S₁) ∙ ap (drop 4) x ∙ drop-drop 4 2 S in
     let y₆ : drop 6 S₂ ≡ drop 6 S₁ = sym (drop-drop 2 4 S₂) ∙ ap (drop 2) y ∙ drop-drop 2 4 S₁ in
     let k : take m (drop 6 S) ≡ take m S₀ = ap (λ (n : ℕ). take n (drop 6 S)) (sym (sub-zero m)) ∙ h ∙ ap (λ (n : ℕ). take n S₀) (sub-zero m) in
-    led S S₃ (w₁ ∷ v₁ ∷ w₂ ∷ v₂ ∷ w₃ ∷ v₃ ∷ []) m (ap (λ (n : ℕ). take n S₃) (sym six) ∙ three-words e f g) (z ∙ y₆ ∙ x₆) ∙ ap (λ (l : List ℕ). w₁ ∷ v₁ ∷ w₂ ∷ v₂ ∷ w₃ ∷ v₃ ∷ l) k
+    led S S₃ (w₁ ∷ v₁ ∷ w₂ ∷ v₂ ∷ w₃ ∷ v₃ ∷ []) m (ap (λ (n : ℕ). take n S₃) (sym six) ∙ three-written e f g) (z ∙ y₆ ∙ x₆) ∙ ap (λ (l : List ℕ). w₁ ∷ v₁ ∷ w₂ ∷ v₂ ∷ w₃ ∷ v₃ ∷ l) k
 
 pub lead-step : (S S₀ : List ℕ) (m i : ℕ) → 0 < i → i ≤ m → m + 6 ≤ length S → length S ≡ length S₀ → take i S ≡ take i S₀ → take (m - i) (drop (i + 6) S) ≡ take (m - i) (drop i S₀)
     → (take (i - 1) (set S (i - 1 + 6) (getD S (i - 1) 0)) ≡ take (i - 1) S₀) × (take (m - (i - 1)) (drop (i - 1 + 6) (set S (i - 1 + 6) (getD S (i - 1) 0))) ≡ take (m - (i - 1)) (drop (i - 1) S₀))
@@ -75,12 +69,6 @@ lead-step S S₀ m zero o h g n e f = absurd (omega arith)
 lead-step S S₀ m (suc j) o h g n e f =
     let s : suc j - 1 ≡ j = omega arith in
     rw s (lead-before S S₀ j (getD S j 0) e, lead-next S S₀ m j h g n e f)
-
--- a part of a part, from either end
-drop-take : (S : List ℕ) (last end : ℕ) → last ≤ end → end ≤ length S → drop last (take end S) ≡ take (end - last) (drop last S)
-drop-take S last end h g =
-    let e : end ≡ last + (end - last) = omega arith in
-    ap (λ (k : ℕ). drop last (take k S)) e ∙ ap (drop last) (take-add last (end - last) S) ∙ drop-at (take last S) (take (end - last) (drop last S)) last (length-take-le last S (omega arith))
 
 -- the store when its lent part is back
 pub led-back : {n : ℕ} {Y : List ℕ} (S : List ℕ) (last end : ℕ) → last ≤ end → end + 6 ≤ length S → Led (end - last) n (take (length S - last) (drop last S)) Y → length Y ≡ length (take (length S - last) (drop last S))

@@ -4,5 +4,6 @@ pub mod Node
 pub mod Maybe
 pub mod Decode
 pub mod Store
+pub mod Written
 pub mod Records
 pub mod Rows

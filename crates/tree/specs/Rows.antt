@@ -108,14 +108,14 @@ top B S i r k v f h e =
     record { room = omega (arith, length-append B (rows (push r f))); word = l .word; value = l .value; text = l .front }
 
 -- one step of a scan that looks for the start of n trees
-pub record Peeled (B S : List ℕ) (i n : ℕ) : Type 0 where
+pub record ScanStep (B S : List ℕ) (i n : ℕ) : Type 0 where
   pub room : length B + 2 ≤ i
   pub rest : Trees B (take (i - 2) S) (n - 1 + getD S (i - 2) 0 / 256)
 
-peel-row : (B S : List ℕ) (i n : ℕ) (row : Row) → i ≤ length S → width row ≡ n → SmallRow row → take i S ≡ B ++ rows row → 0 < n → Peeled B S i n
+scan-row : (B S : List ℕ) (i n : ℕ) (row : Row) → i ≤ length S → width row ≡ n → SmallRow row → take i S ≡ B ++ rows row → 0 < n → ScanStep B S i n
 unfolding width SmallRow Small
-peel-row B S i n end h m s e p = absurd (omega arith)
-peel-row B S i n (on r (node k v f)) h m s e p =
+scan-row B S i n end h m s e p = absurd (omega arith)
+scan-row B S i n (on r (node k v f)) h m s e p =
     let t = top B S i r k v f h e in
     let q : k < 256 = s .1 .0 in
     let w = t .word in
@@ -124,8 +124,8 @@ peel-row B S i n (on r (node k v f)) h m s e p =
       rest = record { row = push r f; many = width-push r f ∙ omega arith; small = small-push r f (s .0) (s .1 .1); text = t .text };
     }
 
-pub peel : (B S : List ℕ) (i n : ℕ) → i ≤ length S → Trees B (take i S) n → 0 < n → Peeled B S i n
-peel B S i n h t p = peel-row B S i n (t .row) h (t .many) (t .small) (t .text) p
+pub scan-step : (B S : List ℕ) (i n : ℕ) → i ≤ length S → Trees B (take i S) n → 0 < n → ScanStep B S i n
+scan-step B S i n h t p = scan-row B S i n (t .row) h (t .many) (t .small) (t .text) p
 
 -- n trees have n records or more
 pub enough : (B S : List ℕ) (i n : ℕ) → i ≤ length S → Trees B (take i S) n → length B + 2 * n ≤ i

@@ -14,7 +14,7 @@ use Rattle.grammar.specs.declared.Answer.{Answer}
 use Rattle.grammar.specs.declared.Answer.the-variants.{Tree as ATree, Error as AError, End, Stopped, Refused}
 use Rattle.grammar.specs.declared.Reader.{Reader}
 use Rattle.agreement.specs.Calls.{Entry, by-value, kept, Call, Gives, Run, no-call, a-call, defined, Does, takes-tree, takes-error, hands-over, ends, stops, refuses-reader, refuses-store}
-use Rattle.agreement.specs.Answers.{Seen, tree, seen-of, Remaining, ended, answered, passed, answers-of}
+use Rattle.agreement.specs.Answers.{Seen, tree, Roomy, seen-of, Remaining, ended, answered, passed, answers-of}
 use Rattle.agreement.specs.Laws.Does.{does}
 use Rattle.agreement.specs.Laws.Step.{Before, before-next}
 use Rattle.agreement.specs.Laws.Clean.{Clean, c-end, c-tree, seen-tree, step-is}
@@ -58,23 +58,26 @@ refused-same stops e = absurd (false≢true e)
 refused-same (refuses-reader n) e = refl
 refused-same (refuses-store a l) e = refl
 
+-- a store that is large enough
+abbrev store-for : List ℕ → Reader → List ℕ
+store-for T R = replicate (store-share * (length T / 2 - R .position)) 0
+
+roomy : (T : List ℕ) (R : Reader) → Roomy T R (length (store-for T R))
+roomy T R = omega (arith, length-replicate {A = ℕ} (store-share * (length T / 2 - R .position)) 0)
+
 module _ {T : List ℕ} where
   -- the remaining answers on a sheet before words that read cleanly: the trees, and then the end
   pub clean-remains : {ts : List ℕ} {R : Reader} {f : Forest} → Clean ts f → Before T R ts → Remaining T R (answers-of f)
   unfolding answers-of error-answer ifb
   clean-remains {R = R} (c-end e) b =
-      let m : ℕ = store-share * (length T / 2 - R .position) in
-      let S : List ℕ = replicate m 0 in
-      let n : length S ≡ m = length-replicate m 0 in
-      let s = step-is (length S) b (omega (arith, n)) e in
-      ended {R = R} by-value S (next-stmt R T (length S)) (omega (arith, n)) refl (ap (λ c. c .step .answer) s)
+      let S = store-for T R in
+      let s = step-is (length S) b (roomy T R) e in
+      ended {R = R} by-value S (next-stmt R T (length S)) (roomy T R) refl (ap (λ c. c .step .answer) s)
   clean-remains {R = R} (c-tree {t = t} {f = f} e c) b =
-      let m : ℕ = store-share * (length T / 2 - R .position) in
-      let S : List ℕ = replicate m 0 in
-      let n : length S ≡ m = length-replicate m 0 in
-      let s = step-is (length S) b (omega (arith, n)) e in
+      let S = store-for T R in
+      let s = step-is (length S) b (roomy T R) e in
       subst (λ a. Remaining T R (a ∷ answers-of f)) (ap seen-of s ∙ seen-tree (length S) t)
-      (answered {R = R} by-value S (next-stmt R T (length S)) (omega (arith, n)) refl (λ x. tree-no-end (sym (ap (λ c. c .step .answer) s) ∙ x))
+      (answered {R = R} by-value S (next-stmt R T (length S)) (roomy T R) refl (λ x. tree-no-end (sym (ap (λ c. c .step .answer) s) ∙ x))
       (subst (λ c. Remaining T (c .step .reader) (answers-of f)) (sym s) (clean-remains c (before-next b e))))
 
   pub remains-only : {ts : List ℕ} {R : Reader} {f : Forest} {xs : List Seen} → Remaining T R xs → Clean ts f → Before T R ts → xs ≡ answers-of f

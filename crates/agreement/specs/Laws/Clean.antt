@@ -36,7 +36,7 @@ seen-tree m t =
 -- what is seen of a call that reads the words ts
 data Told (ts : List ℕ) : Seen → Type 0 where
   told-tree : {t : Tree} {r ws : List ℕ} → next depth-limit [] ts ≡ ok t r → ws ≡ records t → Told ts (tree ws)
-  told-spoiled : {t : Tree} {q : List Error} {r ws : List ℕ} → next depth-limit [] ts ≡ bad t q r → Told ts (tree ws)
+  told-bad : {t : Tree} {q : List Error} {r ws : List ℕ} → next depth-limit [] ts ≡ bad t q r → Told ts (tree ws)
   told-end : {q : List Error} {r : List ℕ} → next depth-limit [] ts ≡ fail 0 q r → Told ts end
   told-error : {n : ℕ} → Told ts (error n)
   told-stopped : {n : ℕ} → Told ts (stopped n)
@@ -91,7 +91,7 @@ module _ {T : List ℕ} where
     where
       go : (d : Res Tree) → next depth-limit [] ts ≡ d → Told ts (seen-of (called (length T / 2) m (R .position) d))
       go (ok t r) e = subst (Told ts) (sym (seen-tree m t)) (told-tree e refl)
-      go (bad t q r) e = told-spoiled e
+      go (bad t q r) e = told-bad e
       go (fail n q r) e = at-fail (eqb n 0) refl
         where
           at-fail : (c : Bool) → eqb n 0 ≡ c → Told ts (seen (ifb c (λ _. End) (λ _. AError (error-kind n))) (replicate m 0))
@@ -125,9 +125,9 @@ module _ {T : List ℕ} where
   faultless {ts} {R} (then {xs = ys} m h i l n) (a-tree {ws = ws} g) b =
       step (told m b h i) λ t r e. faultless (subst (λ x. Reads T (x .step .reader) ys) (step-is m b h e) n) g (before-next b e)
     where
-      spoiled : {t : Tree} {q : List Error} {r : List ℕ} → next depth-limit [] ts ≡ bad t q r → ⊥
-      spoiled {q = q} e = omega (arith, bad-waits depth-limit ts e, faultless-before _ q (subst (λ c. Reads T (c .step .reader) ys) (step-is m b h e) n) g .none-waits)
+      not-bad : {t : Tree} {q : List Error} {r : List ℕ} → next depth-limit [] ts ≡ bad t q r → ⊥
+      not-bad {q = q} e = omega (arith, bad-waits depth-limit ts e, faultless-before _ q (subst (λ c. Reads T (c .step .reader) ys) (step-is m b h e) n) g .none-waits)
 
       step : Told ts (tree ws) → ((t : Tree) (r : List ℕ) → next depth-limit [] ts ≡ ok t r → Faultless r ys) → Faultless ts (tree ws ∷ ys)
       step (told-tree {t = t} {r = r} e z) k = let f = k t r e in record { trees = more t (f .trees); clean = c-tree e (f .clean); answered = cc (f .answered) }
-      step (told-spoiled e) k = absurd (spoiled e)
+      step (told-bad e) k = absurd (not-bad e)

@@ -12,7 +12,8 @@ use Rattle.tree.specs.Tree.{Tree}
 use Rattle.grammar.specs.Reading.Limit.{depth-limit}
 use Rattle.grammar.specs.Reading.Result.{Error, Res, ok, bad, fail, stop, ifb}
 use Rattle.grammar.specs.Reading.Next.{error-kind, error-answer, reader-at, Called, bare, called, answered, next-stmt}
-use Rattle.grammar.specs.Laws.Progress.{Keep, k-ok, k-bad, k-fail, Taken, Ended, next-takes}
+use Rattle.grammar.specs.Laws.Keep.{Keep, k-ok, k-bad, k-fail}
+use Rattle.grammar.specs.Laws.Taken.{Taken, Ended, next-takes}
 use Rattle.grammar.specs.Promise.{Going, Outcome, no-sheet, no-reader, stopped, waited, short, reads, outcome}
 use Rattle.grammar.specs.declared.Answer.the-variants.{Error as AError, End}
 use Rattle.grammar.specs.declared.Reader.{Reader}

@@ -10,7 +10,8 @@ use Rattle.tree.specs.Tree.{Tree}
 use Rattle.grammar.specs.Reading.Limit.{depth-limit, length-limit, store-share}
 use Rattle.grammar.specs.Reading.Result.{ok}
 use Rattle.grammar.specs.Reading.Next.{reader-at, fresh, Accepted, called, next-stmt, next}
-use Rattle.grammar.specs.Laws.Progress.{Keep, k-ok, next-keeps}
+use Rattle.grammar.specs.Laws.Keep.{Keep, k-ok}
+use Rattle.grammar.specs.Laws.Progress.{next-keeps}
 use Rattle.grammar.specs.Laws.Returned.{fresh-accepted, returned-accepted}
 use Rattle.grammar.specs.Promise.{Going, reads, sole}
 use Rattle.grammar.specs.declared.Reader.{Reader}

@@ -19,7 +19,8 @@ use Rattle.grammar.specs.Canonical.Write.{own, run}
 use Rattle.grammar.specs.Canonical.Need.{need}
 use Rattle.grammar.specs.Canonical.Valid.{stmt, Valids}
 use Rattle.grammar.specs.Canonical.Writing.{clean-then, clean-from, clean-reading}
-use Rattle.grammar.specs.Laws.Progress.{Keep, k-ok, Taken, Ended, next-takes}
+use Rattle.grammar.specs.Laws.Keep.{Keep, k-ok}
+use Rattle.grammar.specs.Laws.Taken.{Taken, Ended, next-takes}
 use Rattle.grammar.specs.Theorems.{run-reads-back}
 use Rattle.agreement.specs.Answers.{Seen, Afresh, NoFault, answers-of, trees-of}
 use Rattle.agreement.specs.Laws.Clean.{Clean, c-end, c-tree, faultless-before, faultless}

@@ -33,16 +33,13 @@ among-need (later {u = u} {f = f} a) = omega (arith, most-more u f, among-need a
 
 -- what the writer leaves, by whether the output is too short
 abbrev outcome : Bool → Tree → ℕ → Wrote
-outcome true t m = bare m (Refused short-output)
-outcome false t m = record { answer = Tokens (length (statement-words t) / 2); output = statement-words t ++ replicate (m - length (statement-words t)) 0 }
+outcome b t m =
+    ifb b (λ _. bare m (Refused short-output)) λ _.
+    record { answer = Tokens (length (statement-words t) / 2); output = statement-words t ++ replicate (m - length (statement-words t)) 0 }
 
 writes-is : {t : Tree} (m : ℕ) → Valid stmt t → need t own ≤ depth-limit → write-stmt (records t) m ≡ outcome (ltb m (length (statement-words t))) t m
 unfolding write-stmt ifb
-writes-is {t} m h l = go (ltb m (length (statement-words t))) refl
-  where
-    go : (b : Bool) → ltb m (length (statement-words t)) ≡ b → write-stmt (records t) m ≡ outcome b t m
-    go true e = rw (decoded h, readable-valid t (valid-small h) .1 h, limit-exact h, le-ltb depth-limit (need t own) l, e)
-    go false e = rw (decoded h, readable-valid t (valid-small h) .1 h, limit-exact h, le-ltb depth-limit (need t own) l, e)
+writes-is {t} m h l = rw (decoded h, readable-valid t (valid-small h) .1 h, limit-exact h, le-ltb depth-limit (need t own) l)
 
 abbrev is-tokens : Written → Bool
 is-tokens (Tokens n) = true
@@ -55,6 +52,7 @@ module _ {t : Tree} (h : Valid stmt t) (l : need t own ≤ depth-limit) (output 
 
   -- the tokens come exactly if the output is long enough
   tokens-exact : Written-as t output answer output′ ↔ (length (statement-words t) ≤ length output)
+  unfolding ifb
   tokens-exact = go (ltb (length output) (length (statement-words t))) refl
     where
       go : (b : Bool) → ltb (length output) (length (statement-words t)) ≡ b → Written-as t output answer output′ ↔ (length (statement-words t) ≤ length output)
@@ -66,6 +64,7 @@ module _ {t : Tree} (h : Valid stmt t) (l : need t own ≤ depth-limit) (output 
 
   -- and 66 exactly if it is not
   short-exact : (answer ≡ Refused short-output) ↔ (length output < length (statement-words t))
+  unfolding ifb
   short-exact = go (ltb (length output) (length (statement-words t))) refl
     where
       go : (b : Bool) → ltb (length output) (length (statement-words t)) ≡ b → (answer ≡ Refused short-output) ↔ (length output < length (statement-words t))

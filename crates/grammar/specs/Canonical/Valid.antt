@@ -3,7 +3,7 @@ use mathlib.Core.Path.{_≡_}
 use mathlib.Core.Bool.{Bool, true, false, _&&_}
 use Prim.Native.Nat.{ℕ, zero, suc, pred, _+_, _*_, _<_, _^_}
 use lib.Dec.{eqb, ltb}
-use Rattle.operator.specs.Operator.{op-level, op-number, assign-code, unary-code}
+use Rattle.operator.specs.Operator.{op-level, op-number, assign-code, unary-code, level-count}
 use Rattle.tree.specs.NodeKind
 use Rattle.tree.specs.Tree.{Tree, Forest, none, more, one, two, kind-of}
 use Rattle.tree.specs.Node
@@ -70,9 +70,9 @@ mutual
     v-binary-op : {begin : Bool} {l : ℕ} {a b : Tree} (k : ℕ) → op-level k ≡ suc l → Valid (binop begin (suc l)) a → Valid (binop true l) b → Valid (binop begin (suc l)) (Node.binary-op (op-number k) a b)
     v-assign : {p : Place} {close : Bool} {a : ℕ} {lhs rhs : Tree} (k : ℕ) → eqb (assign-code k) 0 ≡ false → Pattern lhs → Valid (ex true close) rhs
         → (fun-gives p (a + 4 * pred (assign-code k)) && has-function (two lhs rhs)) ≡ false → Valid (assign p close a) (Node.assignment a (pred (assign-code k)) lhs rhs)
-    v-inner : {begin close : Bool} {t : Tree} → Valid (binop begin 10) t → Valid (plain begin close) t
-    v-single : {begin : Bool} {t : Tree} → Valid (binop begin 10) t → Valid (plain begin true) (Node.tuple (one t))
-    v-tuple : {begin close : Bool} {t u : Tree} {f : Forest} → Valid (binop begin 10) t → Valid (binop true 10) u → Valids (binop true 10) f → Valid (plain begin close) (Node.tuple (more t (more u f)))
+    v-inner : {begin close : Bool} {t : Tree} → Valid (binop begin level-count) t → Valid (plain begin close) t
+    v-single : {begin : Bool} {t : Tree} → Valid (binop begin level-count) t → Valid (plain begin true) (Node.tuple (one t))
+    v-tuple : {begin close : Bool} {t u : Tree} {f : Forest} → Valid (binop begin level-count) t → Valid (binop true level-count) u → Valids (binop true level-count) f → Valid (plain begin close) (Node.tuple (more t (more u f)))
     v-local : {begin close : Bool} {t : Tree} → Valid (assign own close 0) t → Valid (plain begin close) t
     v-plain : {begin close : Bool} {t : Tree} → Valid (plain begin close) t → Valid (ex begin close) t
     v-keyword : {begin close : Bool} {a : ℕ} {t : Tree} → a < 3 → Valid (assign own close (suc a)) t → Valid (ex begin close) t
@@ -88,7 +88,7 @@ mutual
     v-invoke-table : {f : Forest} → Valids table-item f → Valid (item true) (Node.invoke-table f)
     v-field : {v : ℕ} → IsNamed v → Valid field (Node.field-attribute v)
     v-field-index : {e : Tree} → Valid (ex true false) e → Valid field (Node.field-index e)
-    v-table-item : {i e : Tree} → Valid field i → Valid (binop true 10) e → Valid table-item (Node.table-item i e)
+    v-table-item : {i e : Tree} → Valid field i → Valid (binop true level-count) e → Valid table-item (Node.table-item i e)
     v-param : {v : ℕ} → IsNamed v → Valid param (Node.param-def v)
     v-branch : {c b : Tree} → Valid (ex true false) c → Valid block b → Valid branch (Node.conditional-branch c b)
     v-no-else : Valid else-clause Node.absent
@@ -120,7 +120,7 @@ mutual
   pub data Arguments : Forest → Type 0 where
     no-argument : Arguments none
     one-argument : {t : Tree} → Valid (ex true true) t → eqb (kind-of t) NodeKind.Tuple ≡ false → Arguments (one t)
-    arguments : {t u : Tree} {f : Forest} → Valid (binop true 10) t → Valid (binop true 10) u → Valids (binop true 10) f → Arguments (more t (more u f))
+    arguments : {t u : Tree} {f : Forest} → Valid (binop true level-count) t → Valid (binop true level-count) u → Valids (binop true level-count) f → Arguments (more t (more u f))
 
   -- patterns
   pub data Pattern : Tree → Type 0 where

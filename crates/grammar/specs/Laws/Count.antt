@@ -1,12 +1,12 @@
 -- No loop's count runs out before the tokens do: any two counts that are at least the number of words left give the same answer. Assumes nothing.
 use mathlib.Core.Path.{_≡_, refl, ap, sym, _∙_}
-use mathlib.Core.Bool.{Bool, true, false}
+use mathlib.Core.Bool.{Bool}
 use mathlib.Core.List.{List, _∷_}
 use Prim.Native.Nat.{ℕ, zero, suc, _≤_, _<_}
 use native.Mathlib.Omega.{arith}
 use lib.ListN.{length}
 use Rattle.tree.specs.Tree.{Tree}
-use Rattle.grammar.specs.Reading.Result.{Error, Res, bad, fail, spoil, either, then, ifb}
+use Rattle.grammar.specs.Reading.Result.{Error, Res, bad, fail, unclean, either, then, ifb}
 use Rattle.grammar.specs.Reading.Expr.{Depth, operators, binop-expr, members}
 use Rattle.grammar.specs.Reading.Primary.{table-items, path}
 use Rattle.grammar.specs.Reading.Block.{branches}
@@ -14,21 +14,19 @@ use Rattle.grammar.specs.Reading.Function.{params}
 use Rattle.grammar.specs.Reading.Stmt.{synchronize, stmts}
 use Rattle.grammar.specs.Reading.Depth.{at-depth}
 use Rattle.grammar.specs.Reading.Next.{start}
-use Rattle.grammar.specs.Laws.Progress.{Keep, k-ok, k-bad, k-fail, k-stop, Kept, Near, here, past, k-lose, First, look-keeps, expect-keeps, binop-keeps, expr-keeps, member-keeps, indexing-keeps, item-keeps, items-keeps, invocation-keeps, param-keeps, joined-keeps, control-keeps, stmt-keeps, caught-keeps, depth-keeps, Left, left-step, Words, short, some, words, look-short, expr-short, start-short}
+use Rattle.grammar.specs.Laws.Facts.{if-same}
+use Rattle.grammar.specs.Laws.Keep.{Keep, k-ok, k-bad, k-fail, k-stop, Kept, Near, here, past, k-lose, First}
+use Rattle.grammar.specs.Laws.Progress.{look-keeps, expect-keeps, binop-keeps, expr-keeps, member-keeps, indexing-keeps, item-keeps, items-keeps, invocation-keeps, param-keeps, joined-keeps, control-keeps, stmt-keeps, caught-keeps, depth-keeps}
+use Rattle.grammar.specs.Laws.Taken.{Left, left-step, Words, short, some, words, look-short, expr-short, start-short}
 
 -- the same reading first, and ways to go on that agree where I holds; `then` hands a failure on, so that only a success counts
-
-same-if : {A : Type 0} (b : Bool) {x y x′ y′ : Unit {0} → A} → ((u : Unit {0}) → x u ≡ x′ u) → ((u : Unit {0}) → y u ≡ y′ u) → ifb b x y ≡ ifb b x′ y′
-unfolding ifb
-same-if true f g = f tt
-same-if false f g = g tt
 
 module _ (I : List ℕ → Type 0) where
   pub same-then : {A B : Type 0} (q : List Error) {d : Res A} {go go′ : A → List Error → List ℕ → Res B} → Keep I (λ e r. Unit {0}) d
       → ((a : A) (q : List Error) (r : List ℕ) → I r → go a q r ≡ go′ a q r) → then q d go ≡ then q d go′
   unfolding then
   same-then q (k-ok i) f = f _ _ _ i
-  same-then q (k-bad i) f = ap (spoil _) (f _ _ _ i)
+  same-then q (k-bad i) f = ap (unclean _) (f _ _ _ i)
   same-then q (k-fail i) f = refl
   same-then q k-stop f = refl
 
@@ -37,11 +35,11 @@ module _ (I : List ℕ → Type 0) where
       → either q d go or ≡ either q d go′ or′
   unfolding either
   same-either q (k-ok i) f g = f _ _ _ i
-  same-either q (k-bad i) f g = ap (spoil _) (f _ _ _ i)
-  same-either q (k-fail i) f g = ap (spoil _) (g _ _ _ i)
+  same-either q (k-bad i) f g = ap (unclean _) (f _ _ _ i)
+  same-either q (k-fail i) f g = ap (unclean _) (g _ _ _ i)
   same-either q k-stop f g = refl
 
-ruleset same = (same-if, k-lose, look-keeps, depth-keeps, here)
+ruleset same = (if-same, k-lose, look-keeps, depth-keeps, here)
 
 -- any two counts that are at least the number of words left give the same answer
 abbrev pub Enough : {A B : Type 0} → (ℕ → A → List Error → List ℕ → Res B) → Type 0
@@ -72,7 +70,7 @@ then-fails q go h = rw h
 ruleset fails = (then-fails, look-short, expr-short)
 
 pub synchronize-short : (low : Depth) (inside : Bool) (n : ℕ) (q : List Error) (ts : List ℕ) → length ts < 2 → synchronize low inside n q ts ≡ bad tt q ts
-unfolding synchronize either ifb spoil
+unfolding synchronize either ifb unclean
 synchronize-short low inside zero q ts s = refl
 synchronize-short low inside (suc n) q ts s = rw (look-short q ts s)
 

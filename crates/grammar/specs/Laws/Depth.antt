@@ -1,13 +1,13 @@
--- More depth does not change a reading that did not stop with 62, `too-deep`: `stmt-depth`, `expr-depth`, `next-depth`, `deep-enough`. Assumes nothing.
+-- More depth does not change a reading that did not stop with 62, `too-deep`: `next-depth`. Assumes nothing.
 -- A lemma for each nonterminal: over readings `up` that say what `low` says, or more, it says what it says over `low`, or more.
 use mathlib.Core.Path.{_≡_, refl}
 use mathlib.Core.Logic.{_≢_}
-use mathlib.Core.Bool.{Bool, true, false}
+use mathlib.Core.Bool.{Bool}
 use mathlib.Core.List.{List, [], _∷_}
 use Prim.Native.Nat.{ℕ, zero, suc, _≤_, zero-le, suc-le-suc}
 use Rattle.tree.specs.Tree.{Tree, Forest}
 use Rattle.grammar.specs.Reading.Limit.{too-deep}
-use Rattle.grammar.specs.Reading.Result.{Error, Res, ok, bad, fail, stop, spoil, either, then, ifb, push}
+use Rattle.grammar.specs.Reading.Result.{Error, Res, ok, bad, fail, stop, unclean, either, then, ifb, push}
 use Rattle.grammar.specs.Reading.Expr.{Depth, operators, binop-expr, members, tuple-expr, expr}
 use Rattle.grammar.specs.Reading.Primary.{group-expr, atom, indexing-expr, table-field, table-item, table-items, invocation, path, primary, unpack-expr}
 use Rattle.grammar.specs.Reading.Block.{body, block-expr, expr-label, branches}
@@ -15,6 +15,7 @@ use Rattle.grammar.specs.Reading.Function.{Params, plain-param, param, p
 use Rattle.grammar.specs.Reading.Stmt.{loop, while-loop, lvalue-list, for-loop, stmt-label, stmt, control-value, control-flow, synchronize, caught, stmts}
 use Rattle.grammar.specs.Reading.Depth.{primary-expr, unary-expr, at-depth}
 use Rattle.grammar.specs.Reading.Next.{front, failed, next}
+use Rattle.grammar.specs.Laws.Facts.{if-each}
 
 -- what the first says, the second says, but where the first stopped with 62
 pub data Le {A : Type 0} : Res A → Res A → Type 0 where
@@ -23,18 +24,18 @@ pub data Le {A : Type 0} : Res A → Res A → Type 0 where
 
 -- each way to put readings together keeps this
 
-le-spoil : {A : Type 0} (q : List Error) {d e : Res A} → Le d e → Le (spoil q d) (spoil q e)
-unfolding spoil
-le-spoil q le-same = le-same
-le-spoil q le-deep = le-deep
+le-unclean : {A : Type 0} (q : List Error) {d e : Res A} → Le d e → Le (unclean q d) (unclean q e)
+unfolding unclean
+le-unclean q le-same = le-same
+le-unclean q le-deep = le-deep
 
 le-either : {A B : Type 0} (q : List Error) {d e : Res A} {go go′ : A → List Error → List ℕ → Res B} {or or′ : Error → List Error → List ℕ → Res B} → Le d e
     → ((a : A) (q : List Error) (r : List ℕ) → Le (go a q r) (go′ a q r)) → ((n : Error) (q : List Error) (r : List ℕ) → Le (or n q r) (or′ n q r))
     → Le (either q d go or) (either q e go′ or′)
 unfolding either
 le-either q₀ {d = ok a r} le-same f g = f a q₀ r
-le-either q₀ {d = bad a q r} le-same f g = le-spoil _ (f a q r)
-le-either q₀ {d = fail n q r} le-same f g = le-spoil _ (g n q r)
+le-either q₀ {d = bad a q r} le-same f g = le-unclean _ (f a q r)
+le-either q₀ {d = fail n q r} le-same f g = le-unclean _ (g n q r)
 le-either q₀ {d = stop n} le-same f g = le-same
 le-either q₀ le-deep f g = le-deep
 
@@ -42,19 +43,17 @@ le-then : {A B : Type 0} (q : List Error) {d e : Res A} {go go′ : A → List E
     → ((a : A) (q : List Error) (r : List ℕ) → Le (go a q r) (go′ a q r)) → Le (then q d go) (then q e go′)
 unfolding then
 le-then q₀ {d = ok a r} le-same f = f a q₀ r
-le-then q₀ {d = bad a q r} le-same f = le-spoil _ (f a q r)
+le-then q₀ {d = bad a q r} le-same f = le-unclean _ (f a q r)
 le-then q₀ {d = fail n q r} le-same f = le-same
 le-then q₀ {d = stop n} le-same f = le-same
 le-then q₀ le-deep f = le-deep
 
 le-if : {A : Type 0} (b : Bool) {x y x′ y′ : Unit {0} → Res A} → ((u : Unit {0}) → Le (x u) (x′ u)) → ((u : Unit {0}) → Le (y u) (y′ u)) → Le (ifb b x y) (ifb b x′ y′)
-unfolding ifb
-le-if true f g = f tt
-le-if false f g = g tt
+le-if b f g = if-each Le b f g
 
 le-push : {A : Type 0} (e : Error) (q : List Error) {k k′ : List Error → Res A} → ((q : List Error) → Le (k q) (k′ q)) → Le (push e q k) (push e q k′)
 unfolding push
-le-push e q f = le-if _ (λ u. le-same) (λ u. le-spoil _ (f _))
+le-push e q f = le-if _ (λ u. le-same) (λ u. le-unclean _ (f _))
 
 le-front : {A : Type 0} (q : List Error) {k k′ : Error → List Error → Res A} → ((e : Error) (q : List Error) → Le (k e q) (k′ e q)) → Le (front q k) (front q k′)
 unfolding front
@@ -235,7 +234,7 @@ module _ (low up : Depth) (M : Mono low up) where
   unfolding unary-expr
   unary-mono = search (mono, primary-expr-mono, M .m-unary)
 
-pub depth-mono : {d e : ℕ} → d ≤ e → Mono (at-depth d) (at-depth e)
+depth-mono : {d e : ℕ} → d ≤ e → Mono (at-depth d) (at-depth e)
 unfolding at-depth
 depth-mono zero-le = record { m-unary = λ q ts. le-deep; m-right = λ q ts. le-deep; m-list = λ end q ts. le-deep }
 depth-mono (suc-le-suc {n = d} {m = e} h) =
@@ -245,11 +244,8 @@ depth-mono (suc-le-suc {n = d} {m = e} h) =
       m-list = λ end q ts. stmts-mono (at-depth d) (at-depth e) (depth-mono h) end _ _ q ts;
     }
 
-pub stmt-depth : {d e : ℕ} → d ≤ e → (q : List Error) (ts : List ℕ) → Le (stmt (at-depth d) q ts) (stmt (at-depth e) q ts)
+stmt-depth : {d e : ℕ} → d ≤ e → (q : List Error) (ts : List ℕ) → Le (stmt (at-depth d) q ts) (stmt (at-depth e) q ts)
 stmt-depth h = stmt-mono (at-depth _) (at-depth _) (depth-mono h)
-
-pub expr-depth : {d e : ℕ} → d ≤ e → (q : List Error) (ts : List ℕ) → Le (expr (at-depth d) q ts) (expr (at-depth e) q ts)
-expr-depth h = expr-mono (at-depth _) (at-depth _) (depth-mono h)
 
 failed-depth : {d e : ℕ} → d ≤ e → (n : Error) (q : List Error) (ts : List ℕ) → Le (failed d n q ts) (failed e n q ts)
 unfolding failed
@@ -263,6 +259,3 @@ next-depth h q ts = search (mono, stmt-depth h, failed-depth h)
 pub enough : {A : Type 0} {x y : Res A} → Le x y → x ≢ stop too-deep → y ≡ x
 enough le-same n = refl
 enough le-deep n = absurd (n refl)
-
-pub deep-enough : {d e : ℕ} → d ≤ e → (q : List Error) (ts : List ℕ) → next d q ts ≢ stop too-deep → next e q ts ≡ next d q ts
-deep-enough h q ts = enough (next-depth h q ts)

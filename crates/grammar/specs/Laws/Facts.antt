@@ -6,6 +6,7 @@ use Prim.Native.Nat.{ℕ, max}
 use native.Mathlib.Omega.{arith}
 use borrow.Author.Tests.{eqb-true, ne-eqb, leb-true, leb-false, le-leb, lt-leb}
 use lib.Dec.{eqb, leb}
+use Rattle.grammar.specs.Reading.Result.{ifb}
 
 -- a test that fails and passes
 pub clash : {A : Type 0} {b : Bool} → b ≡ true → b ≡ false → A
@@ -35,6 +36,24 @@ and-r false b e = absurd (true≢false (sym e))
 pub by-test : {P : Type 0} (b : Bool) → (b ≡ true → P) → (b ≡ false → P) → P
 by-test true f g = f refl
 by-test false f g = g refl
+
+-- what holds of both parts of a choice, with what its test came to and without, holds of the choice
+pub if-tested : {A : Type 0} (P : A → Type 0) (b : Bool) {x y : Unit {0} → A} → ((u : Unit {0}) → b ≡ true → P (x u)) → ((u : Unit {0}) → b ≡ false → P (y u)) → P (ifb b x y)
+unfolding ifb
+if-tested P true f g = f tt refl
+if-tested P false f g = g tt refl
+
+pub if-both : {A : Type 0} (P : A → Type 0) (b : Bool) {x y : Unit {0} → A} → ((u : Unit {0}) → P (x u)) → ((u : Unit {0}) → P (y u)) → P (ifb b x y)
+if-both P b f g = if-tested P b (λ u e. f u) (λ u e. g u)
+
+-- the same of two choices by one test
+pub if-each : {A B : Type 0} (R : A → B → Type 0) (b : Bool) {x y : Unit {0} → A} {x′ y′ : Unit {0} → B} → ((u : Unit {0}) → R (x u) (x′ u)) → ((u : Unit {0}) → R (y u) (y′ u)) → R (ifb b x y) (ifb b x′ y′)
+unfolding ifb
+if-each R true f g = f tt
+if-each R false f g = g tt
+
+pub if-same : {A : Type 0} (b : Bool) {x y x′ y′ : Unit {0} → A} → ((u : Unit {0}) → x u ≡ x′ u) → ((u : Unit {0}) → y u ≡ y′ u) → ifb b x y ≡ ifb b x′ y′
+if-same b f g = if-each (λ a b. a ≡ b) b f g
 
 -- one of two tests passed
 pub or-true : {P : Type 0} (a b : Bool) → a || b ≡ true → (a ≡ true → P) → (b ≡ true → P) → P

@@ -1,204 +1,27 @@
 -- Every tree that a reading gives, cleanly or not, has kinds below 256, so that its records tell the tree. Assumes nothing.
-use mathlib.Core.Bool.{Bool, true, false, cond}
+use mathlib.Core.Bool.{Bool, true, false}
 use mathlib.Core.List.{List}
-use Prim.Native.Nat.{ℕ, zero, suc, _+_, _*_, _/_, _<_}
+use Prim.Native.Nat.{ℕ, zero, suc}
 use native.Mathlib.Omega.{arith}
-use lib.Dec.{eqb}
 use lib.ListN.{length}
 use Rattle.token.specs.declared.Token.{Token}
-use Rattle.tree.specs.NodeKind
-use Rattle.tree.specs.Tree.{Tree, Forest, node, none, more, one, snoc, kind-of}
+use Rattle.operator.specs.Operator.{level-count}
+use Rattle.tree.specs.Tree.{Tree, Forest, none, one, snoc}
 use Rattle.tree.specs.Node
-use Rattle.tree.specs.Maybe.{Maybe, nothing, just, bindM, both, pick}
 use Rattle.tree.specs.Records.{Small, Smalls}
-use Rattle.grammar.specs.Reading.Result.{Error, Res, ok, bad, fail, stop, spoil, either, then, ifb}
-use Rattle.grammar.specs.Reading.Look.{look, expect, expect-pattern, try-label, try-assign-keyword}
-use Rattle.grammar.specs.Reading.Pattern.{Role, pattern, members, maybe, conv, all-conv, made, as-pattern, to-pattern, modified, grouped, over, listed, leaf, access, by-last, by-item, by-attribute, by-index, receiver, last-of, front-of}
-use Rattle.grammar.specs.Reading.Expr.{Stmts, Depth, operators, binop-expr, members as members-read, tuple-expr, expr}
-use Rattle.grammar.specs.Reading.Primary.{with-action, group-expr, literal, atom, indexing-expr, field-name, table-field, table-item, table-items, member-access, list-members, arguments, invocation, path, with-path, primary, unpack-expr}
-use Rattle.grammar.specs.Reading.Block.{Split, whole, result, split-before, split-kids, split-last, split, block-split, block-of, body, block-expr, expr-label, branches}
-use Rattle.grammar.specs.Reading.Function.{Param, required, variadic, default, Params, param-mode, variadic-param, plain-param, param, joined, params, function-def, function-assignment-target, function-decl-expr}
+use Rattle.grammar.specs.Reading.Result.{Error, Res}
+use Rattle.grammar.specs.Reading.Look.{look, expect, try-label, try-assign-keyword}
+use Rattle.grammar.specs.Reading.Expr.{Depth, operators, binop-expr, members as members-read, tuple-expr, expr}
+use Rattle.grammar.specs.Reading.Primary.{group-expr, literal, atom, indexing-expr, field-name, table-field, table-item, table-items, member-access, invocation, path, with-path, primary, unpack-expr}
+use Rattle.grammar.specs.Reading.Block.{block-of, body, block-expr, expr-label, branches}
+use Rattle.grammar.specs.Reading.Function.{Param, Params, param-mode, variadic-param, plain-param, param, joined, params, function-def, function-assignment-target, function-decl-expr}
 use Rattle.grammar.specs.Reading.Stmt.{loop, while-loop, lvalue-list, for-loop, stmt-label, stmt, control-value, control-flow, control-last, caught, stmts}
 use Rattle.grammar.specs.Reading.Depth.{primary-expr, unary-expr, at-depth}
+use Rattle.grammar.specs.Laws.Holds.{Holds, h-ok, h-fail, h-stop, holds-then, holds-past, holds-either, holds-if}
+use Rattle.grammar.specs.Laws.Converted.{modified-small, pattern-small}
+use Rattle.grammar.specs.Laws.Parts.{smalls-snoc, SmallStmts, with-action-small, arguments-small, with-path-small, nothing-small, absent-small, index-small, invoke-table-small, branch-small, if-small, block-small, SmallParam, small-required, small-variadic, small-default, SmallParams, param-def-small, default-def-small}
 
--- P holds of what is read
-pub data Holds {A : Type 0} (P : A → Type 0) : Res A → Type 0 where
-  h-ok : {a : A} {r : List ℕ} → P a → Holds P (ok a r)
-  h-bad : {a : A} {q : List Error} {r : List ℕ} → P a → Holds P (bad a q r)
-  h-fail : {e : Error} {q : List Error} {r : List ℕ} → Holds P (fail e q r)
-  h-stop : {n : ℕ} → Holds P (stop n)
-
-holds-spoil : {A : Type 0} {P : A → Type 0} (q : List Error) {d : Res A} → Holds P d → Holds P (spoil q d)
-unfolding spoil
-holds-spoil q (h-ok x) = h-bad x
-holds-spoil q (h-bad x) = h-bad x
-holds-spoil q h-fail = h-fail
-holds-spoil q h-stop = h-stop
-
-pub holds-then : {A B : Type 0} {Q : A → Type 0} {P : B → Type 0} (q : List Error) {d : Res A} {k : A → List Error → List ℕ → Res B}
-    → Holds Q d → ((a : A) (q : List Error) (r : List ℕ) → Q a → Holds P (k a q r)) → Holds P (then q d k)
-unfolding then
-holds-then q (h-ok x) h = h _ _ _ x
-holds-then q (h-bad x) h = holds-spoil _ (h _ _ _ x)
-holds-then q h-fail h = h-fail
-holds-then q h-stop h = h-stop
-
--- of what was read nothing is asked
-pub holds-past : {A B : Type 0} {P : B → Type 0} (q : List Error) (d : Res A) {k : A → List Error → List ℕ → Res B} → ((a : A) (q : List Error) (r : List ℕ) → Holds P (k a q r)) → Holds P (then q d k)
-unfolding then
-holds-past q (ok a r) h = h _ _ _
-holds-past q (bad a q′ r) h = holds-spoil _ (h _ _ _)
-holds-past q (fail e q′ r) h = h-fail
-holds-past q (stop n) h = h-stop
-
-holds-either : {A B : Type 0} {Q : A → Type 0} {P : B → Type 0} (q : List Error) {d : Res A} {k : A → List Error → List ℕ → Res B} {or : Error → List Error → List ℕ → Res B}
-    → Holds Q d → ((a : A) (q : List Error) (r : List ℕ) → Q a → Holds P (k a q r)) → ((e : Error) (q : List Error) (r : List ℕ) → Holds P (or e q r)) → Holds P (either q d k or)
-unfolding either
-holds-either q (h-ok x) h g = h _ _ _ x
-holds-either q (h-bad x) h g = holds-spoil _ (h _ _ _ x)
-holds-either q h-fail h g = holds-spoil _ (g _ _ _)
-holds-either q h-stop h g = h-stop
-
-pub holds-if : {A : Type 0} {P : A → Type 0} (b : Bool) {x y : Unit {0} → Res A} → ((u : Unit {0}) → Holds P (x u)) → ((u : Unit {0}) → Holds P (y u)) → Holds P (ifb b x y)
-unfolding ifb
-holds-if true f g = f tt
-holds-if false f g = g tt
-
--- a forest with one tree more
-smalls-snoc : (f : Forest) (t : Tree) → Smalls f → Small t → Smalls (snoc f t)
-unfolding Small snoc
-smalls-snoc none t f h = (h, tt)
-smalls-snoc (more u g) t f h = (f .0, smalls-snoc g t (f .1) h)
-
--- what an expression converts to
-pub data Holds? {A : Type 0} (P : A → Type 0) : Maybe A → Type 0 where
-  none-held : Holds? P nothing
-  held : {a : A} → P a → Holds? P (just a)
-
-bind-held : {A B : Type 0} {P : A → Type 0} {Q : B → Type 0} {m : Maybe A} {k : A → Maybe B} → Holds? P m → ((a : A) → P a → Holds? Q (k a)) → Holds? Q (bindM m k)
-bind-held none-held f = none-held
-bind-held (held h) f = f _ h
-
-both-held : {t : Maybe Tree} {f : Maybe Forest} → Holds? Small t → Holds? Smalls f → Holds? Smalls (both more t f)
-unfolding Small
-both-held none-held g = none-held
-both-held (held h) none-held = none-held
-both-held {t = just t} {f = just f} (held h) (held g) = held {a = more t f} (h, g)
-
-leaf-small : (k v : ℕ) → k < 256 → (f : Forest) → Holds? Small (leaf k v f)
-unfolding Small
-leaf-small k v h none = held {a = node k v none} (h, tt)
-leaf-small k v h (more t f) = none-held
-
-over-small : (k : ℕ) → k < 256 → (f : Forest) → Smalls f → Holds? Small (over k f)
-unfolding Small
-over-small k h none g = none-held
-over-small k h (more p none) g = held {a = node k 0 (one p)} (h, g)
-over-small k h (more p (more q f)) g = none-held
-
-modified-small : (m : ℕ) (p : Tree) → Small p → Small (modified m p)
-unfolding Small
-modified-small zero p h = h
-modified-small (suc a) p h = (omega arith, (h, tt))
-
-grouped-small : (v : ℕ) (f : Forest) → Smalls f → Holds? Small (grouped v f)
-unfolding Small
-grouped-small v none g = none-held
-grouped-small v (more p none) g = held (modified-small v p (g .0))
-grouped-small v (more p (more q f)) g = none-held
-
-listed-small : (v : ℕ) (f : Forest) → Smalls f → Holds? Small (listed v f)
-unfolding Small
-listed-small v none g = none-held
-listed-small v (more p f) g = held {a = node NodeKind.List v (more p f)} (omega arith, g)
-
-front-small : (t : Tree) (f : Forest) → Small t → Smalls f → Smalls (front-of t f)
-unfolding Small front-of
-front-small t none h g = tt
-front-small t (more u f) h g = (h, front-small u f (g .0) (g .1))
-
-last-small : (t : Tree) (f : Forest) → Small t → Smalls f → Small (last-of t f)
-unfolding Small last-of
-last-small t none h g = h
-last-small t (more u f) h g = last-small u f (g .0) (g .1)
-
-item-small : (to i : Tree) → Small to → Small i → Holds? Small (by-item to i)
-unfolding Small
-item-small to (node k x f) h g = go (eqb k NodeKind.Attribute) (eqb k NodeKind.Index) f (g .1)
-  where
-    go : (b c : Bool) (f : Forest) → Smalls f → Holds? Small (pick b (λ _. by-attribute to x f) λ _. pick c (λ _. by-index to f) λ _. nothing)
-    go true c none s = held {a = Node.attribute-pattern to x} (omega arith, (h, tt))
-    go true c (more t f) s = none-held
-    go false true none s = none-held
-    go false true (more e none) s = held {a = Node.index-pattern to e} (omega arith, (h, s))
-    go false true (more e (more t f)) s = none-held
-    go false false f s = none-held
-
-last-item-small : (v w : ℕ) (a : Tree) (f : Forest) → Small a → Smalls f → Holds? Small (by-last v a w f)
-unfolding Small
-last-item-small v w a none h g = none-held
-last-item-small v w a (more t f) h g =
-    item-small (receiver v a w (front-of t f)) (last-of t f) (omega arith, (h, ((omega arith, front-small t f (g .0) (g .1)), tt))) (last-small t f (g .0) (g .1))
-
-access-small : (v : ℕ) (f : Forest) → Smalls f → Holds? Small (access v f)
-unfolding Small
-access-small v none g = none-held
-access-small v (more a none) g = none-held
-access-small v (more a (more (node k w f) none)) g = go (eqb k NodeKind.List)
-  where
-    go : (b : Bool) → Holds? Small (pick b (λ _. by-last v a w f) (λ _. nothing))
-    go true = last-item-small v w a f (g .0) (g .1 .0 .1)
-    go false = none-held
-access-small v (more a (more l (more t f))) g = none-held
-
-pattern-node-small : (k v : ℕ) (f : Forest) (kids : Role → Maybe Forest) → Smalls f → ((o : Role) → Holds? Smalls (kids o)) → Holds? Small (as-pattern k v f kids)
-pattern-node-small k v f kids g h = go (eqb k NodeKind.Identifier) (eqb k NodeKind.Group) (eqb k NodeKind.Unpack) (eqb k NodeKind.Tuple) (eqb k NodeKind.Primary)
-  where
-    go : (b c d x y : Bool) → Holds? Small (pick b (λ _. leaf NodeKind.IdentifierPattern v f) λ _. pick c (λ _. bindM (kids pattern) (grouped v)) λ _. pick d (λ _. bindM (kids maybe) (over NodeKind.Pack)) λ _.
-        pick x (λ _. bindM (kids members) (over NodeKind.TuplePattern)) λ _. pick y (λ _. access v f) λ _. nothing)
-    go true c d x y = leaf-small _ v (omega arith) f
-    go false true d x y = bind-held (h pattern) (grouped-small v)
-    go false false true x y = bind-held (h maybe) (over-small _ (omega arith))
-    go false false false true y = bind-held (h members) (over-small _ (omega arith))
-    go false false false false true = access-small v f g
-    go false false false false false = none-held
-
-made-small : (o : Role) (k v : ℕ) (f : Forest) (kids : Role → Maybe Forest) → Smalls f → ((o : Role) → Holds? Smalls (kids o)) → Holds? Small (made o k v f kids)
-made-small pattern k v f kids g h = pattern-node-small k v f kids g h
-made-small members k v f kids g h = go (eqb k NodeKind.List)
-  where
-    go : (b : Bool) → Holds? Small (pick b (λ _. bindM (kids pattern) (listed v)) (λ _. nothing))
-    go true = bind-held (h pattern) (listed-small v)
-    go false = none-held
-made-small maybe k v f kids g h = go (eqb k NodeKind.Absent)
-  where
-    go : (b : Bool) → Holds? Small (pick b (λ _. leaf NodeKind.Absent v f) (λ _. as-pattern k v f kids))
-    go true = leaf-small _ v (omega arith) f
-    go false = pattern-node-small k v f kids g h
-
-mutual
-  unfolding conv Small
-
-  convert-small : (t : Tree) (o : Role) → Small t → Holds? Small (conv t o)
-  convert-small (node k v f) o h = made-small o k v f (λ p. all-conv f p) (h .1) (λ p. converts-small f p (h .1))
-
-  converts-small : (f : Forest) (o : Role) → Smalls f → Holds? Smalls (all-conv f o)
-  converts-small none o h = held tt
-  converts-small (more t f) o h = both-held (convert-small t o (h .0)) (converts-small f o (h .1))
-
-pub pattern-small : (e : Error) (q : List Error) (ts : List ℕ) (t : Tree) → Small t → Holds Small (expect-pattern e (to-pattern t) q ts)
-unfolding expect-pattern
-pattern-small e q ts t h = go (to-pattern t) (convert-small t pattern h)
-  where
-    go : (m : Maybe Tree) → Holds? Small m → Holds Small (expect-pattern e m q ts)
-    go nothing none-held = h-fail
-    go (just p) (held x) = h-ok x
-
--- what a reading of each kind gives
-pub record SmallStmts (s : Stmts) : Type 0 where
-  pub suite : Smalls (s .suite)
-  pub control : Small (s .control)
-
+-- what the readings with one depth less give
 pub record SmallDepth (low : Depth) : Type 0 where
   pub s-unary : (q : List Error) (ts : List ℕ) → Holds Small (low .unary q ts)
   pub s-right : (q : List Error) (ts : List ℕ) → Holds Small (low .right q ts)
@@ -212,121 +35,12 @@ operators-small operand H l (suc n) left q ts h =
     (λ _. holds-then q (H q rest) λ right q₂ r x. operators-small operand H l n _ q₂ r (search (arith, h, x)))
     (λ _. h-ok h)
 
-with-action-small : (m : ℕ) (t : Tree) → Small t → Small (with-action m t)
-unfolding Small
-with-action-small zero t h = h
-with-action-small (suc a) (node k v f) h = go (eqb k NodeKind.Assignment)
-  where
-    go : (b : Bool) → Small (cond b (node k (a + 4 * (v / 4)) f) (node k v f))
-    go true = h
-    go false = h
-
 literal-small : (tok : Token) (q : List Error) (rest : List ℕ) → Holds Small (literal tok q rest)
 unfolding literal Small
 literal-small tok q rest =
     holds-if _ (λ _. h-ok (search arith)) λ _. holds-if _ (λ _. h-ok (search arith)) λ _. holds-if _ (λ _. h-ok (search arith)) λ _.
     holds-if _ (λ _. h-ok (search arith)) λ _. holds-if _ (λ _. h-ok (search arith)) λ _. holds-if _ (λ _. h-ok (search arith)) λ _.
     holds-if _ (λ _. h-ok (search arith)) λ _. h-fail
-
-arguments-small : (t : Tree) → Small t → Smalls (arguments t)
-unfolding Small
-arguments-small (node k v f) h = go (eqb k NodeKind.Tuple) f (h .1)
-  where
-    go : (b : Bool) (f : Forest) → Smalls f → Smalls (cond b (list-members f) (one (node k v f)))
-    go true none g = tt
-    go true (more (node k v f) g) s = s .0 .1
-    go false f g = ((h .0, g), tt)
-
-with-path-small : (a : Tree) (f : Forest) → Small a → Smalls f → Small (with-path a f)
-unfolding Small
-with-path-small a none h g = h
-with-path-small a (more i f) h g = search (arith, h, g)
-
-nothing-small : Smalls none
-unfolding Small
-nothing-small = tt
-
-absent-small : Small Node.absent
-unfolding Small
-absent-small = search arith
-
-index-small : (e : Tree) → Small e → Small (Node.index e)
-unfolding Small
-index-small e h = search (arith, h)
-
-invoke-table-small : (f : Forest) → Smalls f → Small (Node.invoke-table f)
-unfolding Small
-invoke-table-small f h = search (arith, h)
-
-branch-small : (c b : Tree) → Small c → Small b → Small (Node.conditional-branch c b)
-unfolding Small
-branch-small c b h g = search (arith, h, g)
-
-if-small : (f : Forest) (e : Tree) → Smalls f → Small e → Small (Node.if-expr f e)
-unfolding Small
-if-small f e h g = search (arith, h, g)
-
-made-block : (f : Forest) (c : Tree) → Smalls f → Small c → Small (Node.expr-block (Node.stmt-list f c) Node.absent)
-unfolding Small
-made-block f c h g = search (arith, h, g)
-
--- a block's statements and its result
-data SmallSplit : Split → Type 0 where
-  small-whole : {f : Forest} → Smalls f → SmallSplit (whole f)
-  small-result : {f : Forest} {e : Tree} → Smalls f → Small e → SmallSplit (result f e)
-
-before-small : (t : Tree) {s : Split} → Small t → SmallSplit s → SmallSplit (split-before t s)
-unfolding split-before Small
-before-small t h (small-whole {f = f} g) = small-whole {f = more t f} (h, g)
-before-small t h (small-result {f = f} g e) = small-result {f = more t f} (h, g) e
-
-kids-small : (k v : ℕ) (f : Forest) → k < 256 → Smalls f → SmallSplit (split-kids k v f)
-unfolding split-kids ifb Small
-kids-small k v none h g = small-whole {f = one (node k v none)} ((h, g), tt)
-kids-small k v (more e none) h g = go (eqb k NodeKind.Expression)
-  where
-    go : (b : Bool) → SmallSplit (ifb b (λ _. result none e) (λ _. whole (one (node k v (one e)))))
-    go true = small-result {f = none} tt (g .0)
-    go false = small-whole {f = one (node k v (one e))} ((h, g), tt)
-kids-small k v (more e (more u f)) h g = small-whole {f = one (node k v (more e (more u f)))} ((h, g), tt)
-
-split-small : (f : Forest) → Smalls f → SmallSplit (split f)
-unfolding split split-last Small
-split-small none h = small-whole {f = none} tt
-split-small (more (node k v f) none) h = kids-small k v f (h .0 .0) (h .0 .1)
-split-small (more t (more u f)) h = before-small t (h .0) (split-small (more u f) (h .1))
-
-split-block-small : {s : Split} → SmallSplit s → Small (block-split s)
-unfolding block-split Small
-split-block-small (small-whole g) = search (arith, g)
-split-block-small (small-result g e) = search (arith, g, e)
-
-block-small : (s : Stmts) → SmallStmts s → Small (block-of s)
-unfolding block-of ifb
-block-small s h = go (eqb (kind-of (s .control)) NodeKind.Absent)
-  where
-    go : (b : Bool) → Small (ifb b (λ _. block-split (split (s .suite))) (λ _. Node.expr-block (Node.stmt-list (s .suite) (s .control)) Node.absent))
-    go true = split-block-small (split-small (s .suite) (h .suite))
-    go false = made-block (s .suite) (s .control) (h .suite) (h .control)
-
--- parameters
-data SmallParam : Param → Type 0 where
-  small-required : {v : ℕ} → SmallParam (required v)
-  small-variadic : {v : ℕ} → SmallParam (variadic v)
-  small-default : {v : ℕ} {e : Tree} → Small e → SmallParam (default v e)
-
-record SmallParams (ps : Params) : Type 0 where
-  first : Smalls (ps .required-list)
-  second : Smalls (ps .default-list)
-  third : Small (ps .variadic-one)
-
-param-def-small : (v : ℕ) → Small (Node.param-def v)
-unfolding Small
-param-def-small v = search arith
-
-default-def-small : (v : ℕ) (e : Tree) → Small e → Small (Node.default-def v e)
-unfolding Small
-default-def-small v e h = search (arith, h)
 
 joined-small : (ps : Params) {p : Param} (k : ℕ) (q : List Error) (ts : List ℕ) → SmallParams ps → SmallParam p → Holds SmallParams (joined ps p k q ts)
 unfolding joined
@@ -346,13 +60,13 @@ module _ (low : Depth) (S : SmallDepth low) where
   members-small (suc n) f q ts h =
       holds-past q (look q ts) λ tok q₁ rest. holds-if _
       (λ _. holds-past q (look q rest) λ tok₂ q₂ rest₂. holds-if _ (λ _. h-ok (search (arith, h))) λ _.
-      holds-then q (binop-small 10 q rest) λ t q₃ r x. members-small n (snoc f t) q₃ r (smalls-snoc f t h x))
+      holds-then q (binop-small level-count q rest) λ t q₃ r x. members-small n (snoc f t) q₃ r (smalls-snoc f t h x))
       (λ _. h-ok (search (arith, h)))
 
   pub tuple-small : (q : List Error) (ts : List ℕ) → Holds Small (tuple-expr low q ts)
   unfolding tuple-expr Small
   tuple-small q ts =
-      holds-then q (binop-small 10 q ts) λ t q₁ r x.
+      holds-then q (binop-small level-count q ts) λ t q₁ r x.
       holds-past q₁ (look q₁ r) λ tok q₂ rest. holds-if _ (λ _. members-small (length r) (one t) q₁ r (x, tt)) (λ _. h-ok x)
 
   pub expr-small : (q : List Error) (ts : List ℕ) → Holds Small (expr low q ts)
@@ -399,7 +113,7 @@ module _ (low : Depth) (S : SmallDepth low) where
   table-item-small q ts =
       holds-then q (field-small q ts) λ f q₁ r x.
       holds-past q₁ (expect _ _ q₁ r) λ tok q₂ s.
-      holds-then q₂ (binop-small 10 q₂ s) λ e q₃ u y. h-ok (search (arith, x, y))
+      holds-then q₂ (binop-small level-count q₂ s) λ e q₃ u y. h-ok (search (arith, x, y))
 
   table-items-small : (n : ℕ) (f : Forest) (q : List Error) (ts : List ℕ) → Smalls f → Holds Smalls (table-items low n f q ts)
   unfolding table-items

@@ -1,5 +1,5 @@
 -- A tree is written as two words for each of its tokens. Assumes nothing.
-use mathlib.Core.Path.{_≡_, refl}
+use mathlib.Core.Path.{_≡_}
 use mathlib.Core.Bool.{Bool, true, false, _&&_}
 use mathlib.Core.List.{List, [], _∷_}
 use Prim.Native.Nat.{ℕ, zero, suc, _+_, _*_, _%_, _≤_, min}
@@ -15,11 +15,7 @@ use Rattle.grammar.specs.Canonical.Write.{Place, own, modified, targeted
 use Rattle.grammar.specs.Canonical.Writing.{statement-words}
 use Rattle.grammar.specs.Canonical.Count
 use Rattle.grammar.specs.Canonical.Count.{Counts, tokens, counts}
-
--- by cases of a test
-decide : {A : Type 0} (b : Bool) → (b ≡ true → A) → (b ≡ false → A) → A
-decide true f g = f refl
-decide false f g = g refl
+use Rattle.grammar.specs.Laws.Facts.{by-test}
 
 -- a law of every number: of the first n, and of those behind them
 abbrev Each : (ℕ → Type 0) → ℕ → Type 0
@@ -41,7 +37,7 @@ optional zero = omega arith
 optional (suc n) = omega arith
 
 named-length : (v : ℕ) → Adds (named v) (1 + v % 2)
-named-length v r = decide (eqb (v % 2) 0) (λ e. simp e (omega (arith, eqb-true))) (λ e. simp e (omega (arith, eqb-false)))
+named-length v r = by-test (eqb (v % 2) 0) (λ e. simp e (omega (arith, eqb-true))) (λ e. simp e (omega (arith, eqb-false)))
 
 if-length : (k : ℕ) (b : Bool) → Adds (tokens-if b (token k)) (Count.if-so b)
 if-length k true = omega arith
@@ -101,12 +97,12 @@ module _ {ws : List Words} {cs : List Counts} (h : Longs ws cs) (p : Place) (v :
 
   assignment-length : Law NodeKind.Assignment
   assignment-length =
-      decide (fun-gives p v && has-function f)
+      by-test (fun-gives p v && has-function f)
       (λ e. simp (e, first-length h, second-length h) (omega arith))
       (λ e. simp (e, keywords p v .0, first-length h, second-length h) (omega arith))
 
   pack-length : Law NodeKind.Pack
-  pack-length = decide (eqb (head-kind f) NodeKind.Pack) (λ e. simp (e, first-length h) (omega arith)) (λ e. simp (e, first-length h) (omega arith))
+  pack-length = by-test (eqb (head-kind f) NodeKind.Pack) (λ e. simp (e, first-length h) (omega arith)) (λ e. simp (e, first-length h) (omega arith))
 
   -- what is no kind of a node
   others : (k : ℕ) → 47 ≤ k → Law k

@@ -2,211 +2,31 @@
 -- for each nonterminal, and `depth-numbers`, `stmt-numbers`, `start-numbers`, `next-numbers`. The end is the start's: `next-end`. A statement that was read with errors
 -- leaves one that waits: `bad-waits`. Assumes nothing.
 use mathlib.Core.Path.{_≡_, refl}
-use mathlib.Core.Bool.{Bool, true, false, cond, false≢true}
-use mathlib.Core.List.{List, [], _∷_, _++_}
-use Prim.Native.Nat.{ℕ, zero, suc, pred, _≤_, _<_}
+use mathlib.Core.Bool.{Bool, true, false, false≢true}
+use mathlib.Core.List.{List, [], _∷_}
+use Prim.Native.Nat.{ℕ, zero, suc, _<_}
 use native.Mathlib.Omega.{arith}
-use borrow.Author.Tests.{eqb-false}
 use lib.Dec.{eqb}
-use lib.ListN.{length, length-append}
+use lib.ListN.{length}
 use Rattle.token.specs.Kind
 use Rattle.token.specs.declared.Token.{Token}
 use Rattle.token.specs.declared.Seen.{Seen}
 use Rattle.token.specs.declared.Seen.the-variants.{Good, LexerError, Nothing, Bad}
 use Rattle.tree.specs.Tree.{Tree, Forest}
 use Rattle.tree.specs.Maybe.{Maybe, nothing, just}
-use Rattle.grammar.specs.Reading.Limit.{queue-limit, malformed, too-deep, queue-full}
-use Rattle.grammar.specs.Reading.Result.{Error, Res, ok, bad, fail, stop, spoil, either, then, ifb, push, pop}
+use Rattle.grammar.specs.Reading.Limit.{malformed, too-deep}
+use Rattle.grammar.specs.Reading.Result.{Error, Res, ok, bad, fail, stop, unclean, either, then, ifb, push, pop}
 use Rattle.grammar.specs.Reading.Look.{looked, look, expect, expect-pattern, try-label, try-assign-keyword}
-use Rattle.grammar.specs.Reading.Expr.{Depth, operators, binop-expr, members, tuple-expr, keyword-alone, expr}
-use Rattle.grammar.specs.Reading.Primary.{group-expr, atom-error, literal, atom, indexing-expr, field-name, table-field, table-item, table-items, member-access, invocation, path, primary, unpack-expr}
+use Rattle.grammar.specs.Reading.Expr.{Depth, operators, binop-expr, members, tuple-expr, expr}
+use Rattle.grammar.specs.Reading.Primary.{group-expr, literal, atom, indexing-expr, field-name, table-field, table-item, table-items, member-access, invocation, path, primary, unpack-expr}
 use Rattle.grammar.specs.Reading.Block.{body, block-expr, expr-label, branches}
 use Rattle.grammar.specs.Reading.Function.{Param, required, variadic, default, Params, param-mode, variadic-param, plain-param, param, joined, params, function-def, function-assignment-target, function-decl-expr}
-use Rattle.grammar.specs.Reading.Stmt.{loop, while-loop, lvalue-list, for-loop, stmt-label, stmt, control-value, control-flow, not-last, control-last, synchronize, synchronized, caught, stmts}
+use Rattle.grammar.specs.Reading.Stmt.{loop, while-loop, lvalue-list, for-loop, stmt-label, stmt, control-value, control-flow, control-last, synchronize, synchronized, caught, stmts}
 use Rattle.grammar.specs.Reading.Depth.{primary-expr, unary-expr, at-depth}
 use Rattle.grammar.specs.Reading.Number
-use Rattle.grammar.specs.Reading.Next.{is-error, is-stop, start, front, failed, next}
-
--- the number of an error
-abbrev pub IsError : Error → Type 0
-IsError e = is-error e ≡ true
-
--- the number of a stop; 0 is none
-abbrev pub IsStop : ℕ → Type 0
-IsStop n = (is-stop n ≡ true) × (0 < n)
-
-pub data All (J : Error → Type 0) : List Error → Type 0 where
-  a-nil : All J []
-  a-cons : {e : Error} {q : List Error} → J e → All J q → All J (e ∷ q)
-
--- what may wait: errors, at least n of them, and no more than the queue takes
-pub record Waits (n : ℕ) (q : List Error) : Type 0 where
-  pub errors : All IsError q
-  pub few : length q ≤ queue-limit
-  pub many : n ≤ length q
-
--- what waits after a reading may wait, a success with errors leaves one that waits, a failure has the number of an error, and a stop that of a stop
-pub data Num {A : Type 0} (n : ℕ) : Res A → Type 0 where
-  n-ok : {a : A} {r : List ℕ} → Num n (ok a r)
-  n-bad : {a : A} {q : List Error} {r : List ℕ} → Waits n q → 0 < length q → Num n (bad a q r)
-  n-fail : {e : Error} {q : List Error} {r : List ℕ} → IsError e → Waits n q → Num n (fail e q r)
-  n-stop : {k : ℕ} → IsStop k → Num n (stop k)
-
-pub waits-none : Waits 0 []
-waits-none = record { errors = a-nil; few = omega arith; many = omega arith }
-
-waits-less : {n : ℕ} {q : List Error} → Waits (suc n) q → Waits n q
-waits-less w = record { errors = w .errors; few = w .few; many = omega (arith, w .many) }
-
--- an error joins the queue at its end, and leaves it at its front
-
-all-snoc : {J : Error → Type 0} {q : List Error} (e : Error) → J e → All J q → All J (q ++ e ∷ [])
-all-snoc e j a-nil = a-cons j a-nil
-all-snoc e j (a-cons i a) = a-cons i (all-snoc e j a)
-
-waits-snoc : {n : ℕ} (e : Error) (q : List Error) → IsError e → Waits n q → eqb (length q) queue-limit ≡ false → Waits (suc n) (q ++ e ∷ [])
-waits-snoc e q j w h =
-    let l = length-append q (e ∷ []) in
-    record { errors = all-snoc e j (w .errors); few = omega (arith, l, eqb-false (length q) queue-limit h); many = omega (arith, l, w .many) }
-
-pub waits-front : {n : ℕ} {e : Error} {q : List Error} → Waits n (e ∷ q) → IsError e × Waits (pred n) q
-waits-front {n} {e} {q} w = go (w .errors)
-  where
-    go : All IsError (e ∷ q) → IsError e × Waits (pred n) q
-    go (a-cons j a) = (j, record { errors = a; few = omega (arith, w .few); many = omega (arith, w .many) })
-
--- each way to put readings together keeps this
-
-n-spoil : {A : Type 0} {n : ℕ} {q : List Error} {d : Res A} → Waits n q → 0 < length q → Num n d → Num n (spoil q d)
-unfolding spoil
-n-spoil w l n-ok = n-bad w l
-n-spoil w l (n-bad v k) = n-bad v k
-n-spoil w l (n-fail j v) = n-fail j v
-n-spoil w l (n-stop p) = n-stop p
-
-n-then : {A B : Type 0} {n : ℕ} (q : List Error) {d : Res A} {go : A → List Error → List ℕ → Res B} → Waits n q → Num n d
-    → ((a : A) (q : List Error) (r : List ℕ) → Waits n q → Num n (go a q r)) → Num n (then q d go)
-unfolding then
-n-then q w n-ok f = f _ _ _ w
-n-then q w (n-bad v l) f = n-spoil v l (f _ _ _ v)
-n-then q w (n-fail j v) f = n-fail j v
-n-then q w (n-stop p) f = n-stop p
-
-n-if : {A : Type 0} {n : ℕ} (b : Bool) {x y : Unit {0} → Res A} → ((u : Unit {0}) → Num n (x u)) → ((u : Unit {0}) → Num n (y u)) → Num n (ifb b x y)
-unfolding ifb
-n-if true f g = f tt
-n-if false f g = g tt
-
--- the same of a reading that is no clean success, as what a failure is caught by
-pub data Caught {A : Type 0} (n : ℕ) : Res A → Type 0 where
-  c-bad : {a : A} {q : List Error} {r : List ℕ} → Waits n q → 0 < length q → Caught n (bad a q r)
-  c-fail : {e : Error} {q : List Error} {r : List ℕ} → IsError e → Waits n q → Caught n (fail e q r)
-  c-stop : {k : ℕ} → IsStop k → Caught n (stop k)
-
-c-spoil : {A : Type 0} {n : ℕ} {q : List Error} {d : Res A} → Waits n q → 0 < length q → Num n d → Caught n (spoil q d)
-unfolding spoil
-c-spoil w l n-ok = c-bad w l
-c-spoil w l (n-bad v k) = c-bad v k
-c-spoil w l (n-fail j v) = c-fail j v
-c-spoil w l (n-stop p) = c-stop p
-
-c-then : {A B : Type 0} {n : ℕ} (q : List Error) {d : Res A} {go : A → List Error → List ℕ → Res B} → Caught n d → ((a : A) (q : List Error) (r : List ℕ) → Waits n q → Num n (go a q r)) → Caught n (then q d go)
-unfolding then
-c-then q (c-bad w l) f = c-spoil w l (f _ _ _ w)
-c-then q (c-fail j w) f = c-fail j w
-c-then q (c-stop p) f = c-stop p
-
-c-push : {A : Type 0} {n : ℕ} (e : Error) (q : List Error) {k : List Error → Res A} → IsError e → Waits n q → ((q : List Error) → Waits (suc n) q → Num n (k q)) → Caught n (push e q k)
-unfolding push ifb
-c-push {n = n} e q {k} j w f = go (eqb (length q) queue-limit) refl
-  where
-    go : (b : Bool) → eqb (length q) queue-limit ≡ b → Caught n (ifb b (λ u. stop queue-full) (λ u. spoil (q ++ e ∷ []) (k (q ++ e ∷ []))))
-    go true h = c-stop {k = queue-full} (refl, omega arith)
-    go false h = let v = waits-snoc e q j w h in c-spoil (waits-less v) (omega (arith, v .many)) (f _ v)
-
--- what is caught is no longer clean
-n-caught : {A : Type 0} {n : ℕ} {d : Res A} → Caught n d → Num n d
-n-caught (c-bad w l) = n-bad w l
-n-caught (c-fail j w) = n-fail j w
-n-caught (c-stop p) = n-stop p
-
-n-stays : {A : Type 0} {n : ℕ} {d : Res A} (q : List Error) → Caught n d → Num n (spoil q d)
-unfolding spoil
-n-stays q (c-bad w l) = n-bad w l
-n-stays q (c-fail j w) = n-fail j w
-n-stays q (c-stop p) = n-stop p
-
-n-push : {A : Type 0} {n : ℕ} (e : Error) (q : List Error) {k : List Error → Res A} → IsError e → Waits n q → ((q : List Error) → Waits (suc n) q → Num n (k q)) → Num n (push e q k)
-n-push e q j w f = n-caught (c-push e q j w f)
-
-n-either : {A B : Type 0} {n : ℕ} (q : List Error) {d : Res A} {go : A → List Error → List ℕ → Res B} {or : Error → List Error → List ℕ → Res B} → Waits n q → Num n d
-    → ((a : A) (q : List Error) (r : List ℕ) → Waits n q → Num n (go a q r)) → ((e : Error) (q : List Error) (r : List ℕ) → IsError e → Waits n q → Caught n (or e q r))
-    → Num n (either q d go or)
-unfolding either
-n-either q w n-ok f g = f _ _ _ w
-n-either q w (n-bad v l) f g = n-spoil v l (f _ _ _ v)
-n-either q w (n-fail j v) f g = n-stays _ (g _ _ _ j v)
-n-either q w (n-stop p) f g = n-stop p
-
-n-pop : {A : Type 0} {n : ℕ} (q : List Error) (r : List ℕ) → Waits (suc n) q → Caught {A = A} n (pop q r)
-unfolding pop
-n-pop [] r w = absurd (omega (arith, w .many))
-n-pop (e ∷ q) r w = let (j, v) = waits-front w in c-fail j v
-
--- a resynchronization: it fails never, and where nothing waits before it nothing need wait after it
-data Past (n : ℕ) : Res (Unit {0}) → Type 0 where
-  p-ok : {u : Unit {0}} {r : List ℕ} → Past n (ok u r)
-  p-bad : {u : Unit {0}} {q : List Error} {r : List ℕ} → Waits n q → Past n (bad u q r)
-  p-stop : {k : ℕ} → IsStop k → Past n (stop k)
-
-p-spoil : {n : ℕ} {q : List Error} {d : Res (Unit {0})} → Waits n q → Past n d → Past n (spoil q d)
-unfolding spoil
-p-spoil w p-ok = p-bad w
-p-spoil w (p-bad v) = p-bad v
-p-spoil w (p-stop k) = p-stop k
-
-p-either : {A : Type 0} {n : ℕ} (q : List Error) {d : Res A} {go : A → List Error → List ℕ → Res (Unit {0})} {or : Error → List Error → List ℕ → Res (Unit {0})} → Waits n q → Num n d
-    → ((a : A) (q : List Error) (r : List ℕ) → Waits n q → Past n (go a q r)) → ((e : Error) (q : List Error) (r : List ℕ) → Waits n q → Past n (or e q r)) → Past n (either q d go or)
-unfolding either
-p-either q w n-ok f g = f _ _ _ w
-p-either q w (n-bad v l) f g = p-spoil v (f _ _ _ v)
-p-either q w (n-fail j v) f g = p-spoil v (g _ _ _ v)
-p-either q w (n-stop k) f g = p-stop k
-
-p-if : {n : ℕ} (b : Bool) {x y : Unit {0} → Res (Unit {0})} → ((u : Unit {0}) → Past n (x u)) → ((u : Unit {0}) → Past n (y u)) → Past n (ifb b x y)
-unfolding ifb
-p-if true f g = f tt
-p-if false f g = g tt
-
--- what follows it, where something waited; and a failure behind it
-n-behind : {n : ℕ} (q : List Error) {d : Res (Unit {0})} {go : Unit {0} → List Error → List ℕ → Res (Unit {0})} → Waits (suc n) q → Past (suc n) d
-    → ((u : Unit {0}) (q : List Error) (r : List ℕ) → Waits (suc n) q → Num n (go u q r)) → Num n (then q d go)
-unfolding then
-n-behind q w p-ok f = f _ _ _ w
-n-behind q w (p-bad v) f = n-spoil (waits-less v) (omega (arith, v .many)) (f _ _ _ v)
-n-behind q w (p-stop k) f = n-stop k
-
-c-failing : {A : Type 0} {n : ℕ} (q : List Error) {d : Res (Unit {0})} (e : Error) → IsError e → Waits n q → Past n d → Caught {A = A} n (then q d λ u q r. fail e q r)
-unfolding then spoil
-c-failing q e j w p-ok = c-fail j w
-c-failing q e j w (p-bad v) = c-fail j v
-c-failing q e j w (p-stop k) = c-stop k
-
--- an error chosen among errors
-e-cond : (b : Bool) (x y : Error) → IsError x → IsError y → IsError (cond b x y)
-e-cond true x y i j = i
-e-cond false x y i j = j
-
-keyword-alone-is : (m : ℕ) → IsError (keyword-alone m)
-keyword-alone-is m = search e-cond
-
-atom-error-is : (k : ℕ) → IsError (atom-error k)
-atom-error-is k = search e-cond depth 12
-
-not-last-is : (k : ℕ) → IsError (not-last k)
-not-last-is k = search e-cond
-
-ruleset nums = (n-ok, n-fail, n-then, n-either, n-if, n-push, c-fail, c-then, keyword-alone-is, atom-error-is, not-last-is)
+use Rattle.grammar.specs.Reading.Next.{start, front, failed, next}
+use Rattle.grammar.specs.Laws.Facts.{if-both}
+use Rattle.grammar.specs.Laws.Waits.{IsError, IsStop, Waits, Num, n-ok, n-bad, n-fail, n-stop, waits-none, waits-front, Caught, c-fail, Past, p-ok, p-bad, nums, waits-less, n-unclean, n-then, n-if, c-push, n-caught, n-stays, n-pop, p-either, p-if, n-behind, c-failing}
 
 -- the same of a reading, whatever waits and is left
 abbrev pub Numbered : {A : Type 0} → (List Error → List ℕ → Res A) → Type 0
@@ -289,7 +109,7 @@ synchronized-nums {n} q ts w = go (look q ts) (look-nums (suc n) q ts w)
   where
     go : (d : Res Token) → Num (suc n) d → Num {A = Unit {0}} n (either q d (λ tok q₁ rest. ifb (eqb (tok .kind) Kind.EOF) (λ _. pop q ts) (λ _. ok tt ts)) (λ e q₁ r. pop q₁ r))
     go (ok tok r) h = n-if _ (λ u. n-caught (n-pop q ts w)) (λ u. n-ok)
-    go (bad tok p r) (n-bad v l) = n-spoil (waits-less v) l (n-if _ (λ u. n-caught (n-pop q ts w)) (λ u. n-ok))
+    go (bad tok p r) (n-bad v l) = n-unclean (waits-less v) l (n-if _ (λ u. n-caught (n-pop q ts w)) (λ u. n-ok))
     go (fail e p r) (n-fail j v) = n-stays p (n-pop p r v)
     go (stop k) (n-stop x) = n-stop x
 
@@ -499,28 +319,26 @@ module _ {X : List ℕ → Type 0} where
   t-then w (t-end x) f = t-end x
   t-then {q = q} w (t-num n) f = t-num (n-then q w n f)
 
-  t-spoil : {A : Type 0} {n : ℕ} {q p : List Error} {d : Res A} → Waits n p → 0 < length p → Top X n q d → Top X n q (spoil p d)
-  unfolding spoil
-  t-spoil w l (t-end x) = t-end x
-  t-spoil w l (t-num n) = t-num (n-spoil w l n)
+  t-unclean : {A : Type 0} {n : ℕ} {q p : List Error} {d : Res A} → Waits n p → 0 < length p → Top X n q d → Top X n q (unclean p d)
+  unfolding unclean
+  t-unclean w l (t-end x) = t-end x
+  t-unclean w l (t-num n) = t-num (n-unclean w l n)
 
   t-if : {A : Type 0} {n : ℕ} {q : List Error} (b : Bool) {x y : Unit {0} → Res A} → ((u : Unit {0}) → Top X n q (x u)) → ((u : Unit {0}) → Top X n q (y u)) → Top X n q (ifb b x y)
-  unfolding ifb
-  t-if true f g = f tt
-  t-if false f g = g tt
+  t-if {n = n} {q = q} b f g = if-both (Top X n q) b f g
 
   t-either : {A B : Type 0} {n : ℕ} {q : List Error} (p : List Error) {d : Res A} {go : A → List Error → List ℕ → Res B} (or : Error → List Error → List ℕ → Res B) → Waits n p → Num n d
-      → ((a : A) (p : List Error) (r : List ℕ) → Waits n p → Top X n q (go a p r)) → ((e : Error) (p : List Error) (r : List ℕ) → IsError e → Waits n p → Top X n q (spoil p (or e p r)))
+      → ((a : A) (p : List Error) (r : List ℕ) → Waits n p → Top X n q (go a p r)) → ((e : Error) (p : List Error) (r : List ℕ) → IsError e → Waits n p → Top X n q (unclean p (or e p r)))
       → Top X n q (either p d go or)
   unfolding either
   t-either p or w n-ok f g = f _ _ _ w
-  t-either p or w (n-bad v l) f g = t-spoil v l (f _ _ _ v)
+  t-either p or w (n-bad v l) f g = t-unclean v l (f _ _ _ v)
   t-either p or w (n-fail j v) f g = g _ _ _ j v
   t-either p or w (n-stop s) f g = t-num (n-stop s)
 
 -- a lexer error, or no token left, which is the end
-start-fails : {n : ℕ} (b : Bool) (e : Error) (q p : List Error) (ts r : List ℕ) → IsError e → Waits n q → Top {A = Unit {0}} (λ r. Unit {0}) n q (spoil p (ifb b (λ _. fail 0 q ts) (λ _. fail e q r)))
-unfolding spoil ifb
+start-fails : {n : ℕ} (b : Bool) (e : Error) (q p : List Error) (ts r : List ℕ) → IsError e → Waits n q → Top {A = Unit {0}} (λ r. Unit {0}) n q (unclean p (ifb b (λ _. fail 0 q ts) (λ _. fail e q r)))
+unfolding unclean ifb
 start-fails true e q p ts r j w = t-end tt
 start-fails false e q p ts r j w = t-num (n-fail j w)
 

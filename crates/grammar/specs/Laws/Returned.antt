@@ -14,7 +14,9 @@ use Rattle.grammar.specs.Reading.Limit.{queue-limit}
 use Rattle.grammar.specs.Reading.Result.{Error, Res, ifb}
 use Rattle.grammar.specs.Reading.Next.{is-error, queue-fits, pad, reader-at, fresh, Accepted, Called, called, answered, next-stmt}
 use Rattle.grammar.specs.declared.Reader.{Reader}
-use Rattle.grammar.specs.Laws.Numbers.{IsError, IsStop, All, a-nil, a-cons, Waits, waits-none, waits-front, n-ok, n-bad, n-fail, n-stop, Top, t-end, t-num, next-numbers}
+use Rattle.grammar.specs.Laws.Facts.{if-both}
+use Rattle.grammar.specs.Laws.Waits.{IsError, IsStop, All, a-nil, a-cons, Waits, waits-none, waits-front, n-ok, n-bad, n-fail, n-stop}
+use Rattle.grammar.specs.Laws.Numbers.{Top, t-end, t-num, next-numbers}
 
 -- a queue in its array fits, and what fits is a queue
 
@@ -62,11 +64,6 @@ pub data Returned (T : List ℕ) (R : Reader) : Reader → Type 0 where
 abbrev Leaves : List ℕ → Reader → Called → Type 0
 Leaves T R c = Returned T R (c .step .reader)
 
-leaves-if : {T : List ℕ} {R : Reader} (b : Bool) (x y : Unit {0} → Called) → ((u : Unit {0}) → Leaves T R (x u)) → ((u : Unit {0}) → Leaves T R (y u)) → Leaves T R (ifb b x y)
-unfolding ifb
-leaves-if true x y f g = f tt
-leaves-if false x y f g = g tt
-
 called-leaves : {X : List ℕ → Type 0} {T : List ℕ} {R : Reader} (m : ℕ) {d : Res Tree} → Top X 0 [] d → Leaves T R (called (length T / 2) m (R .position) d)
 called-leaves m (t-end x) = waiting-at _ _ (sub-le _ _) waits-none
 called-leaves m (t-num n-ok) = waiting-at _ _ (sub-le _ _) waits-none
@@ -84,12 +81,12 @@ given-waits {R} f = record { errors = fits-all _ _ (f .queue); few = omega (arit
 pub returned : (R : Reader) (T : List ℕ) (m : ℕ) → Accepted T R → Returned T R (next-stmt R T m .step .reader)
 unfolding next-stmt
 returned R T m f =
-    leaves-if _ _ _ (λ u. stopped-at _ (refl, omega arith)) λ u.
-    leaves-if _ _ _ (λ u. as-given) λ u.
-    leaves-if _ _ _
-    (λ u. leaves-if _ _ _ (λ u. as-given) λ u.
-    leaves-if _ _ _ (λ u. answered-leaves m _ f (given-waits f)) λ u.
-    leaves-if _ _ _ (λ u. as-given) λ u.
+    if-both (Leaves T R) _ (λ u. stopped-at _ (refl, omega arith)) λ u.
+    if-both (Leaves T R) _ (λ u. as-given) λ u.
+    if-both (Leaves T R) _
+    (λ u. if-both (Leaves T R) _ (λ u. as-given) λ u.
+    if-both (Leaves T R) _ (λ u. answered-leaves m _ f (given-waits f)) λ u.
+    if-both (Leaves T R) _ (λ u. as-given) λ u.
     called-leaves m (next-numbers _ 0 [] _ waits-none))
     (λ u. as-given)
 

@@ -11,15 +11,20 @@ use Rattle.tree.specs.Node
 use Rattle.grammar.specs.Reading.Primary.{with-action, arguments as arguments-of}
 use Rattle.grammar.specs.Reading.Function.{target-name}
 use Rattle.grammar.specs.Canonical.Write.{Place, own, modified, target-atom, target-items, is-target, function-named, has-function, fun-gives}
-use Rattle.grammar.specs.Canonical.Valid.{prim, tight, unary, binop, assign, plain, ex, given, function, item, Valid, Valids, Arguments, Pattern, Target, v-nil, v-empty-tuple, v-identifier, v-true, v-false, v-integer, v-float, v-string, v-group, v-modified, v-atom, v-primary, v-prim, v-unpack, v-ellipsis, v-table, v-function, v-target, v-if, v-block, v-labelled, v-tight, v-unary-op, v-unary, v-up, v-binary-op, v-assign, v-inner, v-single, v-tuple, v-local, v-plain, v-keyword, v-given, v-given-assign, v-given-target, v-function-def, v-function-default, v-function-variadic, v-attribute, v-index, v-invoke, v-invoke-table, v-none, v-more, p-identifier, p-attribute, p-index, p-tuple, p-pack, p-ellipsis, p-modifier, one-argument, arguments, t-name, t-attribute, t-index}
+use Rattle.grammar.specs.Canonical.Valid.{prim, tight, unary, binop, assign, plain, ex, given, function, item, Valid, Valids, Arguments, Pattern, Target, v-nil, v-empty-tuple, v-identifier, v-true, v-false, v-integer, v-float, v-string, v-group, v-modified, v-atom, v-primary, v-prim, v-unpack, v-ellipsis, v-table, v-function, v-target, v-if, v-block, v-labelled, v-tight, v-unary-op, v-unary, v-up, v-binary-op, v-assign, v-inner, v-single, v-tuple, v-local, v-plain, v-keyword, v-given, v-given-assign, v-given-target, v-function-def, v-function-default, v-function-variadic, v-attribute, v-index, v-invoke, v-invoke-table, v-none, v-more, p-identifier, p-attribute, p-index, p-tuple, p-pack, p-ellipsis, p-modifier, one-argument, t-name, t-attribute, t-index}
+use Rattle.grammar.specs.Reading.Primary.{arguments}
 use borrow.Author.Tests.{eqb-true, ltb-true}
 use Rattle.grammar.specs.Laws.Facts.{clash, by-test, and-l, and-r}
+use Rattle.grammar.specs.Laws.Roles.{same-action}
 
 -- a root that is no assignment, no function and no tuple
 pub record Other (t : Tree) : Type 0 where
   pub no-assignment : eqb (kind-of t) NodeKind.Assignment ≡ false
   pub no-function : eqb (kind-of t) NodeKind.FunctionDef ≡ false
   pub no-tuple : eqb (kind-of t) NodeKind.Tuple ≡ false
+
+other-root : {k v : ℕ} {f : Forest} → eqb k NodeKind.Assignment ≡ false → eqb k NodeKind.FunctionDef ≡ false → eqb k NodeKind.Tuple ≡ false → Other (node k v f)
+other-root a b c = record { no-assignment = a; no-function = b; no-tuple = c }
 
 -- the roots of an operand
 pub data View : Tree → Type 0 where
@@ -28,37 +33,37 @@ pub data View : Tree → Type 0 where
   is-other : {t : Tree} → Other t → View t
 
 prim-other : {t : Tree} → Valid prim t → Other t
-prim-other (v-atom v-nil) = record { no-assignment = refl; no-function = refl; no-tuple = refl }
-prim-other (v-atom v-empty-tuple) = record { no-assignment = refl; no-function = refl; no-tuple = refl }
-prim-other (v-atom (v-identifier n)) = record { no-assignment = refl; no-function = refl; no-tuple = refl }
-prim-other (v-atom v-true) = record { no-assignment = refl; no-function = refl; no-tuple = refl }
-prim-other (v-atom v-false) = record { no-assignment = refl; no-function = refl; no-tuple = refl }
-prim-other (v-atom (v-integer v)) = record { no-assignment = refl; no-function = refl; no-tuple = refl }
-prim-other (v-atom (v-float v)) = record { no-assignment = refl; no-function = refl; no-tuple = refl }
-prim-other (v-atom (v-string n)) = record { no-assignment = refl; no-function = refl; no-tuple = refl }
-prim-other (v-atom (v-group e)) = record { no-assignment = refl; no-function = refl; no-tuple = refl }
-prim-other (v-atom (v-modified a e)) = record { no-assignment = refl; no-function = refl; no-tuple = refl }
-prim-other (v-primary a i f) = record { no-assignment = refl; no-function = refl; no-tuple = refl }
+prim-other (v-atom v-nil) = other-root refl refl refl
+prim-other (v-atom v-empty-tuple) = other-root refl refl refl
+prim-other (v-atom (v-identifier n)) = other-root refl refl refl
+prim-other (v-atom v-true) = other-root refl refl refl
+prim-other (v-atom v-false) = other-root refl refl refl
+prim-other (v-atom (v-integer v)) = other-root refl refl refl
+prim-other (v-atom (v-float v)) = other-root refl refl refl
+prim-other (v-atom (v-string n)) = other-root refl refl refl
+prim-other (v-atom (v-group e)) = other-root refl refl refl
+prim-other (v-atom (v-modified a e)) = other-root refl refl refl
+prim-other (v-primary a i f) = other-root refl refl refl
 
 view-tight : {b : Bool} {t : Tree} → Valid (tight b) t → View t
 view-tight (v-prim h) = is-other (prim-other h)
-view-tight (v-unpack h) = is-other (record { no-assignment = refl; no-function = refl; no-tuple = refl })
-view-tight v-ellipsis = is-other (record { no-assignment = refl; no-function = refl; no-tuple = refl })
-view-tight (v-table f) = is-other (record { no-assignment = refl; no-function = refl; no-tuple = refl })
+view-tight (v-unpack h) = is-other (other-root refl refl refl)
+view-tight v-ellipsis = is-other (other-root refl refl refl)
+view-tight (v-table f) = is-other (other-root refl refl refl)
 view-tight (v-function h) = is-function h
 view-tight (v-target p d) = is-fun p d
-view-tight (v-if b f e) = is-other (record { no-assignment = refl; no-function = refl; no-tuple = refl })
-view-tight (v-block b) = is-other (record { no-assignment = refl; no-function = refl; no-tuple = refl })
-view-tight (v-labelled n b) = is-other (record { no-assignment = refl; no-function = refl; no-tuple = refl })
+view-tight (v-if b f e) = is-other (other-root refl refl refl)
+view-tight (v-block b) = is-other (other-root refl refl refl)
+view-tight (v-labelled n b) = is-other (other-root refl refl refl)
 
 view-unary : {b : Bool} {t : Tree} → Valid (unary b) t → View t
 view-unary (v-tight h) = view-tight h
-view-unary (v-unary-op k e h) = is-other (record { no-assignment = refl; no-function = refl; no-tuple = refl })
+view-unary (v-unary-op k e h) = is-other (other-root refl refl refl)
 
 view-binop : {b : Bool} {l : ℕ} {t : Tree} → Valid (binop b l) t → View t
 view-binop (v-unary h) = view-unary h
 view-binop (v-up h) = view-binop h
-view-binop (v-binary-op k e h g) = is-other (record { no-assignment = refl; no-function = refl; no-tuple = refl })
+view-binop (v-binary-op k e h g) = is-other (other-root refl refl refl)
 
 -- a function with the name n in its signature
 name-is : {t : Tree} (n : ℕ) → Valid (function 0) t → function-named n t ≡ true → 0 ≡ n
@@ -138,9 +143,6 @@ given-assign {a} {b} ha hb (v-assign {lhs = p} {rhs = d} k e h g i) =
   where
     small : fun-gives modified (a + 4 * pred (assign-code k)) ≡ true → pred (assign-code k) ≡ 0
     small y = let l = ltb-true (a + 4 * pred (assign-code k)) 4 y in omega arith
-
-same-action : (a : ℕ) (t : Tree) → eqb (kind-of t) NodeKind.Assignment ≡ false → with-action (suc a) t ≡ t
-same-action a (node k v f) e = rw e
 
 given-other : {a : ℕ} {t : Tree} → Valid (plain true true) t → eqb (kind-of t) NodeKind.Assignment ≡ false → Valid (given a) (with-action (suc a) t)
 given-other {a} {t} h e = subst (λ u. Valid (given a) u) (sym (same-action a t e)) (v-given e h)

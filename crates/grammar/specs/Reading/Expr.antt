@@ -6,7 +6,7 @@ use Prim.Native.Nat.{ℕ, zero, suc, pred}
 use lib.Dec.{eqb}
 use lib.ListN.{length}
 use Rattle.token.specs.Kind
-use Rattle.operator.specs.Operator.{op-level, op-number, assign-code}
+use Rattle.operator.specs.Operator.{op-level, op-number, assign-code, level-count}
 use Rattle.tree.specs.Tree.{Tree, Forest, one, snoc}
 use Rattle.tree.specs.Node
 use Rattle.grammar.specs.Reading.Pattern.{to-pattern}
@@ -50,7 +50,7 @@ binop-expr low (suc l) q ts =
 
 -- `parse_inner_expr` and `parse_binop_expr`, from `PRECEDENCE_START` on
 abbrev pub inner-expr : Depth → List Error → List ℕ → Res Tree
-inner-expr low = binop-expr low 10
+inner-expr low = binop-expr low level-count
 
 -- the members of a tuple, after some; a last comma counts only before `CloseParen`
 unfoldable pub members : Depth → ℕ → Forest → List Error → List ℕ → Res Tree

@@ -23,23 +23,23 @@ pub data Res (A : Type 0) : Type 0 where
   stop : ℕ → Res A
 
 -- what goes on from waiting errors q is no clean success any more
-unfoldable pub spoil : {A : Type 0} → List Error → Res A → Res A
-spoil q (ok a r) = bad a q r
-spoil q (bad a q′ r) = bad a q′ r
-spoil q (fail e q′ r) = fail e q′ r
-spoil q (stop n) = stop n
+unfoldable pub unclean : {A : Type 0} → List Error → Res A → Res A
+unclean q (ok a r) = bad a q r
+unclean q (bad a q′ r) = bad a q′ r
+unclean q (fail e q′ r) = fail e q′ r
+unclean q (stop n) = stop n
 
 -- one reading after another, where q waits before the first: `go` goes on from a success, `or` from an error
 unfoldable pub either : {A B : Type 0} → List Error → Res A → (A → List Error → List ℕ → Res B) → (Error → List Error → List ℕ → Res B) → Res B
 either q (ok a r) go or = go a q r
-either q (bad a q′ r) go or = spoil q′ (go a q′ r)
-either q (fail e q′ r) go or = spoil q′ (or e q′ r)
+either q (bad a q′ r) go or = unclean q′ (go a q′ r)
+either q (fail e q′ r) go or = unclean q′ (or e q′ r)
 either q (stop n) go or = stop n
 
 -- the same where an error is handed on, as the Rust's `?`
 unfoldable pub then : {A B : Type 0} → List Error → Res A → (A → List Error → List ℕ → Res B) → Res B
 then q (ok a r) go = go a q r
-then q (bad a q′ r) go = spoil q′ (go a q′ r)
+then q (bad a q′ r) go = unclean q′ (go a q′ r)
 then q (fail e q′ r) go = fail e q′ r
 then q (stop n) go = stop n
 
@@ -50,7 +50,7 @@ ifb false f g = g tt
 
 -- `push_back`: an error joins the queue; one more than its limit stops the reading
 unfoldable pub push : {A : Type 0} → Error → List Error → (List Error → Res A) → Res A
-push e q k = ifb (eqb (length q) queue-limit) (λ _. stop queue-full) (λ _. spoil (q ++ e ∷ []) (k (q ++ e ∷ [])))
+push e q k = ifb (eqb (length q) queue-limit) (λ _. stop queue-full) (λ _. unclean (q ++ e ∷ []) (k (q ++ e ∷ [])))
 
 -- `pop_front`: the error at the queue's front is on its way. Its callers have pushed one: the first clause is never reached
 unfoldable pub pop : {A : Type 0} → List Error → List ℕ → Res A

@@ -5,7 +5,7 @@ use native.Mathlib.Omega.{arith}
 use native.Mathlib.Nat.{le-trans, sub-le}
 use borrow.Author.Needs.{needs}
 use lib.ListN.{length, take}
-use Rattle.tree.specs.Rows.{Trees, Peeled, peel, enough, ended}
+use Rattle.tree.specs.Rows.{Trees, ScanStep, scan-step, enough, ended}
 use Rattle.pattern.proofs.skip.Statement.{statement}
 use Rattle.pattern.proofs.skip.Tie as tie
 
@@ -21,11 +21,11 @@ module _ (c : tie.In-loop Inv-loop μ-loop) where
   abbrev start : tie.Start Inv-loop μ-loop
   start = c .before .before
 
-  abbrev peeled : {B : List ℕ} → Trees B (take (start .args .to) (start .args .store .now)) (start .args .n) → Peeled B (start .args .store .now) (c .before .loop .i) (c .before .loop .need)
-  peeled {B = B} t = peel B (start .args .store .now) (c .before .loop .i) (c .before .loop .need) (c .before .loop .inv .0) (c .before .loop .inv .1 B t) (c .loop-test .taken)
+  abbrev scanned : {B : List ℕ} → Trees B (take (start .args .to) (start .args .store .now)) (start .args .n) → ScanStep B (start .args .store .now) (c .before .loop .i) (c .before .loop .need)
+  scanned {B = B} t = scan-step B (start .args .store .now) (c .before .loop .i) (c .before .loop .need) (c .before .loop .inv .0) (c .before .loop .inv .1 B t) (c .loop-test .taken)
 
   room : 2 ≤ c .before .loop .i
-  room = omega (arith, peeled (start .pre .1 .trees) .room)
+  room = omega (arith, scanned (start .pre .1 .trees) .room)
 
 loop-holds : tie.Need-loop-holds Inv-loop μ-loop
 loop-holds c = (omega arith, λ B t. t)
@@ -46,13 +46,13 @@ add-need : tie.Need-add-need Inv-loop μ-loop
 add-need c =
     let e = c .before in
     let h = e .before .loop .inv .0 in
-    omega (arith, enough _ (start e .args .store .now) (e .before .loop .i - 2) _ (le-trans (sub-le _ 2) h) (peeled e (start e .pre .1 .trees) .rest))
+    omega (arith, enough _ (start e .args .store .now) (e .before .loop .i - 2) _ (le-trans (sub-le _ 2) h) (scanned e (start e .pre .1 .trees) .rest))
 
 loop-less : tie.Need-loop-less Inv-loop μ-loop
 loop-less c = omega (arith, room (c .before))
 
 loop-again : tie.Need-loop-again Inv-loop μ-loop
-loop-again c = (omega arith, λ B t. peeled (c .before) t .rest)
+loop-again c = (omega arith, λ B t. scanned (c .before) t .rest)
 
 returns : tie.Need-returns Inv-loop μ-loop
 returns c = λ B t. ended B (c .before .before .args .store .now) _ _ (c .before .loop .inv .0) (c .before .loop .inv .1 B t) (omega arith)

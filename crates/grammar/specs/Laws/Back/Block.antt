@@ -23,7 +23,8 @@ use Rattle.grammar.specs.Laws.Back.Steps.{Needs, fits, done, exactly, we
 use Rattle.grammar.specs.Laws.Length.{tokens-length}
 use Rattle.grammar.specs.Laws.Back.Follow.{ends}
 use Rattle.grammar.specs.Laws.Back.Starts.{Starts, starts-length, ex-starts}
-use Rattle.grammar.specs.Laws.Back.Snoc.{join, join-snoc, join-one, suite-snoc, most-more, most-snoc, valids-snoc, split-snoc}
+use Rattle.grammar.specs.Laws.Roles.{valids-snoc}
+use Rattle.grammar.specs.Laws.Back.Snoc.{join, join-snoc, join-one, suite-snoc, most-more, most-snoc, split-snoc}
 use Rattle.grammar.specs.Laws.Back.Expr.{Reads, Ended, at-end, at-elif, at-else, after, ex-back}
 
 -- nothing is missing where words begin

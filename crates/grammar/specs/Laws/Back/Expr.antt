@@ -8,7 +8,7 @@ use native.Mathlib.Omega.{arith}
 use lib.Dec.{eqb}
 use lib.ListN.{length}
 use Rattle.token.specs.Kind
-use Rattle.operator.specs.Operator.{op-level, op-number, assign-code}
+use Rattle.operator.specs.Operator.{op-level, op-number, assign-code, level-count}
 use Rattle.tree.specs.NodeKind
 use Rattle.tree.specs.Tree.{Tree, Forest, node, more, one, snoc, kind-of}
 use Rattle.tree.specs.Node
@@ -21,19 +21,20 @@ use Rattle.grammar.specs.Canonical.Write.{own, modified, after-commas, a
 use Rattle.grammar.specs.Canonical.Need.{most, need, needs}
 use Rattle.grammar.specs.Canonical.Valid.{Valid, Valids, Pattern, unary, binop, plain, ex, given, control, stmt, v-target, v-unary, v-up, v-binary-op, v-assign, v-inner, v-single, v-tuple, v-local, v-plain, v-keyword, v-given, v-given-assign, v-given-target, v-none, v-more}
 use borrow.Author.Tests.{eq-eqb, le-leb}
+use Rattle.grammar.specs.Laws.Roles.{as-inner, same-action, has-target}
 use Rattle.grammar.specs.Laws.Back.Steps.{Needs, both, done, weigh, then-ok, then-on, then-is, if-yes, if-no, sees, converts, symbol, fits}
 use Rattle.grammar.specs.Laws.Length.{tokens-length}
-use Rattle.grammar.specs.Laws.Back.Follow.{Follows, follows, weaker, comma, ends, op-kind, assign-kind, rank-op, rank-assign, no-op, no-comma, no-assign}
-use Rattle.grammar.specs.Laws.Back.Starts.{Starts, up, first-is, isnt, no-keyword, keyword-seen, assign-own, assign-modified, has-target, target-words, target-depth, binop-starts, pattern-starts}
+use Rattle.grammar.specs.Laws.Back.Follow.{comma-rank, assign-rank, end-rank, Follows, follows, weaker, comma, ends, op-kind, assign-kind, rank-op, rank-assign, no-op, no-comma, no-assign}
+use Rattle.grammar.specs.Laws.Back.Starts.{Starts, up, first-is, isnt, no-keyword, keyword-seen, assign-own, assign-modified, target-words, target-depth, binop-starts, pattern-starts}
 use Rattle.grammar.specs.Laws.Back.Snoc.{join, join-snoc, join-none, most-more}
-use Rattle.grammar.specs.Laws.Back.Patterns.{as-inner, as-expr}
+use Rattle.grammar.specs.Laws.Back.Patterns.{as-expr}
 
 -- behind an expression: a symbol that ends it, which is `)` where a tuple of one may stand
 pub data After : Bool → List ℕ → Type 0 where
-  after : {r : List ℕ} → Follows 14 r → After false r
+  after : {r : List ℕ} → Follows end-rank r → After false r
   close : {close : Bool} {s : List ℕ} → After close (Kind.CloseParen ∷ 0 ∷ s)
 
-after-follows : {c : Bool} {r : List ℕ} → After c r → Follows 14 r
+after-follows : {c : Bool} {r : List ℕ} → After c r → Follows end-rank r
 after-follows (after h) = h
 after-follows close = ends refl
 
@@ -62,9 +63,6 @@ operators-step : {r s : List ℕ} (operand : List Error → List ℕ → Res Tre
 unfolding operators
 operators-step operand l m k a q e h = sees _ _ _ (symbol k (op-kind k e .0)) (if-yes _ _ (eq-eqb (op-level k) (suc l) e) (then-on _ _ h))
 
-with-place : (a : ℕ) (t : Tree) → eqb (kind-of t) NodeKind.Assignment ≡ false → with-action (suc a) t ≡ t
-with-place a (node k v f) e = rw e
-
 -- under a modifier only an assignment is written in another way
 words-place : (t : Tree) → eqb (kind-of t) NodeKind.Assignment ≡ false → write t modified ≡ write t own
 unfolding write
@@ -79,14 +77,14 @@ module _ (d : ℕ) (R : Reads d) where
   abbrev Back : ℕ → Type 0
   Back l = (b : Bool) (t : Tree) → Valid (binop b l) t → (q r : List ℕ) → Follows (suc (suc l)) r → Needs (need t own) d (binop-expr (at-depth d) l q (write t own r)) (ok t r)
 
-  -- the words of an operand of the level l + 1, then r: the reading comes to the loop at r, with fuel enough
-  spine : (l : ℕ) → Back l → {b : Bool} {t : Tree} → Valid (binop b (suc l)) t → (q r : List ℕ) → Follows (suc (suc l)) r
+  -- the words of an operand of the level l + 1, then r: the reading comes to the loop at r, with a count that is large enough
+  to-loop : (l : ℕ) → Back l → {b : Bool} {t : Tree} → Valid (binop b (suc l)) t → (q r : List ℕ) → Follows (suc (suc l)) r
       → (m : ℕ) × (length r ≤ m) × Needs (need t own) d (binop-expr (at-depth d) (suc l) q (write t own r)) (operators (binop-expr (at-depth d) l) (suc l) m t q r)
   unfolding binop-expr write need
-  spine l B (v-up h) q r f = (length r, le-refl (length r), then-on _ _ (B _ _ h q r f))
-  spine l B (v-binary-op {a = a} {b = b} k e h g) q r f =
+  to-loop l B (v-up h) q r f = (length r, le-refl (length r), then-on _ _ (B _ _ h q r f))
+  to-loop l B (v-binary-op {a = a} {b = b} k e h g) q r f =
       let o = op-kind k e in
-      let i = spine l B h q (k ∷ 0 ∷ write b own r) (follows (o .0) (omega (arith, rank-op k e))) in
+      let i = to-loop l B h q (k ∷ 0 ∷ write b own r) (follows (o .0) (omega (arith, rank-op k e))) in
       rw (o .1) (go (i .0) (i .1) (i .2))
     where
       go : (m : ℕ) → length (k ∷ 0 ∷ write b own r) ≤ m
@@ -103,19 +101,19 @@ module _ (d : ℕ) (R : Reads d) where
   unfolding binop-expr
   binop-back zero b t (v-unary h) q r f = R .r-unary h q r f
   binop-back (suc l) b t h q r f =
-      let i = spine l (binop-back l) h q r (weaker (omega arith) f) in
+      let i = to-loop l (binop-back l) h q r (weaker (omega arith) f) in
       weigh (both (i .2) (operators-end (binop-expr (at-depth d) l) l (i .0) t q f (i .1))) (omega arith)
 
   -- a member of a tuple, and what follows one
-  pub inner-back : {b : Bool} {t : Tree} → Valid (binop b 10) t → (q r : List ℕ) → Follows 12 r → Needs (need t own) d (binop-expr (at-depth d) 10 q (write t own r)) (ok t r)
-  inner-back h q r f = binop-back 10 _ _ h q r f
+  pub inner-back : {b : Bool} {t : Tree} → Valid (binop b level-count) t → (q r : List ℕ) → Follows comma-rank r → Needs (need t own) d (binop-expr (at-depth d) level-count q (write t own r)) (ok t r)
+  inner-back h q r f = binop-back level-count _ _ h q r f
 
-  commas-follow : {g : Forest} {r : List ℕ} → Valids (binop true 10) g → Follows 12 r → Follows 12 (after-commas (writes g) r)
+  commas-follow : {g : Forest} {r : List ℕ} → Valids (binop true level-count) g → Follows comma-rank r → Follows comma-rank (after-commas (writes g) r)
   unfolding write
   commas-follow v-none f = f
   commas-follow (v-more h g) f = comma
 
-  members-back : (m : ℕ) (f : Forest) {g : Forest} → Valids (binop true 10) g → (q r : List ℕ) → Follows 13 r → length (after-commas (writes g) r) ≤ m
+  members-back : (m : ℕ) (f : Forest) {g : Forest} → Valids (binop true level-count) g → (q r : List ℕ) → Follows assign-rank r → length (after-commas (writes g) r) ≤ m
       → Needs (most (needs g)) d (members (at-depth d) m f q (after-commas (writes g) r)) (ok (Node.tuple (join f g)) r)
   unfolding members write need
   members-back zero f v-none q r (follows a b) l = absurd (omega arith)
@@ -128,20 +126,20 @@ module _ (d : ℕ) (R : Reads d) where
       (sym (most-more t g)))))
 
   -- tuples, and what is none
-  tuple-inner : {b : Bool} {t : Tree} → Valid (binop b 10) t → (q r : List ℕ) → Follows 13 r → Needs (need t own) d (tuple-expr (at-depth d) q (write t own r)) (ok t r)
+  tuple-inner : {b : Bool} {t : Tree} → Valid (binop b level-count) t → (q r : List ℕ) → Follows assign-rank r → Needs (need t own) d (tuple-expr (at-depth d) q (write t own r)) (ok t r)
   unfolding tuple-expr
   tuple-inner h q r (follows {k = k} a b) =
       weigh (then-is _ _ (inner-back h q r (weaker (omega arith) (follows a b)))
       (sees _ _ _ (symbol k a) (if-no _ _ (no-comma k b) done))) (omega arith)
 
-  tuple-single : {b : Bool} {t : Tree} → Valid (binop b 10) t → (q s : List ℕ)
+  tuple-single : {b : Bool} {t : Tree} → Valid (binop b level-count) t → (q s : List ℕ)
       → Needs (need t own) d (tuple-expr (at-depth d) q (write t own (Kind.Comma ∷ 0 ∷ Kind.CloseParen ∷ 0 ∷ s))) (ok (Node.tuple (one t)) (Kind.CloseParen ∷ 0 ∷ s))
   unfolding tuple-expr members
   tuple-single h q s =
       weigh (then-is _ _ (inner-back h q _ comma)
       (sees _ _ _ (fits refl) (if-yes _ _ refl (sees _ _ _ (fits refl) (if-yes _ _ refl (sees _ _ _ (fits refl) (if-yes _ _ refl done))))))) (omega arith)
 
-  tuple-back : {b : Bool} {t u : Tree} {g : Forest} → Valid (binop b 10) t → Valid (binop true 10) u → Valids (binop true 10) g → (q r : List ℕ) → Follows 13 r
+  tuple-back : {b : Bool} {t u : Tree} {g : Forest} → Valid (binop b level-count) t → Valid (binop true level-count) u → Valids (binop true level-count) g → (q r : List ℕ) → Follows assign-rank r
       → Needs (need (Node.tuple (more t (more u g))) own) d (tuple-expr (at-depth d) q (write (Node.tuple (more t (more u g))) own r)) (ok (Node.tuple (more t (more u g))) r)
   unfolding tuple-expr write need join
   tuple-back h g gs q r f =
@@ -149,13 +147,13 @@ module _ (d : ℕ) (R : Reads d) where
       (sees _ _ _ (fits refl) (if-yes _ _ refl (members-back _ (one _) (v-more g gs) q r f (le-refl _))))
 
   -- an expression that is no assignment
-  no-assignment : {b : Bool} {n : ℕ} {t : Tree} {r ts : List ℕ} (q : List Error) → Starts b 3 ts → Follows 14 r → Needs n d (tuple-expr (at-depth d) q ts) (ok t r) → Needs n d (expr (at-depth d) q ts) (ok t r)
+  no-assignment : {b : Bool} {n : ℕ} {t : Tree} {r ts : List ℕ} (q : List Error) → Starts b 3 ts → Follows end-rank r → Needs n d (tuple-expr (at-depth d) q ts) (ok t r) → Needs n d (expr (at-depth d) q ts) (ok t r)
   unfolding expr
   no-assignment q b (follows {k = k} a f) h =
       then-ok _ _ (no-keyword q b) (weigh (then-is _ _ h (sees _ _ _ (symbol k a) (if-yes _ _ (no-assign k f) (if-yes _ _ refl done)))) (omega arith))
 
   -- a pattern, as it is read before it is converted
-  pub pattern-back : {p : Tree} (h : Pattern p) (q s : List ℕ) → Follows 13 s → Needs (need p own) d (tuple-expr (at-depth d) q (write p own s)) (ok (as-expr h .expr) s)
+  pub pattern-back : {p : Tree} (h : Pattern p) (q s : List ℕ) → Follows assign-rank s → Needs (need p own) d (tuple-expr (at-depth d) q (write p own s)) (ok (as-expr h .expr) s)
   pattern-back h q s f = let x = as-expr h in rw (x .words, x .depth) at (tuple-inner (as-inner (x .valid false)) q s f)
 
   -- an assignment with the keyword m, 0 or 1 + its action
@@ -189,7 +187,7 @@ module _ (d : ℕ) (R : Reads d) where
       → (e : Tree) × Needs (need t modified) d (expr (at-depth d) q (write t modified (Kind.CloseParen ∷ 0 ∷ s))) (ok e (Kind.CloseParen ∷ 0 ∷ s)) × (with-action (suc a) e ≡ t)
   unfolding write need
   given-back {a = a} {t = t} l (v-given e h) q s =
-      (t, rw (words-place t e, depth-place t e) (plain-back h q _ close), with-place a t e)
+      (t, rw (words-place t e, depth-place t e) (plain-back h q _ close), same-action a t e)
   given-back {a = a} l (v-given-assign (v-assign {lhs = p} {rhs = t} k c h g e)) q s =
       let n : ℕ = pred (assign-code k) in
       let z : (0 + 4 * n) / 4 ≡ n = omega arith in (

@@ -1,17 +1,17 @@
 -- The kinds of operators, and what may follow a tree's words in canonical tokens: one symbol, by a rank that says what it could go on with. Assumes nothing.
-use mathlib.Core.Path.{_≡_, refl, ap, _∙_, sym}
+use mathlib.Core.Path.{_≡_, refl, ap, _∙_}
 use mathlib.Core.Logic.{_≢_}
-use mathlib.Core.Bool.{Bool, true, false, cond, _&&_, _||_, true≢false}
+use mathlib.Core.Bool.{Bool, true, false, cond, _&&_, _||_}
 use mathlib.Core.List.{List, _∷_}
-use Prim.Native.Nat.{ℕ, suc, pred, _≤_, _<_, min}
+use Prim.Native.Nat.{ℕ, suc, pred, _+_, _-_, _≤_, _<_, min}
 use native.Mathlib.Nat.{le-trans}
 use native.Mathlib.Omega.{arith}
 use lib.Dec.{eqb, ltb}
 use Rattle.token.specs.Kind
-use Rattle.operator.specs.Operator.{which-unary-op, which-binary-op, which-assignment-op, op-level, op-number, op-token, unary-code, unary-token, assign-code, assign-token}
+use Rattle.operator.specs.Operator.{level-count, which-unary-op, which-binary-op, which-assignment-op, op-level, op-number, op-token, unary-code, unary-token, assign-code, assign-token, no-token}
 use Rattle.operator.specs.Laws.{op-token-number, unary-token-code, assign-token-code}
 use Rattle.operator.specs.Below.{equal-below, most-below}
-use borrow.Author.Tests.{ne-eqb, eq-eqb, leb-true}
+use borrow.Author.Tests.{ne-eqb, eq-eqb, eqb-false, leb-true}
 use Rattle.grammar.specs.Laws.Facts.{and-l, and-r}
 
 -- operators are kinds of symbols
@@ -20,84 +20,58 @@ far {k} h c l = let g = leb-true (suc c) 76 l in ne-eqb k c (omega arith)
 
 op-far : {k : ℕ} → 76 ≤ k → op-level k ≡ 0
 unfolding op-level which-binary-op
-op-far h =
-    rw (
-      far h Kind.OpMul refl,
-      far h Kind.OpDiv refl,
-      far h Kind.OpMod refl,
-      far h Kind.OpAdd refl,
-      far h Kind.OpSub refl,
-      far h Kind.OpLShift refl,
-      far h Kind.OpRShift refl,
-      far h Kind.OpAnd refl,
-      far h Kind.OpXor refl,
-      far h Kind.OpOr refl,
-      far h Kind.OpLT refl,
-      far h Kind.OpGT refl,
-      far h Kind.OpLE refl,
-      far h Kind.OpGE refl,
-      far h Kind.OpEQ refl,
-      far h Kind.OpNE refl,
-      far h Kind.And refl,
-      far h Kind.Or refl,
-    )
+op-far h = simp (far h)
 
 unary-far : {k : ℕ} → 76 ≤ k → unary-code k ≡ 0
 unfolding unary-code which-unary-op
-unary-far h = rw (far h Kind.OpAdd refl, far h Kind.OpSub refl, far h Kind.OpInv refl, far h Kind.Not refl)
+unary-far h = simp (far h)
 
 assign-far : {k : ℕ} → 76 ≤ k → assign-code k ≡ 0
 unfolding assign-code which-assignment-op
-assign-far h =
-    rw (
-      far h Kind.OpAssign refl,
-      far h Kind.OpAddAssign refl,
-      far h Kind.OpSubAssign refl,
-      far h Kind.OpMulAssign refl,
-      far h Kind.OpDivAssign refl,
-      far h Kind.OpModAssign refl,
-      far h Kind.OpAndAssign refl,
-      far h Kind.OpOrAssign refl,
-      far h Kind.OpXorAssign refl,
-      far h Kind.OpLShiftAssign refl,
-      far h Kind.OpRShiftAssign refl,
-    )
+assign-far h = simp (far h)
 
 -- a code that is none from 76 on is that of a symbol
 near : (n k : ℕ) → (76 ≤ k → n ≡ 0) → n ≢ 0 → k < 76
 near n k h p = let f : ¬ (76 ≤ k) = λ l. p (h l) in omega arith
-
-no-code : (n : ℕ) → eqb n 0 ≡ false → n ≢ 0
-no-code n e z = true≢false (sym (eq-eqb n 0 z) ∙ e)
 
 pub op-kind : (k : ℕ) {l : ℕ} → op-level k ≡ suc l → (k < 76) × (op-token (op-number k) ≡ k)
 op-kind k e =
     let h = near (op-level k) k op-far (omega arith) in
     (h, op-token-number k (omega arith) (omega arith))
 
+-- the same of a code that is 1 + the place of its token
+code-kind : (code token : ℕ → ℕ) (k : ℕ) → (76 ≤ k → code k ≡ 0) → (k < no-token → 0 < code k → token (code k - 1) ≡ k) → eqb (code k) 0 ≡ false → (k < 76) × (token (pred (code k)) ≡ k)
+code-kind code token k far back e =
+    let p : code k ≢ 0 = eqb-false (code k) 0 e in
+    let h = near (code k) k far p in
+    (h, ap token (omega arith) ∙ back (omega arith) (omega arith))
+
 pub unary-kind : (k : ℕ) → eqb (unary-code k) 0 ≡ false → (k < 76) × (unary-token (pred (unary-code k)) ≡ k)
-unary-kind k e =
-    let p = no-code (unary-code k) e in
-    let h = near (unary-code k) k unary-far p in
-    (h, ap unary-token (omega arith) ∙ unary-token-code k (omega arith) (omega arith))
+unary-kind k = code-kind unary-code unary-token k unary-far (unary-token-code k)
 
 pub assign-kind : (k : ℕ) → eqb (assign-code k) 0 ≡ false → (k < 76) × (assign-token (pred (assign-code k)) ≡ k)
-assign-kind k e =
-    let p = no-code (assign-code k) e in
-    let h = near (assign-code k) k assign-far p in
-    (h, ap assign-token (omega arith) ∙ assign-token-code k (omega arith) (omega arith))
+assign-kind k = code-kind assign-code assign-token k assign-far (assign-token-code k)
 
--- what a symbol could go on with. 0: a path. 1: an operand, as `...`. 1 + l: an operand of the level l. 12: a tuple. 13: an assignment. 14: nothing
+-- what a symbol could go on with. 0: a path. 1: an operand, as `...`. 1 + l: an operand of the level l. Above these: a tuple, an assignment, nothing
+abbrev pub comma-rank : ℕ
+comma-rank = level-count + 2
+
+abbrev pub assign-rank : ℕ
+assign-rank = level-count + 3
+
+abbrev pub end-rank : ℕ
+end-rank = level-count + 4
+
 unfoldable pub rank : ℕ → ℕ
 rank k =
     cond (eqb (assign-code k) 0)
     (cond (eqb (op-level k) 0)
     (cond (eqb k Kind.OpAccess || eqb k Kind.OpenSquare || eqb k Kind.OpenParen || eqb k Kind.OpenBrace) 0
     (cond (eqb k Kind.Ellipsis) 1
-    (cond (eqb k Kind.Comma) 12
-    14)))
+    (cond (eqb k Kind.Comma) comma-rank
+    end-rank)))
     (suc (op-level k)))
-    13
+    assign-rank
 
 -- a symbol of the rank n or more comes next
 pub data Follows (n : ℕ) : List ℕ → Type 0 where
@@ -117,7 +91,7 @@ rank-op k e =
     let z = apart-codes k (op-kind k e .0) in
     rw (eq-eqb (assign-code k) 0 (omega arith), ne-eqb (op-level k) 0 (omega arith), e)
 
-pub rank-assign : (k : ℕ) → eqb (assign-code k) 0 ≡ false → rank k ≡ 13
+pub rank-assign : (k : ℕ) → eqb (assign-code k) 0 ≡ false → rank k ≡ assign-rank
 unfolding rank
 rank-assign k e = rw e
 
@@ -127,18 +101,18 @@ closes k =
     eqb k Kind.CloseParen || eqb k Kind.CloseSquare || eqb k Kind.CloseBrace || eqb k Kind.Semicolon || eqb k Kind.Then || eqb k Kind.Elif
     || eqb k Kind.Else || eqb k Kind.In || eqb k Kind.Do || eqb k Kind.End
 
-ranks : (k : ℕ) → k < 76 → cond (closes k) (rank k) 14 ≡ 14
+ranks : (k : ℕ) → k < 76 → cond (closes k) (rank k) end-rank ≡ end-rank
 unfolding rank assign-code which-assignment-op op-level which-binary-op
-ranks = equal-below (λ k. cond (closes k) (rank k) 14) (λ k. 14) 76 tt
+ranks = equal-below (λ k. cond (closes k) (rank k) end-rank) (λ k. end-rank) 76 tt
 
-pub ends : {k : ℕ} {s : List ℕ} → ltb k 76 && closes k ≡ true → Follows 14 (k ∷ 0 ∷ s)
+pub ends : {k : ℕ} {s : List ℕ} → ltb k 76 && closes k ≡ true → Follows end-rank (k ∷ 0 ∷ s)
 ends {k} e =
     let h = leb-true (suc k) 76 (and-l (ltb k 76) (closes k) e) in
-    let c : cond (closes k) (rank k) 14 ≡ 14 = ranks k h in
-    let g : rank k ≡ 14 = rw (and-r (ltb k 76) (closes k) e) at c in
+    let c : cond (closes k) (rank k) end-rank ≡ end-rank = ranks k h in
+    let g : rank k ≡ end-rank = rw (and-r (ltb k 76) (closes k) e) at c in
     follows h (omega arith)
 
-pub comma : {s : List ℕ} → Follows 12 (Kind.Comma ∷ 0 ∷ s)
+pub comma : {s : List ℕ} → Follows comma-rank (Kind.Comma ∷ 0 ∷ s)
 unfolding rank assign-code which-assignment-op op-level which-binary-op
 comma = follows {k = Kind.Comma} (omega arith) (omega arith)
 
@@ -158,14 +132,14 @@ pub no-ellipsis : (k : ℕ) → 2 ≤ rank k → eqb k Kind.Ellipsis ≡ false
 unfolding rank assign-code which-assignment-op op-level which-binary-op
 no-ellipsis k h = no-kind k Kind.Ellipsis h (omega arith)
 
-pub no-comma : (k : ℕ) → 13 ≤ rank k → eqb k Kind.Comma ≡ false
+pub no-comma : (k : ℕ) → assign-rank ≤ rank k → eqb k Kind.Comma ≡ false
 unfolding rank assign-code which-assignment-op op-level which-binary-op
 no-comma k h = no-kind k Kind.Comma h (omega arith)
 
 pub no-op : (k l : ℕ) → suc (suc (suc l)) ≤ rank k → eqb (op-level k) (suc l) ≡ false
 no-op k l h = ne-eqb (op-level k) (suc l) λ e. let z = rank-op k e in absurd (omega arith)
 
-pub no-assign : (k : ℕ) → 14 ≤ rank k → eqb (assign-code k) 0 ≡ true
+pub no-assign : (k : ℕ) → end-rank ≤ rank k → eqb (assign-code k) 0 ≡ true
 no-assign k h = go (eqb (assign-code k) 0) refl
   where
     go : (b : Bool) → eqb (assign-code k) 0 ≡ b → b ≡ true

@@ -21,7 +21,8 @@ use Rattle.grammar.specs.Canonical.Need.{most, need, needs}
 use Rattle.grammar.specs.Canonical.Valid as Valid
 use Rattle.grammar.specs.Canonical.Valid.{Valid, Valids, Target, IsNamed, read-only, read-write, ex, function, item, block, v-nil, v-empty-tuple, v-identifier, v-true, v-false, v-integer, v-float, v-string, v-group, v-modified, v-function-def, v-function-default, v-function-variadic, v-attribute, v-index, v-param, v-none, v-more, t-name, t-attribute, t-index}
 use Rattle.grammar.specs.Laws.Back.Steps.{Needs, Fits, fits, done, exactly, enough, inside, both, weigh, lands, then-ok, then-is, if-yes, if-no, sees, expects, converted}
-use Rattle.grammar.specs.Laws.Back.Snoc.{join, join-snoc, join-one, row-snoc, most-more, most-snoc, valids-snoc}
+use Rattle.grammar.specs.Laws.Roles.{valids-snoc}
+use Rattle.grammar.specs.Laws.Back.Snoc.{join, join-snoc, join-one, row-snoc, most-more, most-snoc}
 use Rattle.grammar.specs.Laws.Back.Patterns.{by-snoc}
 use Rattle.grammar.specs.Laws.Back.Expr.{Reads, close, ex-back}
 use Rattle.grammar.specs.Laws.Back.Block.{block-body}
@@ -166,7 +167,7 @@ module _ (d : ℕ) (R : Reads d) where
       (then-is _ _ (param-required h b q s)
       (sees _ _ _ (sign-is b .0) (then-ok _ _ (joined-required b f v q _) (on-is b m (so-far (snoc f (Node.param-def v))) q s))))
 
-  -- required parameters and the token behind them: the reading goes on behind, with fuel enough
+  -- required parameters and the token behind them: the reading goes on behind, with a count that is large enough
   required-back : {t : Tree} {g : Forest} → Valid Valid.param t → Valids Valid.param g → (b : Bool) (m : ℕ) (f : Forest) (q s : List ℕ)
       → length (write t own (after-commas (writes g) (sign b ∷ 0 ∷ s))) ≤ m
       → (n : ℕ) × (length (on b s) ≤ n) × Needs 0 d (params (at-depth d) m (so-far f) q (write t own (after-commas (writes g) (sign b ∷ 0 ∷ s)))) (params (at-depth d) n (so-far (join f (more t g))) q (on b s))

@@ -6,6 +6,7 @@ use Prim.Native.Nat.{ℕ, suc, _<_, max}
 use native.Mathlib.Omega.{arith}
 use lib.Dec.{eqb}
 use Rattle.token.specs.Kind
+use Rattle.operator.specs.Operator.{level-count}
 use Rattle.tree.specs.NodeKind
 use Rattle.tree.specs.Tree.{Tree, Forest, none, more, snoc, kind-of}
 use Rattle.tree.specs.Node
@@ -13,12 +14,10 @@ use Rattle.tree.specs.Maybe.{just}
 use Rattle.grammar.specs.Reading.Pattern.{pattern, maybe, conv, all-conv, last-of, front-of, receiver, by-item, by-last}
 use Rattle.grammar.specs.Canonical.Write.{own, modified, keyword-of, as-row, write, writes}
 use Rattle.grammar.specs.Canonical.Need.{most, need, needs}
-use Rattle.grammar.specs.Canonical.Valid.{Valid, Valids, Pattern, Patterns, IsName, atom, prim, tight, binop, plain, ex, item, v-identifier, v-group, v-modified, v-atom, v-primary, v-prim, v-unpack, v-ellipsis, v-tight, v-unary, v-up, v-inner, v-single, v-tuple, v-given, v-attribute, v-index, v-none, v-more, p-identifier, p-attribute, p-index, p-tuple, p-pack, p-ellipsis, p-modifier, p-none, p-more}
-use Rattle.grammar.specs.Laws.Back.Snoc.{row-snoc, most-snoc, valids-snoc}
-
--- an operand alone is an operand of the weakest binding
-pub as-inner : {b : Bool} {t : Tree} → Valid (tight b) t → Valid (binop b 10) t
-as-inner h = v-up (v-up (v-up (v-up (v-up (v-up (v-up (v-up (v-up (v-up (v-unary (v-tight h)))))))))))
+use Rattle.grammar.specs.Canonical.Valid.{Valid, Valids, Pattern, Patterns, IsName, atom, prim, tight, binop, plain, ex, item, v-identifier, v-group, v-modified, v-atom, v-primary, v-prim, v-unpack, v-ellipsis, v-inner, v-single, v-tuple, v-given, v-attribute, v-index, v-none, v-more, p-identifier, p-attribute, p-index, p-tuple, p-pack, p-ellipsis, p-modifier, p-none, p-more}
+use Rattle.grammar.specs.Laws.Roles.{as-inner}
+use Rattle.grammar.specs.Laws.Roles.{valids-snoc}
+use Rattle.grammar.specs.Laws.Back.Snoc.{row-snoc, most-snoc}
 
 -- what is shown of a pattern p: an expression with its words, which converts back to it. A pattern's place is of no matter
 pub record AsExpr (p : Tree) : Type 0 where
@@ -38,7 +37,7 @@ record AsExprs (f : Forest) : Type 0 where
   words : writes exprs ≡ writes f
   depth : needs exprs ≡ needs f
   back : all-conv exprs pattern ≡ just f
-  valid : Valids (binop true 10) exprs
+  valid : Valids (binop true level-count) exprs
 
 -- a path's last item taken off
 last-snoc : (t : Tree) (f : Forest) (i : Tree) → last-of t (snoc f i) ≡ i
@@ -102,7 +101,7 @@ identifier-as {n} h = record {
 }
 
 -- a group, or a group with a modifier, around members or one pattern
-tuple-valid : {e : Tree} {f : Forest} → Valid (binop true 10) e → Valids (binop true 10) f → Valid (plain true true) (Node.tuple (more e f))
+tuple-valid : {e : Tree} {f : Forest} → Valid (binop true level-count) e → Valids (binop true level-count) f → Valid (plain true true) (Node.tuple (more e f))
 tuple-valid h v-none = v-single h
 tuple-valid h (v-more g gs) = v-tuple h g gs
 

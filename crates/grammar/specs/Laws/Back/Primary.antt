@@ -22,7 +22,7 @@ use Rattle.grammar.specs.Canonical.Valid as Valid
 use Rattle.grammar.specs.Canonical.Valid.{Valid, Valids, Arguments, read-only, read-write, prim, plain, ex, given, item, field, v-nil, v-empty-tuple, v-identifier, v-true, v-false, v-integer, v-float, v-string, v-group, v-modified, v-atom, v-primary, v-tuple, v-attribute, v-index, v-invoke, v-invoke-table, v-field, v-field-index, v-table-item, v-none, v-more, no-argument, one-argument}
 use Rattle.grammar.specs.Laws.Back.Steps.{Needs, Fits, fits, done, exactly, enough, inside, both, weigh, then-ok, then-on, then-is, if-yes, if-no, sees, expects, symbol, word}
 use Rattle.grammar.specs.Laws.Length.{tokens-length}
-use Rattle.grammar.specs.Laws.Back.Follow.{Follows, follows, weaker, comma, ends, no-path}
+use Rattle.grammar.specs.Laws.Back.Follow.{comma-rank, Follows, follows, weaker, comma, ends, no-path}
 use Rattle.grammar.specs.Laws.Back.Starts.{first-is, isnt, no-keyword, keyword-seen, keyword-starts, binop-starts, plain-starts, ex-starts}
 use Rattle.grammar.specs.Laws.Back.Snoc.{join, join-snoc, join-none, join-one, most-more}
 use Rattle.grammar.specs.Laws.Back.Expr.{Reads, after, close, inner-back, plain-back, ex-back, given-back}
@@ -114,7 +114,7 @@ module _ (d : ℕ) (R : Reads d) where
   item-starts (v-table-item {e = e} (v-field (read-write n h)) g) r = rw (named-words n (Kind.OpAssign ∷ 0 ∷ write e own r) .1) (other (fits refl) refl)
   item-starts (v-table-item (v-field-index h) g) r = other (fits refl) refl
 
-  table-item-back : {t : Tree} → Valid Valid.table-item t → (q r : List ℕ) → Follows 12 r → Needs (need t own) d (table-item (at-depth d) q (write t own r)) (ok t r)
+  table-item-back : {t : Tree} → Valid Valid.table-item t → (q r : List ℕ) → Follows comma-rank r → Needs (need t own) d (table-item (at-depth d) q (write t own r)) (ok t r)
   unfolding table-item write need
   table-item-back (v-table-item h g) q r f =
       weigh (then-is _ _ (field-back h q _) (expects _ _ _ _ (fits refl) (then-is _ _ (inner-back d R g q r f) done))) (omega arith)

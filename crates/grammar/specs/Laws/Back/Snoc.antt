@@ -10,7 +10,6 @@ use Rattle.grammar.specs.Reading.Result.{ifb}
 use Rattle.grammar.specs.Reading.Block.{split-before, split-kids, split-last, split, result}
 use Rattle.grammar.specs.Canonical.Write.{own, as-row, as-suite, write, writes}
 use Rattle.grammar.specs.Canonical.Need.{most, need, needs}
-use Rattle.grammar.specs.Canonical.Valid.{Role, Valid, Valids, v-none, v-more}
 
 unfoldable pub join : Forest → Forest → Forest
 join none g = g
@@ -50,11 +49,6 @@ pub most-snoc : (f : Forest) (t : Tree) → most (needs (snoc f t)) ≡ max (mos
 unfolding snoc need
 most-snoc none t = omega arith
 most-snoc (more u f) t = let e = most-snoc f t in omega (arith, most-more u (snoc f t), most-more u f)
-
-pub valids-snoc : {o : Role} {f : Forest} {t : Tree} → Valids o f → Valid o t → Valids o (snoc f t)
-unfolding snoc
-valids-snoc v-none h = v-more h v-none
-valids-snoc (v-more g gs) h = v-more g (valids-snoc gs h)
 
 pub split-snoc : (f : Forest) (e : Tree) → split (snoc f (Node.expression e)) ≡ result f e
 unfolding snoc split split-last split-kids split-before ifb

@@ -12,17 +12,17 @@ use Rattle.token.specs.declared.Token.{Token}
 use Rattle.operator.specs.Operator.{which-unary-op, unary-code, assign-code}
 use Rattle.operator.specs.Below.{equal-below}
 use Rattle.tree.specs.NodeKind
-use Rattle.tree.specs.Tree.{Tree, Forest, node, two, kind-of}
+use Rattle.tree.specs.Tree.{Tree, node, two, kind-of}
 use Rattle.tree.specs.Node
 use Rattle.tree.specs.Maybe.{pick}
 use Rattle.grammar.specs.Reading.Result.{Error, Res, ok, then, ifb}
 use Rattle.grammar.specs.Reading.Look.{looked, look, try-assign-keyword}
-use Rattle.grammar.specs.Reading.Function.{target-name}
-use Rattle.grammar.specs.Canonical.Write.{Place, own, modified, targeted, label, keyword, keyword-of, target-items, is-target, function-named, has-function, fun-gives, write}
+use Rattle.grammar.specs.Canonical.Write.{Place, own, modified, targeted, label, keyword, keyword-of, has-function, fun-gives, write}
 use Rattle.grammar.specs.Canonical.Need.{need}
-use Rattle.grammar.specs.Canonical.Valid.{Valid, Valids, Pattern, Target, atom, prim, tight, unary, binop, plain, ex, function, item, stmt, IsLabel, no-label, a-label, v-nil, v-empty-tuple, v-identifier, v-true, v-false, v-integer, v-float, v-string, v-group, v-modified, v-atom, v-primary, v-prim, v-unpack, v-ellipsis, v-table, v-function, v-target, v-if, v-block, v-labelled, v-tight, v-unary-op, v-unary, v-up, v-binary-op, v-assign, v-inner, v-single, v-tuple, v-local, v-plain, v-keyword, v-function-def, v-function-default, v-function-variadic, v-attribute, v-index, v-expression, v-loop, v-while, v-for, v-assert, v-none, v-more, p-identifier, p-attribute, p-index, p-tuple, p-pack, p-ellipsis, p-modifier, t-name, t-attribute, t-index}
-use borrow.Author.Tests.{le-leb, leb-true, eq-eqb}
+use Rattle.grammar.specs.Canonical.Valid.{Valid, Pattern, atom, prim, tight, unary, binop, plain, ex, stmt, IsLabel, no-label, a-label, v-nil, v-empty-tuple, v-identifier, v-true, v-false, v-integer, v-float, v-string, v-group, v-modified, v-atom, v-primary, v-prim, v-unpack, v-ellipsis, v-table, v-function, v-target, v-if, v-block, v-labelled, v-tight, v-unary-op, v-unary, v-up, v-binary-op, v-assign, v-inner, v-single, v-tuple, v-local, v-plain, v-keyword, v-function-def, v-function-default, v-function-variadic, v-expression, v-loop, v-while, v-for, v-assert, p-identifier, p-attribute, p-index, p-tuple, p-pack, p-ellipsis, p-modifier}
+use borrow.Author.Tests.{le-leb, leb-true}
 use Rattle.grammar.specs.Laws.Facts.{apart}
+use Rattle.grammar.specs.Laws.Roles.{has-target}
 use Rattle.grammar.specs.Laws.Back.Steps.{Needs, Fits, fits, symbol, word, sees, if-yes, done, enough}
 use Rattle.grammar.specs.Laws.Back.Follow.{unary-kind, assign-kind}
 
@@ -120,25 +120,6 @@ assign-modified {a} lhs rhs k l c e r =
     rw (e, g, assign-kind k c .1)
 
 -- `fun` with a target is written so
-items-target : {f : Forest} → Valids (item false) f → target-items f ≡ true
-unfolding target-items
-items-target v-none = refl
-items-target (v-more (v-attribute h) g) = items-target g
-items-target (v-more (v-index h) g) = items-target g
-
-target-is : {p : Tree} → Target p → is-target p ≡ true
-target-is (t-name h) = refl
-target-is (t-attribute e h g i) = rw (e, items-target g)
-target-is (t-index e h g i) = rw (e, items-target g)
-
-function-is : {n : ℕ} {d : Tree} → Valid (function n) d → function-named n d ≡ true
-function-is {n} (v-function-def h g) = eq-eqb n n refl
-function-is {n} (v-function-default h i e g) = eq-eqb n n refl
-function-is {n} (v-function-variadic h i g) = eq-eqb n n refl
-
-pub has-target : {p d : Tree} → Target p → Valid (function (target-name p)) d → has-function (two p d) ≡ true
-has-target t h = rw (target-is t, function-is h)
-
 pub target-words : (l : Place) (v : ℕ) (p d : Tree) → fun-gives l v ≡ true → has-function (two p d) ≡ true → (r : List ℕ)
     → write (node NodeKind.Assignment v (two p d)) l r ≡ Kind.Fun ∷ 0 ∷ write p own (write d targeted r)
 unfolding write

@@ -24,7 +24,7 @@ use Rattle.grammar.specs.Canonical.Valid.{Valid, Valids, Pattern, IsName
 use Rattle.grammar.specs.Laws.Back.Steps.{Needs, Fits, fits, word, done, exactly, enough, both, weigh, lands, max-assoc, then-ok, then-is, either-is, if-yes, if-no, sees, expects, converts}
 use Rattle.grammar.specs.Laws.Length.{tokens-length}
 use Rattle.grammar.specs.Laws.Back.Follow as Follow
-use Rattle.grammar.specs.Laws.Back.Follow.{Follows, weaker}
+use Rattle.grammar.specs.Laws.Back.Follow.{end-rank, Follows, weaker}
 use Rattle.grammar.specs.Laws.Back.Starts.{Starts, up, first-is, isnt, no-keyword, pattern-starts, ex-starts, stmt-starts}
 use Rattle.grammar.specs.Laws.Back.Snoc.{join, join-snoc, join-none, most-more}
 use Rattle.grammar.specs.Laws.Back.Patterns.{as-expr}
@@ -43,7 +43,7 @@ end-first q go at-end f = sees q _ go (fits refl) (f _ _ (record { of-list = ref
 end-first q go at-elif f = sees q _ go (fits refl) (f _ _ (record { of-list = refl; of-value = refl; no-semicolon = refl; not-label = refl }))
 end-first q go at-else f = sees q _ go (fits refl) (f _ _ (record { of-list = refl; of-value = refl; no-semicolon = refl; not-label = refl }))
 
-end-follows : {end : ℕ} {r : List ℕ} → Ended end r → Follows 14 r
+end-follows : {end : ℕ} {r : List ℕ} → Ended end r → Follows end-rank r
 end-follows at-end = Follow.ends refl
 end-follows at-elif = Follow.ends refl
 end-follows at-else = Follow.ends refl
@@ -123,7 +123,7 @@ module _ (d : ℕ) (R : Reads d) where
       (then-is _ _ (u .1) (exactly (ap (λ b. ok (Node.for-loop l p e b) r) (u .2)))))))) (omega arith)
 
   -- statements
-  pub stmt-reads : {t : Tree} → Valid Valid.stmt t → (q r : List ℕ) → Follows 14 r → Needs (need t own) d (stmt (at-depth d) q (write t own r)) (ok t r)
+  pub stmt-reads : {t : Tree} → Valid Valid.stmt t → (q r : List ℕ) → Follows end-rank r → Needs (need t own) d (stmt (at-depth d) q (write t own r)) (ok t r)
   unfolding stmt stmt-label write need
   stmt-reads (v-expression h e) q r f =
       first-is _ _ (ex-starts h r) λ k v s b.
@@ -148,7 +148,7 @@ module _ (d : ℕ) (R : Reads d) where
   unfolding control-value
   no-value q h = end-first q _ h λ k s e. if-yes _ _ (rw (e .of-value)) done
 
-  a-value : {b : Bool} {t : Tree} → Valid (ex b false) t → (q r : List ℕ) → Follows 14 r → Needs (need t own) d (control-value (at-depth d) q (write t own r)) (ok t r)
+  a-value : {b : Bool} {t : Tree} → Valid (ex b false) t → (q r : List ℕ) → Follows end-rank r → Needs (need t own) d (control-value (at-depth d) q (write t own r)) (ok t r)
   unfolding control-value
   a-value h q r f =
       first-is q _ (ex-starts h r) λ k v s e. if-no _ _ (rw (isnt e Kind.End refl, isnt e Kind.Elif refl, isnt e Kind.Else refl, isnt e Kind.Semicolon refl)) (ex-back d R h q r (after f))

@@ -21,7 +21,8 @@ use Rattle.grammar.specs.Canonical.Need.{most, need, needs}
 use Rattle.grammar.specs.Canonical.Valid.{Valid, Target, atom, prim, tight, unary, function, block, v-nil, v-empty-tuple, v-identifier, v-true, v-false, v-integer, v-float, v-string, v-group, v-modified, v-atom, v-primary, v-prim, v-unpack, v-ellipsis, v-table, v-function, v-target, v-if, v-block, v-labelled, v-tight, v-unary-op, v-function-def, v-function-default, v-function-variadic}
 use Rattle.grammar.specs.Laws.Back.Steps.{Needs, fits, symbol, done, exactly, inside, weigh, max-assoc, then-is, if-yes, if-no, sees}
 use Rattle.grammar.specs.Laws.Back.Follow.{Follows, follows, weaker, ellipsis, no-ellipsis, unary-kind}
-use Rattle.grammar.specs.Laws.Back.Starts.{Starts, Begins, first-is, isnt, has-target, target-words, target-depth, prim-starts, tight-starts}
+use Rattle.grammar.specs.Laws.Roles.{has-target}
+use Rattle.grammar.specs.Laws.Back.Starts.{Starts, Begins, first-is, isnt, target-words, target-depth, prim-starts, tight-starts}
 use Rattle.grammar.specs.Laws.Back.Snoc.{join, most-more}
 use Rattle.grammar.specs.Laws.Back.Expr.{Reads}
 use Rattle.grammar.specs.Laws.Back.Primary.{not-first, table-back, primary-back}

@@ -13,11 +13,14 @@ use Rattle.token.specs.declared.Token.{Token}
 use Rattle.token.specs.declared.Seen.{Seen}
 use Rattle.token.specs.declared.Seen.the-variants.{Good, LexerError, Nothing, Bad}
 use Rattle.grammar.specs.Reading.Limit.{malformed}
-use Rattle.grammar.specs.Reading.Result.{Error, Res, ok, bad, fail, stop, spoil, either, then, ifb, push, pop}
+use Rattle.grammar.specs.Reading.Result.{Error, Res, ok, bad, fail, stop, unclean, either, then, ifb, push, pop}
 use Rattle.grammar.specs.Reading.Look.{looked, look}
 use Rattle.grammar.specs.Reading.Next.{front}
 use Rattle.grammar.specs.Reading.Looked.{BadRecord, words-of}
-use Rattle.grammar.specs.Laws.Progress.{Keep, k-ok, k-bad, k-fail, k-stop, k-or, k-on, k-spoil, here, look-keeps, Left, left-step}
+use Rattle.grammar.specs.Laws.Facts.{if-each}
+use Rattle.grammar.specs.Laws.Keep.{Keep, k-ok, k-bad, k-fail, k-stop, k-or, k-on, k-unclean, here}
+use Rattle.grammar.specs.Laws.Progress.{look-keeps}
+use Rattle.grammar.specs.Laws.Taken.{Left, left-step}
 use Rattle.grammar.specs.Laws.Count.{Enough}
 
 -- nothing that stands before X is left
@@ -95,14 +98,14 @@ module _ {b : BadRecord} {X : List ℕ} where
   at-stop true = l-stop
   at-stop false = l-behind k-stop
 
-  at-spoil : {f : Bool} {A : Type 0} (q : List Error) {d e : Res A} → Local b X f d e → Local b X f (spoil q d) (spoil q e)
-  unfolding spoil
-  at-spoil q (l-ok t) = l-bad t
-  at-spoil q (l-bad t) = l-bad t
-  at-spoil q (l-fail t) = l-fail t
-  at-spoil q l-stop = l-stop
-  at-spoil q (l-met k) = l-met (k-spoil q k)
-  at-spoil q (l-behind k) = l-behind (k-spoil q k)
+  at-unclean : {f : Bool} {A : Type 0} (q : List Error) {d e : Res A} → Local b X f d e → Local b X f (unclean q d) (unclean q e)
+  unfolding unclean
+  at-unclean q (l-ok t) = l-bad t
+  at-unclean q (l-bad t) = l-bad t
+  at-unclean q (l-fail t) = l-fail t
+  at-unclean q l-stop = l-stop
+  at-unclean q (l-met k) = l-met (k-unclean q k)
+  at-unclean q (l-behind k) = l-behind (k-unclean q k)
 
   on-behind : {A B : Type 0} {go go′ : A → List Error → List ℕ → Res B} → On b X go go′ → (a : A) (q : List Error) (r : List ℕ) → Left X r → Reached X (go′ a q r)
   on-behind h a q r i = reached (h false a q r r (a-behind i))
@@ -110,7 +113,7 @@ module _ {b : BadRecord} {X : List ℕ} where
   pub at-then : {f : Bool} {A B : Type 0} (q : List Error) {d e : Res A} {go go′ : A → List Error → List ℕ → Res B} → Local b X f d e → On b X go go′ → Local b X f (then q d go) (then q e go′)
   unfolding then
   at-then q (l-ok t) h = h true _ _ _ _ t
-  at-then q (l-bad t) h = at-spoil _ (h true _ _ _ _ t)
+  at-then q (l-bad t) h = at-unclean _ (h true _ _ _ _ t)
   at-then q (l-fail t) h = l-fail t
   at-then q l-stop h = l-stop
   at-then q (l-met k) h = l-met (k-on q k (on-behind h))
@@ -120,20 +123,18 @@ module _ {b : BadRecord} {X : List ℕ} where
       → Local b X f d e → On b X go go′ → On b X or or′ → Local b X f (either q d go or) (either q e go′ or′)
   unfolding either
   at-either q (l-ok t) h k = h true _ _ _ _ t
-  at-either q (l-bad t) h k = at-spoil _ (h true _ _ _ _ t)
-  at-either q (l-fail t) h k = at-spoil _ (k true _ _ _ _ t)
+  at-either q (l-bad t) h k = at-unclean _ (h true _ _ _ _ t)
+  at-either q (l-fail t) h k = at-unclean _ (k true _ _ _ _ t)
   at-either q l-stop h k = l-stop
   at-either q (l-met x) h k = l-met (k-or q x (on-behind h) (on-behind k))
   at-either q (l-behind x) h k = l-behind (k-or q x (on-behind h) (on-behind k))
 
   pub at-if : {f : Bool} {A : Type 0} (c : Bool) {x y x′ y′ : Unit {0} → Res A} → ((u : Unit {0}) → Local b X f (x u) (x′ u)) → ((u : Unit {0}) → Local b X f (y u) (y′ u)) → Local b X f (ifb c x y) (ifb c x′ y′)
-  unfolding ifb
-  at-if true h k = h tt
-  at-if false h k = k tt
+  at-if {f} c h k = if-each (Local b X f) c h k
 
   pub at-push : {f : Bool} {A : Type 0} (e : Error) (q : List Error) {k k′ : List Error → Res A} → ((q : List Error) → Local b X f (k q) (k′ q)) → Local b X f (push e q k) (push e q k′)
   unfolding push
-  at-push e q h = at-if _ (λ u. at-stop _) (λ u. at-spoil _ (h _))
+  at-push e q h = at-if _ (λ u. at-stop _) (λ u. at-unclean _ (h _))
 
   pub at-front : {f : Bool} {A : Type 0} (q : List Error) {k k′ : Error → List Error → Res A} → ((e : Error) (q : List Error) → Local b X f (k e q) (k′ e q)) → Local b X f (front q k) (front q k′)
   unfolding front
@@ -168,8 +169,8 @@ module _ {b : BadRecord} {X : List ℕ} where
       → Alike b X true r s → OnAt b X true go go′ → OnAt b X true or or′ → Local b X true (either q (looked q r x) go or) (either q (looked q s x) go′ or′)
   unfolding looked either
   looked-either q (Good tok) t h k = h tok q _ _ t
-  looked-either q LexerError t h k = at-spoil _ (k _ q _ _ t)
-  looked-either q Nothing t h k = at-spoil _ (k _ q _ _ t)
+  looked-either q LexerError t h k = at-unclean _ (k _ q _ _ t)
+  looked-either q Nothing t h k = at-unclean _ (k _ q _ _ t)
   looked-either q Bad t h k = l-stop
 
   pub look-then : {f : Bool} {B : Type 0} (q : List Error) {ts us : List ℕ} {go go′ : Token → List Error → List ℕ → Res B} → Alike b X f ts us → OnLook b X ts us go go′

@@ -16,7 +16,7 @@ use Rattle.grammar.specs.Reading.Kept.{goes-on, Changed}
 use Rattle.grammar.specs.declared.Reader.{Reader}
 use Rattle.grammar.specs.Promise.{Sheet, Going, Outcome, no-sheet, no-reader, stopped, waited, short, reads, looked-at, outcome, sole-looks, reading}
 use Rattle.grammar.specs.Laws.Facts.{clash}
-use Rattle.grammar.specs.Laws.Progress.{Keep, k-ok, k-bad, k-fail, k-stop, k-weaken}
+use Rattle.grammar.specs.Laws.Keep.{Keep, k-ok, k-bad, k-fail, k-stop, k-weaken}
 use Rattle.grammar.specs.Laws.Local.Looks.{whole, next-is-local, kept, next-ends}
 
 -- the same outcome of a reading is the same call

@@ -20,12 +20,12 @@ use Rattle.grammar.specs.Laws.Facts.{clash, by-test}
 use Rattle.grammar.specs.Laws.Returned.{zeros-are, fresh-accepted, returned-accepted, returned-whole}
 use Rattle.grammar.specs.Laws.Local.Calls.{call-kept, near}
 
--- with nothing waiting and no stop
-abbrev Calm : Reader → Type 0
-Calm R = R ≡ reader-at (R .position) []
+-- a reader that holds a position only: nothing waits, and no stop
+abbrev OnlyPosition : Reader → Type 0
+OnlyPosition R = R ≡ reader-at (R .position) []
 
-calm-is : {T : List ℕ} {R : Reader} → length (R .errors) ≡ queue-limit → Going T R → R .waiting ≡ 0 → Calm R
-calm-is {T} {R} full g w =
+only-position : {T : List ℕ} {R : Reader} → length (R .errors) ≡ queue-limit → Going T R → R .waiting ≡ 0 → OnlyPosition R
+only-position {T} {R} full g w =
     let z : R .errors ≡ pad [] = zeros-are (R .errors) (rw w at (g .accepted .queue)) ∙ ap (λ n. replicate n 0) full in
     λ i. record { position = R .position; waiting = w i; errors = z i; stopped = g .going i }
 
@@ -34,22 +34,22 @@ record Placed (a : ℕ) (T : List ℕ) (R : Reader) : Type 0 where
   accepted : Accepted T R
   full : length (R .errors) ≡ queue-limit
   before : R .position ≤ a
-  first : (Sheet T → ⊥) → Calm R
+  first : (Sheet T → ⊥) → OnlyPosition R
 
 fresh-placed : (a : ℕ) (T : List ℕ) → Placed a T fresh
 fresh-placed a T = record { accepted = fresh-accepted T; full = refl; before = omega arith; first = λ n. refl }
 
 -- a call that looks at a token has nothing waiting
-looking-calm : {a : ℕ} {T : List ℕ} {R : Reader} (m : ℕ) → Placed a T R → 0 < call-looks R T m → Calm R
-looking-calm {a} {T} {R} m P l = let o = outcome R T m in go o (rw (sole-looks R T m o .1) at l)
+looking-only : {a : ℕ} {T : List ℕ} {R : Reader} (m : ℕ) → Placed a T R → 0 < call-looks R T m → OnlyPosition R
+looking-only {a} {T} {R} m P l = let o = outcome R T m in go o (rw (sole-looks R T m o .1) at l)
   where
-    go : {c : Called} (o : Outcome R T m c) → 0 < looked-at o → Calm R
+    go : {c : Called} (o : Outcome R T m c) → 0 < looked-at o → OnlyPosition R
     go (no-sheet n) l = P .first n
     go (no-reader s n) l = absurd (omega arith)
     go (stopped s x i) l = absurd (omega arith)
     go (waited g h) l = absurd (omega arith)
-    go (short g w i) l = calm-is (P .full) g w
-    go (reads g w i) l = calm-is (P .full) g w
+    go (short g w i) l = only-position (P .full) g w
+    go (reads g w i) l = only-position (P .full) g w
 
 next-placed : {a : ℕ} {T : List ℕ} {R : Reader} (m : ℕ) → Placed a T R → call-looks R T m ≤ a → goes-on (next-stmt R T m .step .answer) ≡ true → Placed a T (next-stmt R T m .step .reader)
 next-placed {a} {T} {R} m P l g =
@@ -62,13 +62,13 @@ next-placed {a} {T} {R} m P l g =
 
 -- the calls on the edited sheet T that stay, and where it is read again
 pub data Stays (T : List ℕ) (m a : ℕ) : Reader → List KeptCall → Maybe ℕ → Type 0 where
-  again : {R : Reader} → Calm R → R .position ≤ a → Stays T m a R [] (just (R .position))
+  again : {R : Reader} → OnlyPosition R → R .position ≤ a → Stays T m a R [] (just (R .position))
   all-stay : {R : Reader} → goes-on (next-stmt R T m .step .answer) ≡ false → Stays T m a R (keep T m R ∷ []) nothing
   one-stays : {R : Reader} {ks : List KeptCall} {p : Maybe ℕ} → goes-on (next-stmt R T m .step .answer) ≡ true → Stays T m a (next-stmt R T m .step .reader) ks p → Stays T m a R (keep T m R ∷ ks) p
 
 module _ {a m : ℕ} {h X : List ℕ} (Z : List ℕ) (c : Changed a h X m) where
   restarts : {R : Reader} → Placed a (h ++ Z) R → leb (call-looks R (h ++ Z) m) a ≡ false → Stays (h ++ X) m a R [] (just (R .position))
-  restarts P t = again (looking-calm m P (omega (arith, leb-false))) (P .before)
+  restarts P t = again (looking-only m P (omega (arith, leb-false))) (P .before)
 
   same-call : {R : Reader} → Placed a (h ++ Z) R → leb (call-looks R (h ++ Z) m) a ≡ true → (next-stmt R (h ++ Z) m ≡ next-stmt R (h ++ X) m) × (keep (h ++ Z) m R ≡ keep (h ++ X) m R)
   same-call {R} P t = let (e, l) = call-kept R Z c (P .before) (omega (arith, leb-true)) in (sym e, λ i. record { start = R .position; looked = sym l i; left = sym e i })

@@ -18,7 +18,7 @@ use Rattle.grammar.specs.Reading.Look.{looked, look}
 use Rattle.grammar.specs.Reading.Next.{start, next}
 use Rattle.grammar.specs.Reading.Looked.{BadRecord, words-of, bad-record, meets, looks-first, is-bad, looks, WellFormed, no-token, a-token, Rests, r-end, r-more, Same, same-ok, same-bad, same-fail, same-stop}
 use Rattle.grammar.specs.Laws.Facts.{clash, by-test}
-use Rattle.grammar.specs.Laws.Progress.{Keep, k-ok, k-bad, k-fail, k-stop, k-weaken, k-all, k-both}
+use Rattle.grammar.specs.Laws.Keep.{Keep, k-ok, k-bad, k-fail, k-stop, k-weaken, k-all, k-both}
 use Rattle.grammar.specs.Laws.Local.Base.{Reached, Alike, a-place, a-more, Local, l-ok, l-bad, l-fail, l-stop, l-met}
 use Rattle.grammar.specs.Laws.Local.Nonterminals.{next-local}
 

@@ -14,15 +14,17 @@ use Rattle.token.specs.declared.Seen.{Seen}
 use Rattle.token.specs.declared.Seen.the-variants.{Good, LexerError, Nothing, Bad}
 use Rattle.tree.specs.Tree.{Tree}
 use Rattle.grammar.specs.Reading.Number
-use Rattle.grammar.specs.Reading.Result.{Error, Res, ok, spoil, either, then, ifb}
+use Rattle.grammar.specs.Reading.Result.{Error, Res, ok, unclean, either, then, ifb}
 use Rattle.grammar.specs.Reading.Look.{looked, look}
 use Rattle.grammar.specs.Reading.Expr.{Depth, expr}
 use Rattle.grammar.specs.Reading.Stmt.{loop, while-loop, for-loop, stmt-label, stmt, synchronize}
 use Rattle.grammar.specs.Reading.Depth.{at-depth}
 use Rattle.grammar.specs.Reading.Next.{start, failed, next}
 use Rattle.grammar.specs.Reading.Looked.{words-of, bad-record, is-bad, looks, Rests, r-end, r-more, Same, same-ok, same-bad, same-fail, same-stop, no-lexer, Ends, e-ok, e-bad, e-fail, e-stop}
-use Rattle.grammar.specs.Laws.Facts.{clash}
-use Rattle.grammar.specs.Laws.Progress.{Keep, k-ok, k-bad, k-fail, k-stop, k-weaken, k-both, k-on, k-or, k-if, k-push, k-front, past, look-keeps, next-keeps, Left, left-step, Words, short, some, words, Taken, expr-takes, start-short, k-all}
+use Rattle.grammar.specs.Laws.Facts.{clash, if-tested, if-both}
+use Rattle.grammar.specs.Laws.Keep.{Keep, k-ok, k-bad, k-fail, k-stop, k-weaken, k-both, k-on, k-or, k-if, k-push, k-front, past, k-all}
+use Rattle.grammar.specs.Laws.Progress.{look-keeps, next-keeps}
+use Rattle.grammar.specs.Laws.Taken.{Left, left-step, Words, short, some, words, Taken, expr-takes, start-short}
 use Rattle.grammar.specs.Laws.Count.{synchronize-short}
 use Rattle.grammar.specs.Laws.Local.Looks.{IsLocal, next-is-local, local-behind, unmet, stops, LooksAt, looks-none, looks-behind, looks-bad, looks-token, looks-at, rests-long, next-ends}
 
@@ -57,23 +59,21 @@ module _ {F : Error → Bool} {I : List ℕ → Type 0} where
   ends-kept (k-fail i) = e-fail (λ e. i)
   ends-kept k-stop = e-stop
 
-  ends-spoil : (q : List Error) {x : Res Tree} → Ends F I x → Ends F I (spoil q x)
-  unfolding spoil
-  ends-spoil q (e-ok i) = e-bad i
-  ends-spoil q (e-bad i) = e-bad i
-  ends-spoil q (e-fail i) = e-fail i
-  ends-spoil q e-stop = e-stop
+  ends-unclean : (q : List Error) {x : Res Tree} → Ends F I x → Ends F I (unclean q x)
+  unfolding unclean
+  ends-unclean q (e-ok i) = e-bad i
+  ends-unclean q (e-bad i) = e-bad i
+  ends-unclean q (e-fail i) = e-fail i
+  ends-unclean q e-stop = e-stop
 
   ends-if : (c : Bool) {x y : Unit {0} → Res Tree} → ((u : Unit {0}) → Ends F I (x u)) → ((u : Unit {0}) → Ends F I (y u)) → Ends F I (ifb c x y)
-  unfolding ifb
-  ends-if true h k = h tt
-  ends-if false h k = k tt
+  ends-if c h k = if-both (Ends F I) c h k
 
   ends-then : {A : Type 0} {M : List ℕ → Type 0} (q : List Error) {d : Res A} {go : A → List Error → List ℕ → Res Tree} → Keep M (λ e r. F e ≡ true → I r) d
       → ((a : A) (q : List Error) (r : List ℕ) → M r → Ends F I (go a q r)) → Ends F I (then q d go)
   unfolding then
   ends-then q (k-ok i) h = h _ _ _ i
-  ends-then q (k-bad i) h = ends-spoil _ (h _ _ _ i)
+  ends-then q (k-bad i) h = ends-unclean _ (h _ _ _ i)
   ends-then q (k-fail i) h = e-fail i
   ends-then q k-stop h = e-stop
 
@@ -195,13 +195,6 @@ synchronize-fits d inside (suc n) q (w ∷ (v ∷ r)) some l =
     shorter u (inl i) = omega arith
     shorter u (inr i) = absurd (omega arith)
 
--- a choice, with what its test came to
-if-tested : {A : Type 0} {I : List ℕ → Type 0} {J : Error → List ℕ → Type 0} (c : Bool) {x y : Unit {0} → Res A}
-    → ((u : Unit {0}) → c ≡ true → Keep I J (x u)) → ((u : Unit {0}) → c ≡ false → Keep I J (y u)) → Keep I J (ifb c x y)
-unfolding ifb
-if-tested true h k = h tt refl
-if-tested false h k = k tt refl
-
 -- at the top level a lexer error is taken, and no token behind it looked at
 start-fits : (n : ℕ) (q : List Error) (ts : List ℕ) → Words ts → length ts ≤ n → Keep (λ r. Unit {0}) (λ e r. no-lexer e ≡ true → Fits r) (start n q ts)
 unfolding start
@@ -210,7 +203,7 @@ start-fits (suc n) q ts (short s) l = rw (start-short (suc n) q ts s) (k-fail (�
 start-fits (suc n) q (w ∷ (v ∷ r)) some l =
     k-or q (look-takes w v r q)
     (λ tok q₁ s f. k-if _ (λ _. k-fail (λ k. f .0)) λ _. k-if _ (λ _. start-fits n q s (words s) (omega arith)) (λ _. k-ok tt))
-    (λ e q₁ s f. if-tested _ (λ _ t. k-fail (λ k. f .0 .0)) (λ _ t. k-fail (λ k. clash k (f .0 .1 ∙ t))))
+    (λ e q₁ s f. if-tested (Keep _ _) _ (λ _ t. k-fail (λ k. f .0 .0)) (λ _ t. k-fail (λ k. clash k (f .0 .1 ∙ t))))
 
 failed-fits : (d : ℕ) (e : Error) (q : List Error) (ts : List ℕ) → Keep Fits (λ e. Fits) (failed d e q ts)
 unfolding failed
@@ -218,10 +211,10 @@ failed-fits d e q ts = k-push e q λ q₁. k-front q₁ λ f q₂. k-on q₂ (sy
 
 -- a statement, or its error behind a resynchronization
 stmt-answered : (d : ℕ) (q : List Error) {x : Res Tree} → Ends no-error Fits x → Ends no-lexer Fits (either q x (λ t q₂ s. ok t s) (failed d))
-unfolding either spoil
+unfolding either unclean
 stmt-answered d q (e-ok i) = e-ok i
 stmt-answered d q (e-bad i) = e-bad i
-stmt-answered d q (e-fail i) = ends-spoil _ (ends-kept (failed-fits d _ _ _))
+stmt-answered d q (e-fail i) = ends-unclean _ (ends-kept (failed-fits d _ _ _))
 stmt-answered d q e-stop = e-stop
 
 next-fits : (d : ℕ) (q : List Error) (ts : List ℕ) → Ends no-lexer Fits (next d q ts)

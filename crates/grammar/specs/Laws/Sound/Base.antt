@@ -9,7 +9,7 @@ use Rattle.token.specs.Kind
 use Rattle.token.specs.Look.{value-fits, token-fits, seen-token}
 use Rattle.token.specs.declared.Token.{Token}
 use Rattle.token.specs.declared.Seen.the-variants.{Good, LexerError, Bad}
-use Rattle.operator.specs.Operator.{assign-code}
+use Rattle.operator.specs.Operator.{assign-code, level-count}
 use Rattle.tree.specs.NodeKind
 use Rattle.tree.specs.Tree.{Tree, Forest, node, more, one, two, snoc}
 use Rattle.tree.specs.Node
@@ -19,11 +19,12 @@ use Rattle.grammar.specs.Reading.Look.{looked, look, expect, expect-patt
 use Rattle.grammar.specs.Reading.Pattern.{conv, to-pattern}
 use Rattle.grammar.specs.Reading.Expr.{Stmts, Depth, operators}
 use Rattle.grammar.specs.Canonical.Write.{own, fun-gives, has-function}
-use Rattle.grammar.specs.Canonical.Valid.{IsName, Role, unary, binop, assign, plain, ex, stmt, control, Valid, Valids, Pattern, v-unary, v-up, v-tight, v-binary-op, v-assign, v-inner, v-single, v-tuple, v-local, v-plain, v-keyword, v-none, v-more, v-target, tight}
+use Rattle.grammar.specs.Canonical.Valid.{IsName, Role, unary, binop, assign, plain, ex, stmt, control, Valid, Valids, Pattern, v-binary-op, v-assign, v-inner, v-single, v-tuple, v-local, v-plain, v-keyword, v-none, v-target, tight}
 use borrow.Author.Tests.{eqb-true}
 use Rattle.grammar.specs.Laws.Facts.{clash, other, by-test, and-l, and-r}
 use Rattle.grammar.specs.Laws.Post.{Post, p-ok, p-fail, p-stop, post-then, post-if}
 use Rattle.grammar.specs.Laws.Convert.{PatternOk, no-pattern, a-pattern, Converts, Convert, c-none, c-more, convert-snoc, none-sound, tuple-sound}
+use Rattle.grammar.specs.Laws.Roles.{as-inner, valids-snoc}
 use Rattle.grammar.specs.Laws.Views.{fun-of}
 
 -- the kind of the first token, and 77 where there is none
@@ -139,15 +140,10 @@ operators-sound l operand H us (suc n) left q ts x =
 
 -- the members of a tuple: one, with a comma behind it, or more
 pub data MembersOk (us ts : List ℕ) : Forest → Type 0 where
-  first : {t : Tree} → OperandOk (λ b. binop b 10) us t → eqb (kind-at ts) Kind.Comma ≡ true → MembersOk us ts (one t)
-  others : {t u : Tree} {f : Forest} → OperandOk (λ b. binop b 10) us t → Valid (binop true 10) u → Valids (binop true 10) f → Convert (more u f) → MembersOk us ts (more t (more u f))
+  first : {t : Tree} → OperandOk (λ b. binop b level-count) us t → eqb (kind-at ts) Kind.Comma ≡ true → MembersOk us ts (one t)
+  others : {t u : Tree} {f : Forest} → OperandOk (λ b. binop b level-count) us t → Valid (binop true level-count) u → Valids (binop true level-count) f → Convert (more u f) → MembersOk us ts (more t (more u f))
 
-pub valids-snoc : {o : Role} {f : Forest} {t : Tree} → Valids o f → Valid o t → Valids o (snoc f t)
-unfolding snoc
-valids-snoc v-none x = v-more x v-none
-valids-snoc (v-more y f) x = v-more y (valids-snoc f x)
-
-pub members-snoc : {us ts ss : List ℕ} {f : Forest} {t : Tree} → MembersOk us ts f → Valid (binop true 10) t → Converts t → MembersOk us ss (snoc f t)
+pub members-snoc : {us ts ss : List ℕ} {f : Forest} {t : Tree} → MembersOk us ts f → Valid (binop true level-count) t → Converts t → MembersOk us ss (snoc f t)
 unfolding snoc
 members-snoc (first x c) h d = others x h v-none (c-more d c-none)
 members-snoc (others x g f c) h d = others x g (valids-snoc f h) (convert-snoc c d)
@@ -161,7 +157,7 @@ tuple-made r (first {t = t} x c) close follow = record {
   follow = follow;
 }
   where
-    single : (b c′ : Bool) → Valid (binop b 10) t → (c′ ≡ false → NotClose r) → Valid (plain b c′) (Node.tuple (one t))
+    single : (b c′ : Bool) → Valid (binop b level-count) t → (c′ ≡ false → NotClose r) → Valid (plain b c′) (Node.tuple (one t))
     single b true h g = v-single h
     single b false h g = clash (close c) (g refl)
 tuple-made r (others x g f c) close follow = record {
@@ -212,10 +208,6 @@ pattern-sound e q ts {t} x = go (to-pattern t) (x .as-is)
     go nothing no-pattern = p-fail
     go (just p) (a-pattern h) = p-ok (h, refl)
 
--- an operand of level 10 from the tightest expression
-pub up-ten : {b : Bool} {t : Tree} → Valid (tight b) t → Valid (binop b 10) t
-up-ten h = v-up (v-up (v-up (v-up (v-up (v-up (v-up (v-up (v-up (v-up (v-unary (v-tight h)))))))))))
-
 -- an assignment: `fun` gives it, or its own form
 data AssignOk (c : Bool) (a : ℕ) (t : Tree) : Type 0 where
   by-fun : ((b : Bool) → Valid (tight b) t) → AssignOk c a t
@@ -232,12 +224,12 @@ assign-ok {c} {p} {e} a k n h x =
     (λ z. by-assign (v-assign k n h x z))
 
 plain-of : {b c : Bool} {t : Tree} → AssignOk c 0 t → Valid (plain b c) t
-plain-of {b} (by-fun f) = v-inner (up-ten (f b))
+plain-of {b} (by-fun f) = v-inner (as-inner (f b))
 plain-of (by-assign h) = v-local h
 
 ex-of : {b c : Bool} {a : ℕ} {t : Tree} → a < 4 → AssignOk c a t → Valid (ex b c) t
-ex-of {b} {a = zero} h (by-fun f) = v-plain (v-inner (up-ten (f b)))
-ex-of {b} {a = suc a} h (by-fun f) = v-plain (v-inner (up-ten (f b)))
+ex-of {b} {a = zero} h (by-fun f) = v-plain (v-inner (as-inner (f b)))
+ex-of {b} {a = suc a} h (by-fun f) = v-plain (v-inner (as-inner (f b)))
 ex-of {a = zero} h (by-assign x) = v-plain (v-local x)
 ex-of {a = suc a} h (by-assign x) = v-keyword {a = a} (omega arith) x
 

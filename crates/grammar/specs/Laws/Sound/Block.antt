@@ -15,7 +15,8 @@ use Rattle.grammar.specs.Reading.Block.{Split, whole, result, split-befo
 use Rattle.grammar.specs.Canonical.Valid.{IsName, tight, branch, else-clause, jump, control, block, stmt, Valid, Valids, v-if, v-block, v-labelled, v-branch, v-no-else, v-else, v-continue, v-break, v-break-value, v-break-label, v-return, v-return-value, v-no-control, v-control, v-block-plain, v-block-control, v-block-result, v-expression, v-loop, v-while, v-for, v-assert, v-none, v-more}
 use Rattle.grammar.specs.Laws.Post.{Post, p-ok, p-fail, post-then, post-if, post-map}
 use Rattle.grammar.specs.Laws.Convert.{Converts, none-sound}
-use Rattle.grammar.specs.Laws.Sound.Base.{look-saw, expect-took, ListOk, Sound, anyhow, before, valids-snoc}
+use Rattle.grammar.specs.Laws.Roles.{valids-snoc}
+use Rattle.grammar.specs.Laws.Sound.Base.{look-saw, expect-took, ListOk, Sound, anyhow, before}
 use Rattle.grammar.specs.Laws.Sound.Expr.{expr-sound}
 
 -- what the last statement of a block becomes

@@ -5,6 +5,7 @@ use mathlib.Core.List.{List}
 use Prim.Native.Nat.{ℕ, zero, suc}
 use lib.ListN.{length}
 use Rattle.token.specs.Kind
+use Rattle.operator.specs.Operator.{level-count}
 use Rattle.tree.specs.Tree.{Forest, one, snoc}
 use Rattle.grammar.specs.Reading.Number
 use Rattle.grammar.specs.Reading.Result.{Error}
@@ -29,13 +30,13 @@ module _ (low : Depth) (S : Sound low) where
       post-then q (look-saw q ts) λ tok q₁ rest s. post-if
       (λ _ c. post-then q (look-saw q rest) λ tok₂ q₂ rest₂ s₂. post-if
       (λ _ e. p-ok (tuple-made rest x (λ _. is-at s₂ Kind.CloseParen e) (isnt s₂ Kind.CloseParen Kind.Comma e refl)))
-      (λ _ e. post-then q (binop-sound 10 q rest) λ t q₃ r y. members-sound us n (snoc f t) q₃ r (members-snoc x (y .valid true anyhow) (y .converts))))
+      (λ _ e. post-then q (binop-sound level-count q rest) λ t q₃ r y. members-sound us n (snoc f t) q₃ r (members-snoc x (y .valid true anyhow) (y .converts))))
       (λ _ c. p-ok (tuple-made ts x (λ e. clash e (not-at s Kind.Comma c)) (not-at s Kind.Comma c)))
 
   pub tuple-expr-sound : (q : List Error) (ts : List ℕ) → Post (ExprOk plain ts) (tuple-expr low q ts)
   unfolding tuple-expr
   tuple-expr-sound q ts =
-      post-then q (binop-sound 10 q ts) λ t q₁ r x.
+      post-then q (binop-sound level-count q ts) λ t q₁ r x.
       post-then q₁ (look-saw q₁ r) λ tok q₂ rest s. post-if
       (λ _ c. members-sound ts (length r) (one t) q₁ r (first x (is-at s Kind.Comma c)))
       (λ _ c. p-ok (record { valid = λ b c′ h g. v-inner (x .valid b h); converts = x .converts; start = x .start; follow = not-at s Kind.Comma c }))

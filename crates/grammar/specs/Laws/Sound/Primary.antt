@@ -8,6 +8,7 @@ use lib.ListN.{length}
 use Rattle.token.specs.Kind
 use Rattle.token.specs.Look.{value-fits}
 use Rattle.token.specs.declared.Token.{Token}
+use Rattle.operator.specs.Operator.{level-count}
 use Rattle.tree.specs.NodeKind
 use Rattle.tree.specs.Tree.{Tree, Forest, node, none, snoc}
 use Rattle.tree.specs.Node
@@ -21,7 +22,8 @@ use borrow.Author.Tests.{eqb-true}
 use Rattle.grammar.specs.Laws.Post.{Post, p-ok, p-fail, post-then, post-if, post-map}
 use Rattle.grammar.specs.Laws.Convert.{Converts, none-sound, unpack-sound, group-sound, modified-sound, identifier-sound, ellipsis-sound, primary-sound}
 use Rattle.grammar.specs.Laws.Views.{given-ex, arguments-sound}
-use Rattle.grammar.specs.Laws.Sound.Base.{Saw, look-saw, isnt, NotClose, expect-took, name-value, OperandOk, AnyOk, Sound, anyhow, before, valids-snoc, Keyed, no-keyword, a-keyword, keyword-sound}
+use Rattle.grammar.specs.Laws.Roles.{valids-snoc}
+use Rattle.grammar.specs.Laws.Sound.Base.{Saw, look-saw, isnt, NotClose, expect-took, name-value, OperandOk, AnyOk, Sound, anyhow, before, Keyed, no-keyword, a-keyword, keyword-sound}
 use Rattle.grammar.specs.Laws.Sound.Expr.{binop-sound, expr-sound}
 
 -- what stands at the start of an operand and may have a path
@@ -104,7 +106,7 @@ module _ (low : Depth) (S : Sound low) where
   table-item-sound q ts =
       post-then q (table-field-sound q ts) λ f q₁ r x.
       post-then q₁ (expect-took Kind.OpAssign Number.missing-assign q₁ r) λ tok q₂ s c.
-      post-then q₂ (binop-sound low S 10 q₂ s) λ e q₃ u y.
+      post-then q₂ (binop-sound low S level-count q₂ s) λ e q₃ u y.
       p-ok (v-table-item x (y .valid true anyhow))
 
   pub table-items-sound : (n : ℕ) (f : Forest) (q : List Error) (ts : List ℕ) → Valids table-item f → Post (λ f r. Valids table-item f) (table-items low n f q ts)

@@ -10,7 +10,7 @@ use types.Run.{OneOf}
 use denote.Enum.Declared.{tagOf}
 use lib.ListN.{take, drop}
 use Rattle.token.specs.Kind
-use Rattle.grammar.specs.Reading.Result.{Res, ok, fail, spoil, either, ifb, pop, Error}
+use Rattle.grammar.specs.Reading.Result.{Res, ok, fail, unclean, either, ifb, pop, Error}
 use Rattle.grammar.specs.Reading.Look.{look}
 use Rattle.grammar.specs.Reading.Stmt.{synchronized}
 use Rattle.scan.specs.Post.{Lacked, Unread, Taken, Resumes, waiting-errors}
@@ -34,7 +34,7 @@ module _ {T : List ℕ} {pos k n v : ℕ} (q : List Error) (tk : Taken T pos k n
   at-another e = rw (tk .same q, ne-eqb _ _ e)
 
 at-error : {e f : ℕ} {q′ : List Error} {r : List ℕ} (q : List Error) (ts : List ℕ) → look q ts ≡ fail e q r → q ≡ f ∷ q′ → synchronized q ts ≡ fail f q′ r
-unfolding synchronized either spoil pop
+unfolding synchronized either unclean pop
 at-error q ts l x = rw (l, x)
 
 at-stop : {T : List ℕ} {pos at w : ℕ} {Q : List ℕ} (s : Step) → OneOf (0 ∷ 2 ∷ []) (tagOf step-type.the-type s) → Unread (λ q. look q (drop pos T)) T pos (pos + 2) w s → Resumes (synchronized (waiting-errors w Q) (drop pos T)) T pos at w Q Q s
