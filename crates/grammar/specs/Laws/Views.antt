@@ -11,8 +11,7 @@ use Rattle.tree.specs.Node
 use Rattle.grammar.specs.Reading.Primary.{with-action, arguments as arguments-of}
 use Rattle.grammar.specs.Reading.Function.{target-name}
 use Rattle.grammar.specs.Canonical.Write.{Place, own, modified, target-atom, target-items, is-target, function-named, has-function, fun-gives}
-use Rattle.grammar.specs.Canonical.Valid.{prim, tight, unary, binop, assign, plain, ex, given, function, item, Valid, Valids, Arguments, Pattern, Target, v-nil, v-empty-tuple, v-identifier, v-true, v-false, v-integer, v-float, v-string, v-group, v-modified, v-atom, v-primary, v-prim, v-unpack, v-ellipsis, v-table, v-function, v-target, v-if, v-block, v-labelled, v-tight, v-unary-op, v-unary, v-up, v-binary-op, v-assign, v-inner, v-single, v-tuple, v-local, v-plain, v-keyword, v-given, v-given-assign, v-given-target, v-function-def, v-function-default, v-function-variadic, v-attribute, v-index, v-invoke, v-invoke-table, v-none, v-more, p-identifier, p-attribute, p-index, p-tuple, p-pack, p-ellipsis, p-modifier, one-argument, t-name, t-attribute, t-index}
-use Rattle.grammar.specs.Reading.Primary.{arguments}
+use Rattle.grammar.specs.Canonical.Valid.{prim, tight, unary, binop, assign, plain, ex, given, function, item, Valid, Valids, Arguments, Pattern, Target, v-nil, v-empty-tuple, v-identifier, v-true, v-false, v-integer, v-float, v-string, v-group, v-modified, v-atom, v-primary, v-prim, v-unpack, v-ellipsis, v-table, v-function, v-target, v-if, v-block, v-labelled, v-tight, v-unary-op, v-unary, v-up, v-binary-op, v-assign, v-inner, v-single, v-tuple, v-local, v-plain, v-keyword, v-given, v-given-assign, v-given-target, v-function-def, v-function-default, v-function-variadic, v-attribute, v-index, v-invoke, v-invoke-table, v-none, v-more, p-identifier, p-attribute, p-index, p-tuple, p-pack, p-ellipsis, p-modifier, one-argument, arguments, t-name, t-attribute, t-index}
 use borrow.Author.Tests.{eqb-true, ltb-true}
 use Rattle.grammar.specs.Laws.Facts.{clash, by-test, and-l, and-r}
 use Rattle.grammar.specs.Laws.Roles.{same-action}

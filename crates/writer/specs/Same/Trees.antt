@@ -11,8 +11,7 @@ use Rattle.tree.specs.Tree.{Tree, Forest, none, more, count, kind-of}
 use Rattle.tree.specs.NodeKind
 use Rattle.grammar.specs.Canonical.Write.{Place, own, modified, write}
 use Rattle.grammar.specs.Canonical.Need.{need}
-use Rattle.grammar.specs.Canonical.Valid.{Role, atom, prim, tight, unary, binop, assign, plain, ex, given, function, item, field, table-item, param, branch, else-clause, jump, control, body, block, stmt, Valid, v-nil, v-empty-tuple, v-identifier, v-true, v-false, v-integer, v-float, v-string, v-group, v-modified, v-atom, v-primary, v-prim, v-unpack, v-ellipsis, v-table, v-function, v-target, v-if, v-block, v-labelled, v-tight, v-unary-op, v-unary, v-up, v-binary-op, v-assign, v-inner, v-single, v-tuple, v-local, v-plain, v-keyword, v-given, v-given-assign, v-given-target, v-function-def, v-function-default, v-function-variadic, v-attribute, v-index, v-invoke, v-invoke-table, v-field, v-field-index, v-table-item, v-param, v-branch, v-no-else, v-else, v-continue, v-break, v-break-value, v-break-label, v-return, v-return-value, v-no-control, v-control, v-body, v-block-plain, v-block-control, v-block-result, v-expression, v-loop, v-while, v-for, v-assert, v-none, v-more, no-argument, one-argument, p-identifier, p-attribute, p-index, p-tuple, p-pack, p-ellipsis, p-modifier, p-none, p-more, t-name, t-attribute, t-index}
-use Rattle.grammar.specs.Reading.Primary.{arguments}
+use Rattle.grammar.specs.Canonical.Valid.{Role, atom, prim, tight, unary, binop, assign, plain, ex, given, function, item, field, table-item, param, branch, else-clause, jump, control, body, block, stmt, Valid, v-nil, v-empty-tuple, v-identifier, v-true, v-false, v-integer, v-float, v-string, v-group, v-modified, v-atom, v-primary, v-prim, v-unpack, v-ellipsis, v-table, v-function, v-target, v-if, v-block, v-labelled, v-tight, v-unary-op, v-unary, v-up, v-binary-op, v-assign, v-inner, v-single, v-tuple, v-local, v-plain, v-keyword, v-given, v-given-assign, v-given-target, v-function-def, v-function-default, v-function-variadic, v-attribute, v-index, v-invoke, v-invoke-table, v-field, v-field-index, v-table-item, v-param, v-branch, v-no-else, v-else, v-continue, v-break, v-break-value, v-break-label, v-return, v-return-value, v-no-control, v-control, v-body, v-block-plain, v-block-control, v-block-result, v-expression, v-loop, v-while, v-for, v-assert, v-none, v-more, no-argument, one-argument, arguments, p-identifier, p-attribute, p-index, p-tuple, p-pack, p-ellipsis, p-modifier, p-none, p-more, t-name, t-attribute, t-index}
 use Rattle.grammar.specs.Laws.Facts.{clash}
 use Rattle.grammar.specs.Laws.Back.Follow.{op-kind, unary-kind, assign-kind}
 use Rattle.grammar.specs.Laws.Roles.{has-target}

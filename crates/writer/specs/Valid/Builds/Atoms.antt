@@ -8,8 +8,7 @@ use borrow.Author.Tests.{eqb-true, eqb-false, ltb-false}
 use Rattle.tree.specs.NodeKind
 use Rattle.tree.specs.Tree.{Tree, Forest, node, none, more, one}
 use Rattle.tree.specs.Node
-use Rattle.grammar.specs.Canonical.Valid.{item, table-item, Valid, Pattern, Patterns, v-nil, v-empty-tuple, v-identifier, v-true, v-false, v-integer, v-float, v-string, v-single, v-plain, v-attribute, v-index, v-invoke, v-invoke-table, no-argument, one-argument, p-identifier, p-attribute, p-index, p-tuple, p-pack, p-ellipsis, p-modifier, p-none, p-more}
-use Rattle.grammar.specs.Reading.Primary.{arguments}
+use Rattle.grammar.specs.Canonical.Valid.{item, table-item, Valid, Pattern, Patterns, v-nil, v-empty-tuple, v-identifier, v-true, v-false, v-integer, v-float, v-string, v-single, v-plain, v-attribute, v-index, v-invoke, v-invoke-table, no-argument, one-argument, arguments, p-identifier, p-attribute, p-index, p-tuple, p-pack, p-ellipsis, p-modifier, p-none, p-more}
 use Rattle.grammar.specs.Laws.Facts.{clash, by-test}
 use Rattle.grammar.specs.Laws.Views.{arguments-sound}
 use Rattle.writer.specs.Class as Class

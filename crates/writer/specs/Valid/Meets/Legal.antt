@@ -10,8 +10,7 @@ use Rattle.tree.specs.Tree.{Tree, Forest, node, more, one, count}
 use Rattle.tree.specs.Node
 use Rattle.operator.specs.Operator.{assign-code}
 use Rattle.grammar.specs.Reading.Function.{target-name}
-use Rattle.grammar.specs.Canonical.Valid.{IsNamed, Role, stmt, Valid, a-label, v-nil, v-empty-tuple, v-identifier, v-true, v-false, v-integer, v-float, v-string, v-group, v-modified, v-atom, v-primary, v-prim, v-unpack, v-ellipsis, v-table, v-function, v-target, v-if, v-block, v-labelled, v-tight, v-unary-op, v-unary, v-up, v-binary-op, v-assign, v-inner, v-single, v-tuple, v-local, v-plain, v-keyword, v-given, v-given-assign, v-given-target, v-function-def, v-function-default, v-function-variadic, v-attribute, v-index, v-invoke, v-invoke-table, v-field, v-field-index, v-table-item, v-param, v-branch, v-no-else, v-else, v-continue, v-break, v-break-value, v-break-label, v-return, v-return-value, v-no-control, v-control, v-body, v-block-plain, v-block-control, v-block-result, v-expression, v-loop, v-while, v-for, v-assert, v-none, v-more, no-argument, one-argument, p-identifier, p-attribute, p-index, p-tuple, p-pack, p-ellipsis, p-modifier, p-none, p-more, t-name, t-attribute, t-index}
-use Rattle.grammar.specs.Reading.Primary.{arguments}
+use Rattle.grammar.specs.Canonical.Valid.{IsNamed, Role, stmt, Valid, a-label, v-nil, v-empty-tuple, v-identifier, v-true, v-false, v-integer, v-float, v-string, v-group, v-modified, v-atom, v-primary, v-prim, v-unpack, v-ellipsis, v-table, v-function, v-target, v-if, v-block, v-labelled, v-tight, v-unary-op, v-unary, v-up, v-binary-op, v-assign, v-inner, v-single, v-tuple, v-local, v-plain, v-keyword, v-given, v-given-assign, v-given-target, v-function-def, v-function-default, v-function-variadic, v-attribute, v-index, v-invoke, v-invoke-table, v-field, v-field-index, v-table-item, v-param, v-branch, v-no-else, v-else, v-continue, v-break, v-break-value, v-break-label, v-return, v-return-value, v-no-control, v-control, v-body, v-block-plain, v-block-control, v-block-result, v-expression, v-loop, v-while, v-for, v-assert, v-none, v-more, no-argument, one-argument, arguments, p-identifier, p-attribute, p-index, p-tuple, p-pack, p-ellipsis, p-modifier, p-none, p-more, t-name, t-attribute, t-index}
 use Rattle.grammar.specs.Laws.Facts.{clash, by-test}
 use Rattle.writer.specs.Choice.{where-zero}
 use Rattle.writer.specs.Class as Class
