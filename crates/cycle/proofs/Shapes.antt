@@ -7,6 +7,7 @@ use native.Mathlib.Omega.{arith}
 use lib.Dec.{eqb}
 use lib.ListN.{length}
 use Rattle.token.specs.declared.Token.{Token}
+use Rattle.operator.specs.Operator.{level-count}
 use Rattle.tree.specs.NodeKind
 use Rattle.tree.specs.Tree.{Tree, Forest, node, none, more, one, snoc, kind-of}
 use Rattle.tree.specs.Node
@@ -107,13 +108,13 @@ module _ (low : Depth) (U : (q : List Error) (ts : List ℕ) → Holds Root (low
   members-root (suc n) f q ts =
       holds-past q (look q ts) λ tok q₁ rest. holds-if _
       (λ _. holds-past q (look q rest) λ tok₂ q₂ rest₂. holds-if _ (λ _. h-ok tuple-root) λ _.
-      holds-past q (binop-expr low 10 q rest) λ t q₃ r. members-root n (snoc f t) q₃ r)
+      holds-past q (binop-expr low level-count q rest) λ t q₃ r. members-root n (snoc f t) q₃ r)
       (λ _. h-ok tuple-root)
 
   tuple-expr-root : (q : List Error) (ts : List ℕ) → Holds Root (tuple-expr low q ts)
   unfolding tuple-expr
   tuple-expr-root q ts =
-      holds-then q (binop-root 10 q ts) λ t q₁ r x.
+      holds-then q (binop-root level-count q ts) λ t q₁ r x.
       holds-past q₁ (look q₁ r) λ tok q₂ rest. holds-if _ (λ _. members-root (length r) (one t) q₁ r) (λ _. h-ok x)
 
   expr-root : (q : List Error) (ts : List ℕ) → Holds Root (expr low q ts)

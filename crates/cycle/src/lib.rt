@@ -3,6 +3,7 @@ ghost use mathlib.Core.Path.{_≡_};
 ghost use mathlib.Core.Bool.{true};
 ghost use Prim.Native.Nat.{_+_, _≤_};
 ghost use lib.ListN.{length, drop};
+ghost use Rattle.operator.specs.Operator.{level-count};
 ghost use Rattle.tree.specs.Tree.{none, records};
 ghost use Rattle.grammar.specs.Reading.Expr.{binop-expr, tuple-expr, expr as expr-def};
 ghost use Rattle.grammar.specs.Reading.Primary.{group-expr, atom as atom-def, indexing-expr, table-field, table-item, table-literal, invocation, path as path-def, primary as primary-def, unpack-expr};
@@ -517,7 +518,7 @@ fn binop(
     at: usize,
     waiting: usize,
 ) -> Step
-    requires { ⌜ Ready (length (now tokens)) (length (now store)) (length (now queue)) pos at waiting × (level ≤ 10) ⌝ }
+    requires { ⌜ Ready (length (now tokens)) (length (now store)) (length (now queue)) pos at waiting × (level ≤ level-count) ⌝ }
     ensures { λ r. ⌜ Reading records (binop-expr (at-depth depth) level) (now (tokens .entry)) pos (pos + 2) 20 at waiting (now (store .entry)) (now (queue .entry)) (now (store .exit)) (now (queue .exit)) r ⌝ }
 {
     if level == PRECEDENCE_END {

@@ -20,6 +20,7 @@ use Rattle.grammar.specs.declared.Answer.{Answer}
 use Rattle.grammar.specs.declared.Answer.the-variants.{Tree as ATree, Error as AError, Refused, Stopped}
 use Rattle.grammar.specs.declared.Reader.{Reader}
 use Rattle.grammar.specs.declared.Stepped.{Stepped}
+use Rattle.scan.specs.declared.Failure.{Failure}
 use Rattle.scan.specs.Post.{won, lost, halt, out, As, clean, Lost, Wrote, waiting-errors}
 use Rattle.scan.proofs.Waiting.{chosen, other}
 
@@ -208,7 +209,7 @@ module _ (T : List ℕ) (x m : ℕ) (even : Even T) where
   pub halt-out : {k : ℕ} {s : Stepped} (S S′ : List ℕ) → As [] (next depth-limit [] T) [] (stop k) → S′ ≡ take 0 S ++ replicate (length S - 0) 0 → length S ≡ m → s ≡ halted 0 x k .step → left s S′ ≡ comes
   halt-out S S′ a e l i = bare-out S S′ m e l i (called-halt (x + length T / 2) m x (next depth-limit [] T) (a .is))
 
-  pub lost-out : {e p w : ℕ} {S Q S₁ Q₁ : List ℕ} {a : Answer} {s : Stepped} (S′ : List ℕ) → Lost (next depth-limit [] T) T 0 0 0 0 S Q e p w S₁ Q₁ → S′ ≡ take 0 S₁ ++ replicate (length S₁ - 0) 0 → length S₁ ≡ m → a ≡ error-answer e → s ≡ stands a (x + p / 2) (waiting-errors w Q₁) → left s S′ ≡ comes
+  pub lost-out : {f : Failure} {S Q S₁ Q₁ : List ℕ} {a : Answer} {s : Stepped} (S′ : List ℕ) → Lost (next depth-limit [] T) T 0 0 0 0 S Q f S₁ Q₁ → S′ ≡ take 0 S₁ ++ replicate (length S₁ - 0) 0 → length S₁ ≡ m → a ≡ error-answer (f .error) → s ≡ stands a (x + f .pos / 2) (waiting-errors (f .waiting) Q₁) → left s S′ ≡ comes
   lost-out {e} {p} {w} {S₁ = S₁} {Q₁ = Q₁} {a = a} S′ l c k n i =
       let d = next depth-limit [] T in
       let y : comes ≡ bare m (error-answer e) (reader-at (x + p / 2) (waiting-errors w Q₁)) =

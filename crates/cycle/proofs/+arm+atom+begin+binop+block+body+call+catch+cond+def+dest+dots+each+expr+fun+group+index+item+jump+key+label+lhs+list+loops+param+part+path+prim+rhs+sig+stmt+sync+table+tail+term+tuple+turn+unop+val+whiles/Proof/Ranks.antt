@@ -1,6 +1,8 @@
--- The ranks of the members of the cycle of calls: what falls at each call is 24 times the depth that is left and the rank. Assumes nothing.
+-- The ranks of the members of the cycle of calls: what falls at each call is `span` times the depth that is left, and the rank. `binop` has a
+-- rank for each operator level, and the members that lead to it stand above the last of them. Assumes nothing.
 use Prim.Native.Nat.{ℕ, _+_, _*_}
 use borrow.Fn.PlainCycle.{Measures}
+use Rattle.operator.specs.Operator.{level-count}
 use Rattle.cycle.proofs.arm.Kinds as arm-kinds
 use Rattle.cycle.proofs.atom.Kinds as atom-kinds
 use Rattle.cycle.proofs.begin.Kinds as begin-kinds
@@ -42,122 +44,126 @@ use Rattle.cycle.proofs.unop.Kinds as unop-kinds
 use Rattle.cycle.proofs.val.Kinds as val-kinds
 use Rattle.cycle.proofs.whiles.Kinds as whiles-kinds
 
+-- more than every rank
+abbrev pub span : ℕ
+span = level-count + 14
+
 abbrev pub μ-arm : Measures 3 arm-kinds.ps ℕ
-μ-arm κs a = 24 * a .1 .1 .1 .0 + 15
+μ-arm κs a = span * a .1 .1 .1 .0 + (level-count + 5)
 
 abbrev pub μ-atom : Measures 3 atom-kinds.ps ℕ
-μ-atom κs a = 24 * a .1 .1 .1 .0 + 16
+μ-atom κs a = span * a .1 .1 .1 .0 + (level-count + 6)
 
 abbrev pub μ-begin : Measures 3 begin-kinds.ps ℕ
-μ-begin κs a = 24 * a .1 .1 .1 .0 + 3
+μ-begin κs a = span * a .1 .1 .1 .0 + 3
 
 abbrev pub μ-binop : Measures 3 binop-kinds.ps ℕ
-μ-binop κs a = 24 * a .1 .1 .1 .0 + 1 + a .1 .1 .1 .1 .0
+μ-binop κs a = span * a .1 .1 .1 .0 + 1 + a .1 .1 .1 .1 .0
 
 abbrev pub μ-block : Measures 3 block-kinds.ps ℕ
-μ-block κs a = 24 * a .1 .1 .1 .0 + 2
+μ-block κs a = span * a .1 .1 .1 .0 + 2
 
 abbrev pub μ-body : Measures 3 body-kinds.ps ℕ
-μ-body κs a = 24 * a .1 .1 .1 .0 + 1
+μ-body κs a = span * a .1 .1 .1 .0 + 1
 
 abbrev pub μ-call : Measures 3 call-kinds.ps ℕ
-μ-call κs a = 24 * a .1 .1 .1 .0 + 15
+μ-call κs a = span * a .1 .1 .1 .0 + (level-count + 5)
 
 abbrev pub μ-catch : Measures 3 catch-kinds.ps ℕ
-μ-catch κs a = 24 * a .1 .1 .1 .0 + 16
+μ-catch κs a = span * a .1 .1 .1 .0 + (level-count + 6)
 
 abbrev pub μ-cond : Measures 3 cond-kinds.ps ℕ
-μ-cond κs a = 24 * a .1 .1 .1 .0 + 16
+μ-cond κs a = span * a .1 .1 .1 .0 + (level-count + 6)
 
 abbrev pub μ-def : Measures 3 def-kinds.ps ℕ
-μ-def κs a = 24 * a .1 .1 .1 .0 + 17
+μ-def κs a = span * a .1 .1 .1 .0 + (level-count + 7)
 
 abbrev pub μ-dest : Measures 3 dest-kinds.ps ℕ
-μ-dest κs a = 24 * a .1 .1 .1 .0 + 21
+μ-dest κs a = span * a .1 .1 .1 .0 + (level-count + 11)
 
 abbrev pub μ-dots : Measures 3 dots-kinds.ps ℕ
-μ-dots κs a = 24 * a .1 .1 .1 .0 + 22
+μ-dots κs a = span * a .1 .1 .1 .0 + (level-count + 12)
 
 abbrev pub μ-each : Measures 3 each-kinds.ps ℕ
-μ-each κs a = 24 * a .1 .1 .1 .0 + 16
+μ-each κs a = span * a .1 .1 .1 .0 + (level-count + 6)
 
 abbrev pub μ-expr : Measures 3 expr-kinds.ps ℕ
-μ-expr κs a = 24 * a .1 .1 .1 .0 + 14
+μ-expr κs a = span * a .1 .1 .1 .0 + (level-count + 4)
 
 abbrev pub μ-fun : Measures 3 fun-kinds.ps ℕ
-μ-fun κs a = 24 * a .1 .1 .1 .0 + 22
+μ-fun κs a = span * a .1 .1 .1 .0 + (level-count + 12)
 
 abbrev pub μ-group : Measures 3 group-kinds.ps ℕ
-μ-group κs a = 24 * a .1 .1 .1 .0 + 15
+μ-group κs a = span * a .1 .1 .1 .0 + (level-count + 5)
 
 abbrev pub μ-index : Measures 3 index-kinds.ps ℕ
-μ-index κs a = 24 * a .1 .1 .1 .0 + 15
+μ-index κs a = span * a .1 .1 .1 .0 + (level-count + 5)
 
 abbrev pub μ-item : Measures 3 item-kinds.ps ℕ
-μ-item κs a = 24 * a .1 .1 .1 .0 + 17
+μ-item κs a = span * a .1 .1 .1 .0 + (level-count + 7)
 
 abbrev pub μ-jump : Measures 3 jump-kinds.ps ℕ
-μ-jump κs a = 24 * a .1 .1 .1 .0 + 16
+μ-jump κs a = span * a .1 .1 .1 .0 + (level-count + 6)
 
 abbrev pub μ-key : Measures 3 key-kinds.ps ℕ
-μ-key κs a = 24 * a .1 .1 .1 .0 + 16
+μ-key κs a = span * a .1 .1 .1 .0 + (level-count + 6)
 
 abbrev pub μ-label : Measures 3 label-kinds.ps ℕ
-μ-label κs a = 24 * a .1 .1 .1 .0 + 17
+μ-label κs a = span * a .1 .1 .1 .0 + (level-count + 7)
 
 abbrev pub μ-lhs : Measures 3 lhs-kinds.ps ℕ
-μ-lhs κs a = 24 * a .1 .1 .1 .0 + 15
+μ-lhs κs a = span * a .1 .1 .1 .0 + (level-count + 5)
 
 abbrev pub μ-list : Measures 3 list-kinds.ps ℕ
-μ-list κs a = 24 * a .1 .1 .1 .0
+μ-list κs a = span * a .1 .1 .1 .0
 
 abbrev pub μ-loops : Measures 3 loops-kinds.ps ℕ
-μ-loops κs a = 24 * a .1 .1 .1 .0 + 2
+μ-loops κs a = span * a .1 .1 .1 .0 + 2
 
 abbrev pub μ-param : Measures 3 param-kinds.ps ℕ
-μ-param κs a = 24 * a .1 .1 .1 .0 + 15
+μ-param κs a = span * a .1 .1 .1 .0 + (level-count + 5)
 
 abbrev pub μ-part : Measures 3 part-kinds.ps ℕ
-μ-part κs a = 24 * a .1 .1 .1 .0 + 19
+μ-part κs a = span * a .1 .1 .1 .0 + (level-count + 9)
 
 abbrev pub μ-path : Measures 3 path-kinds.ps ℕ
-μ-path κs a = 24 * a .1 .1 .1 .0 + 20
+μ-path κs a = span * a .1 .1 .1 .0 + (level-count + 10)
 
 abbrev pub μ-prim : Measures 3 prim-kinds.ps ℕ
-μ-prim κs a = 24 * a .1 .1 .1 .0 + 21
+μ-prim κs a = span * a .1 .1 .1 .0 + (level-count + 11)
 
 abbrev pub μ-rhs : Measures 3 rhs-kinds.ps ℕ
-μ-rhs κs a = 24 * a .1 .1 .1 .0
+μ-rhs κs a = span * a .1 .1 .1 .0
 
 abbrev pub μ-sig : Measures 3 sig-kinds.ps ℕ
-μ-sig κs a = 24 * a .1 .1 .1 .0 + 16
+μ-sig κs a = span * a .1 .1 .1 .0 + (level-count + 6)
 
 abbrev pub μ-stmt : Measures 3 stmt-kinds.ps ℕ
-μ-stmt κs a = 24 * a .1 .1 .1 .0 + 18
+μ-stmt κs a = span * a .1 .1 .1 .0 + (level-count + 8)
 
 abbrev pub μ-sync : Measures 3 sync-kinds.ps ℕ
-μ-sync κs a = 24 * a .1 .1 .1 .0 + 15
+μ-sync κs a = span * a .1 .1 .1 .0 + (level-count + 5)
 
 abbrev pub μ-table : Measures 3 table-kinds.ps ℕ
-μ-table κs a = 24 * a .1 .1 .1 .0 + 18
+μ-table κs a = span * a .1 .1 .1 .0 + (level-count + 8)
 
 abbrev pub μ-tail : Measures 3 tail-kinds.ps ℕ
-μ-tail κs a = 24 * a .1 .1 .1 .0 + 12
+μ-tail κs a = span * a .1 .1 .1 .0 + (level-count + 2)
 
 abbrev pub μ-term : Measures 3 term-kinds.ps ℕ
-μ-term κs a = 24 * a .1 .1 .1 .0 + 23
+μ-term κs a = span * a .1 .1 .1 .0 + (level-count + 13)
 
 abbrev pub μ-tuple : Measures 3 tuple-kinds.ps ℕ
-μ-tuple κs a = 24 * a .1 .1 .1 .0 + 13
+μ-tuple κs a = span * a .1 .1 .1 .0 + (level-count + 3)
 
 abbrev pub μ-turn : Measures 3 turn-kinds.ps ℕ
-μ-turn κs a = 24 * a .1 .1 .1 .0 + 19
+μ-turn κs a = span * a .1 .1 .1 .0 + (level-count + 9)
 
 abbrev pub μ-unop : Measures 3 unop-kinds.ps ℕ
-μ-unop κs a = 24 * a .1 .1 .1 .0
+μ-unop κs a = span * a .1 .1 .1 .0
 
 abbrev pub μ-val : Measures 3 val-kinds.ps ℕ
-μ-val κs a = 24 * a .1 .1 .1 .0 + 15
+μ-val κs a = span * a .1 .1 .1 .0 + (level-count + 5)
 
 abbrev pub μ-whiles : Measures 3 whiles-kinds.ps ℕ
-μ-whiles κs a = 24 * a .1 .1 .1 .0 + 15
+μ-whiles κs a = span * a .1 .1 .1 .0 + (level-count + 5)
