@@ -210,11 +210,11 @@ module _ (T : List ℕ) (x m : ℕ) (even : Even T) where
   halt-out S S′ a e l i = bare-out S S′ m e l i (called-halt (x + length T / 2) m x (next depth-limit [] T) (a .is))
 
   pub lost-out : {f : Failure} {S Q S₁ Q₁ : List ℕ} {a : Answer} {s : Stepped} (S′ : List ℕ) → Lost (next depth-limit [] T) T 0 0 0 0 S Q f S₁ Q₁ → S′ ≡ take 0 S₁ ++ replicate (length S₁ - 0) 0 → length S₁ ≡ m → a ≡ error-answer (f .error) → s ≡ stands a (x + f .pos / 2) (waiting-errors (f .waiting) Q₁) → left s S′ ≡ comes
-  lost-out {e} {p} {w} {S₁ = S₁} {Q₁ = Q₁} {a = a} S′ l c k n i =
+  lost-out {f} {S₁ = S₁} {Q₁ = Q₁} {a = a} S′ l c k n i =
       let d = next depth-limit [] T in
-      let y : comes ≡ bare m (error-answer e) (reader-at (x + p / 2) (waiting-errors w Q₁)) =
-      called-lost (x + length T / 2) m x d (l .same .is) ∙ ap (λ (j : ℕ). bare m (error-answer e) (reader-at j (waiting-errors w Q₁))) (place T x p even (even-lost (even-next T even) (l .same .is)) (l .moved .within)) in
-      bare-out S₁ S′ m c k (i ∙ ap (λ (b : Answer). stands b (x + p / 2) (waiting-errors w Q₁)) n) y
+      let y : comes ≡ bare m (error-answer (f .error)) (reader-at (x + f .pos / 2) (waiting-errors (f .waiting) Q₁)) =
+      called-lost (x + length T / 2) m x d (l .same .is) ∙ ap (λ (j : ℕ). bare m (error-answer (f .error)) (reader-at j (waiting-errors (f .waiting) Q₁))) (place T x (f .pos) even (even-lost (even-next T even) (l .same .is)) (l .moved .within)) in
+      bare-out S₁ S′ m c k (i ∙ ap (λ (b : Answer). stands b (x + f .pos / 2) (waiting-errors (f .waiting) Q₁)) n) y
 
   pub tree-out : {p a w : ℕ} {S Q S₁ Q₁ : List ℕ} {s : Stepped} (S′ : List ℕ) → (g : Wrote records (next depth-limit [] T) clean T 0 0 8 0 0 S Q p a w S₁ Q₁) → S′ ≡ take a S₁ ++ replicate (length S₁ - a) 0 → length S₁ ≡ m → a ≤ m → s ≡ stands (ATree (a / 2)) (x + p / 2) (waiting-errors w Q₁) → left s S′ ≡ comes
   tree-out {p} {a} {w} {S₁ = S₁} {Q₁ = Q₁} {s = s} S′ g c k h i =
