@@ -34,13 +34,15 @@ shared-slice-read-value c = search needs
 
 returns-3 : tie.Need-returns-3
 returns-3 c =
-    let a = c .before .before .before .before .before .before .args in
+    let start : tie.Start = search in
+    let a = start .args in
     seen-here (a .tokens .now) (a .at) (omega arith)
     (simp (lt-leb _ _ (c .if3 .taken)))
 
 returns-4 : tie.Need-returns-4
 returns-4 c =
-    let a = c .before .before .before .before .before .before .before .args in
+    let start : tie.Start = search in
+    let a = start .args in
     seen-here (a .tokens .now) (a .at) (omega arith)
     (simp (le-leb _ _ (c .before .if3 .left), lt-leb _ _ (c .if4 .taken)))
 
@@ -49,21 +51,26 @@ value-fits-requires c κs = search needs
 
 returns-5 : tie.Need-returns-5
 returns-5 c =
-    let a = c .before .before .before .before .before .before .before .before .before .args in
+    let start : tie.Start = search in
+    let a = start .args in
     seen-here (a .tokens .now) (a .at) (omega arith)
     (simp (le-leb _ _ (c .before .before .before .if3 .left), le-leb _ _ (c .before .before .if4 .left), sym (c .before .value-fits .ensures) ∙ not-true _ (c .if5 .taken)))
 
 returns-6 : tie.Need-returns-6
 returns-6 c =
-    let a = c .before .before .before .before .before .before .before .before .before .before .args in
+    let start : tie.Start = search in
+    let a = start .args in
+    let kind-known : tie.Else3 = search in
     seen-here (a .tokens .now) (a .at) (omega arith)
-    (simp (le-leb _ _ (c .before .before .before .before .if3 .left), le-leb _ _ (c .before .before .before .if4 .left), sym (c .before .before .value-fits .ensures) ∙ not-false _ (c .before .if5 .left), eq-eqb _ _ (c .if6 .taken)))
+    (simp (le-leb _ _ (kind-known .if3 .left), le-leb _ _ (c .before .before .before .if4 .left), sym (c .before .before .value-fits .ensures) ∙ not-false _ (c .before .if5 .left), eq-eqb _ _ (c .if6 .taken)))
 
 returns-7 : tie.Need-returns-7
 returns-7 c =
-    let a = c .before .before .before .before .before .before .before .before .before .before .args in
+    let start : tie.Start = search in
+    let a = start .args in
+    let kind-known : tie.Else3 = search in
     seen-here (a .tokens .now) (a .at) (omega arith)
-    (simp (le-leb _ _ (c .before .before .before .before .if3 .left), le-leb _ _ (c .before .before .before .if4 .left), sym (c .before .before .value-fits .ensures) ∙ not-false _ (c .before .if5 .left), ne-eqb _ _ (c .if6 .left)))
+    (simp (le-leb _ _ (kind-known .if3 .left), le-leb _ _ (c .before .before .before .if4 .left), sym (c .before .before .value-fits .ensures) ∙ not-false _ (c .before .if5 .left), ne-eqb _ _ (c .if6 .left)))
 
 pub look-spec : {M : Type 1} → statement M
 look-spec =

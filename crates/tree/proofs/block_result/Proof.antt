@@ -27,7 +27,7 @@ same-length c = search needs
 
 returns : tie.Need-returns
 returns c =
-    let start = c .before .before .before .before .before in
+    let start : tie.Start = search in
     let a = start .args in
     let l = c .before .before .lead in
     record { text = led-back (a .store .now) (a .last) (a .end) (start .pre .0) (start .pre .1) (l .ensures) (l .kept .0); whole = search needs }

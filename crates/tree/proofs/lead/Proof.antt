@@ -47,7 +47,8 @@ loop-again : tie.Need-loop-again Inv-loop μ-loop
 loop-again c =
     let l = c .before .before .loop in
     let i = l .inv in
-    let a = c .before .before .before .before .args in
+    let start : tie.Start Inv-loop μ-loop = search in
+    let a = start .args in
     let s = lead-step (l .part) (a .part .now) (a .m) (l .i) (c .before .loop-test .taken) (i .0) (omega arith) (i .1) (i .2) (i .3) in
     (omega arith, simp length-set (i .1), s .0, s .1)
 
@@ -73,8 +74,8 @@ emit-requires-2 c κs =
 
 emit-requires-3 : tie.Need-emit-requires-3 Inv-loop μ-loop
 emit-requires-3 c κs =
-    let second = c .before .before .before in
-    let first = second .before .before .before .before in
+    let second : tie.After-emit2 Inv-loop μ-loop = search in
+    let first : tie.After-emit Inv-loop μ-loop = search in
     let loop = first .before .before .before in
     let i = loop .loop .inv in
     let e = first .emit .ensures in
@@ -83,16 +84,16 @@ emit-requires-3 c κs =
 
 same-length : tie.Need-same-length Inv-loop μ-loop
 same-length c =
-    let third = c .before .before in
-    let second = third .before .before .before .before in
-    let first = second .before .before .before .before in
+    let third : tie.After-emit3 Inv-loop μ-loop = search in
+    let second : tie.After-emit2 Inv-loop μ-loop = search in
+    let first : tie.After-emit Inv-loop μ-loop = search in
     third .emit3 .kept .0 ∙ second .emit2 .kept .0 ∙ first .emit .kept .0 ∙ first .before .before .before .loop .inv .1
 
 returns : tie.Need-returns Inv-loop μ-loop
 returns c =
-    let third = c .before .before in
-    let second = third .before .before .before .before in
-    let first = second .before .before .before .before in
+    let third : tie.After-emit3 Inv-loop μ-loop = search in
+    let second : tie.After-emit2 Inv-loop μ-loop = search in
+    let first : tie.After-emit Inv-loop μ-loop = search in
     let loop = first .before .before .before in
     let a = loop .before .before .args in
     let z : loop .loop .i ≡ 0 = omega (arith, first .before .before .loop-test .left) in
