@@ -13,10 +13,11 @@ use Rattle.grammar.specs.Reading.Result.{ifb}
 use Rattle.grammar.specs.Canonical.Writing.{Wrote, bare}
 use Rattle.grammar.specs.declared.Written.{Written}
 use Rattle.grammar.specs.declared.Written.the-variants.{Tokens, Stopped, Refused}
-use Rattle.writer.specs.Form.{Own}
-use Rattle.writer.specs.Layout.{text, within}
-use Rattle.writer.specs.Post.{in-room, Fronted, run-out}
-use Rattle.writer.specs.Text.{emit, HoldsAs, Holds, Put}
+use Rattle.tables.specs.Form.{Own}
+use Rattle.tables.specs.Layout.{text, within, emit}
+use Rattle.writer.specs.Post.{Fronted}
+use Rattle.tables.specs.Answer.{in-room, run-out}
+use Rattle.writer.specs.Text.{HoldsAs, Holds, Put}
 use Rattle.writer.proofs.Texts.{holds-all}
 
 -- an answer that leaves nothing in the output

@@ -8,7 +8,8 @@ use lib.ListN.{length, length-append}
 use Rattle.tree.specs.Tree.{Tree, Forest, node, none, more, count, records}
 use Rattle.tree.specs.Maybe.{Maybe, nothing, just}
 use Rattle.tree.specs.Records.{stack-records, back}
-use Rattle.writer.specs.Stack.{At, Skipped, SpotAs, Spot, Somewhere, Says, Kid-of, count-in, children-in, nth-tree, kid-in, push}
+use Rattle.writer.specs.Stack.{At, Skipped, SpotAs, Spot, Somewhere, Says, Kid-of, nth-tree, kid-in, push}
+use Rattle.tables.specs.Children.{count-in, children-in}
 use Rattle.writer.specs.Memory.{Known, Reach}
 use Rattle.writer.proofs.Laws.{pop, at-length, back-append, length-back}
 

@@ -9,8 +9,9 @@ use lib.Seq.{getD-set-same, getD-set-other}
 use Rattle.tree.specs.Tree.{Tree, Forest, node, none, more, count}
 use Rattle.tree.specs.Maybe.{Maybe, nothing, just}
 use Rattle.tree.specs.Records.{back}
-use Rattle.writer.specs.Stack.{At, Skipped, SpotAs, Spot, Says, kind-in, count-in, value-in, children-in, last-tree, last-in}
-use Rattle.writer.specs.Check.{function-form}
+use Rattle.writer.specs.Stack.{At, Skipped, SpotAs, Spot, Says}
+use Rattle.tables.specs.Children.{kind-in, count-in, value-in, children-in, last-tree, last-in}
+use Rattle.tables.specs.Check.{function-form}
 use Rattle.writer.specs.Memory.{tree-places, all-places, Slot, Memo, Table}
 use Rattle.writer.proofs.Laws.{at-many, pop}
 

@@ -7,7 +7,7 @@ use lib.ListN.{length, getD}
 use Rattle.operator.specs.Operator.{precedence-level}
 use Rattle.operator.specs.declared.BinaryOp.{BinaryOp}
 use Rattle.operator.specs.declared.BinaryOp.the-variants.{Mul, Div, Mod, Add, Sub, LShift, RShift, BitAnd, BitXor, BitOr, LT, GT, LE, GE, EQ, NE, And, Or}
-use Rattle.writer.specs.Operators.{binary-of, level}
+use Rattle.tables.specs.Operators.{binary-of, level}
 
 pub past : (xs : List ℕ) (k d : ℕ) → length xs ≤ k → getD xs k d ≡ d
 past [] k d h = refl

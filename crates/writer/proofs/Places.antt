@@ -4,7 +4,8 @@ use mathlib.Core.List.{List, _∷_}
 use Prim.Native.Nat.{ℕ}
 use Rattle.tree.specs.Tree.{Tree, node, count}
 use Rattle.tree.specs.Maybe.{Maybe, nothing, just}
-use Rattle.writer.specs.Stack.{At, SpotAs, Spot, Somewhere, Says, Last-of, Kid-of, count-in, children-in, last-in, kid-in}
+use Rattle.writer.specs.Stack.{At, SpotAs, Spot, Somewhere, Says, Last-of, Kid-of, kid-in}
+use Rattle.tables.specs.Children.{count-in, children-in, last-in}
 use Rattle.writer.specs.Memory.{Known, Reach}
 
 -- a tree ends there

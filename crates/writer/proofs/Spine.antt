@@ -10,13 +10,13 @@ use Rattle.operator.specs.Operator.{op-token}
 use Rattle.tree.specs.NodeKind
 use Rattle.tree.specs.Tree.{Tree, node, none, more, count}
 use Rattle.tree.specs.Records.{back}
-use Rattle.writer.specs.Choice.{where-zero, where-is}
-use Rattle.writer.specs.Form.{Own, first-place, second-place, place-of, base, first-deeper, second-deeper, deeper}
-use Rattle.writer.specs.Layout.{form-of, text, within}
+use Rattle.tables.specs.Choice.{where-zero, where-is}
+use Rattle.tables.specs.Form.{Own, first-place, second-place, place-of, base, first-deeper, second-deeper, deeper}
+use Rattle.tables.specs.Layout.{form-of, text, within, emit, opened, closed}
 use Rattle.writer.specs.Post.{Wrote-tree}
 use Rattle.writer.specs.Stack.{At}
-use Rattle.writer.specs.Text.{emit, opened, closed, Holds, Put}
-use Rattle.writer.specs.Tokens.{first-token, later-first-token, second-token, third-token, after-token, first-after, behind-token, last-token}
+use Rattle.writer.specs.Text.{Holds, Put}
+use Rattle.tables.specs.Tokens.{first-token, later-first-token, second-token, third-token, after-token, first-after, behind-token, last-token}
 use Rattle.writer.specs.declared.Step.{Step}
 use Rattle.writer.specs.declared.Step.the-variants.{Done, Deep}
 use Rattle.writer.proofs.Laws.{pop}

@@ -12,12 +12,13 @@ use Rattle.tree.specs.Tree.{Tree, Forest, node, none, more, kind-of, head-kind}
 use Rattle.tree.specs.Maybe.{Maybe, nothing, just}
 use Rattle.grammar.specs.Canonical.Write.{tail-of, target-atom, target-items, target-path, target-receiver, is-target, has-function}
 use Rattle.grammar.specs.Reading.Function.{target-name}
-use Rattle.writer.specs.Kinds.{target-item, name-is, gives-name}
+use Rattle.tables.specs.Kinds.{target-item, name-is, gives-name}
 use Rattle.writer.specs.declared.records.Fitting.{Fitting}
 use Rattle.writer.specs.declared.records.Fitting.the-variants.{From, Not}
-use Rattle.writer.specs.Stack.{Skipped, SpotAs, Spot, Says, Kid-of, kind-in, value-in, children-in, first-tree, nth-tree, kid-in, push, maybe}
+use Rattle.writer.specs.Stack.{Skipped, SpotAs, Spot, Says, Kid-of, nth-tree, kid-in, push, maybe}
+use Rattle.tables.specs.Children.{kind-in, value-in, children-in, first-tree}
 use Rattle.writer.specs.Memory.{Reach}
-use Rattle.writer.specs.Check.{name-given, function-form}
+use Rattle.tables.specs.Check.{name-given, function-form}
 use Rattle.writer.specs.Verdict.{Fit}
 use Rattle.writer.proofs.Memory.{spot-zero}
 use Rattle.writer.proofs.Places.{of-kid}

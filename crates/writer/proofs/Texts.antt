@@ -8,9 +8,10 @@ use native.Mathlib.Decide.{decLt}
 use borrow.Author.Tests.{ne-eqb}
 use lib.ListN.{length, take, drop, getD, set, replicate, length-set, length-drop, length-append, length-replicate, getD-replicate, List·getD-append, List·getD-eq-default, drop-of-length-le}
 use lib.Seq.{drop-cons, take-suc, take-all, getD-set-same, getD-set-other, drop-set-lt, set-at, length-take-le, getD-drop, getD-append-add, drop-length}
-use Rattle.writer.specs.Operators.{NoToken}
-use Rattle.writer.specs.Text.{emit, opened, closed, HoldsAs, Holds, Put, Opened, Closed}
-use Rattle.writer.specs.Tokens.{first-token, second-token, third-token, behind-token, last-token, carried}
+use Rattle.tables.specs.Operators.{NoToken}
+use Rattle.writer.specs.Text.{HoldsAs, Holds, Put, Opened, Closed}
+use Rattle.tables.specs.Layout.{emit, opened, closed}
+use Rattle.tables.specs.Tokens.{first-token, second-token, third-token, behind-token, last-token, carried}
 use Rattle.writer.proofs.Shaping.{drop-two}
 
 bound-as : (a : ℕ) (S X : List ℕ) → HoldsAs a S X → a ≤ length S + 2

@@ -9,7 +9,7 @@ use types.Run.{OneOf}
 use denote.Enum.Declared.{tagOf}
 use Rattle.tree.specs.Tree.{Tree, records}
 use Rattle.tree.specs.Records.{records-length, size-positive, stack-records}
-use Rattle.writer.specs.Layout.{within}
+use Rattle.tables.specs.Layout.{within}
 use Rattle.writer.specs.Post.{Wrote-tree}
 use Rattle.writer.specs.Stack.{At}
 use Rattle.writer.specs.Text.{Holds}

@@ -1,7 +1,7 @@
 // Which classes a place takes. A demand is least + 100 × most + 10,000 × other: it takes the classes from least to most, and the class
 // «other» where that is not 0 (Absent, the empty list, or another that stands apart).
 ghost use mathlib.Core.Path.{_≡_};
-ghost use Rattle.writer.specs.Demand.{of-members as of-members-def, left-side as left-side-def, right-side as right-side-def, assigned as assigned-def, inside as inside-def, defaults as defaults-def, first-demand as first-demand-def, second-demand as second-demand-def, third-demand as third-demand-def, demand as demand-def, fits as fits-def};
+ghost use Rattle.tables.specs.Demand.{of-members as of-members-def, left-side as left-side-def, right-side as right-side-def, assigned as assigned-def, inside as inside-def, defaults as defaults-def, first-demand as first-demand-def, second-demand as second-demand-def, third-demand as third-demand-def, demand as demand-def, fits as fits-def};
 use crate::choice::where_zero;
 use crate::class::ARGUMENT;
 use crate::class::LISTS;

@@ -1,6 +1,6 @@
 // The operators by the numbers that records hold: their levels and their tokens.
 ghost use mathlib.Core.Path.{_≡_};
-ghost use Rattle.writer.specs.Operators.{binary-of as binary-of-def, level as level-def};
+ghost use Rattle.tables.specs.Operators.{binary-of as binary-of-def, level as level-def};
 ghost use Rattle.operator.specs.Operator.{op-token as op-token-def, unary-token as unary-token-def, assign-token as assign-token-def};
 ghost use Rattle.grammar.specs.Canonical.Write.{keyword-of as keyword-of-def};
 use operator::BinaryOp;

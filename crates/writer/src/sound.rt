@@ -1,6 +1,6 @@
 // Whether a record's own numbers are in the range of its kind.
 ghost use mathlib.Core.Path.{_≡_};
-ghost use Rattle.writer.specs.Sound.{top as top-def, exceeds as exceeds-def, arity as arity-def, sound as sound-def};
+ghost use Rattle.tables.specs.Sound.{top as top-def, exceeds as exceeds-def, arity as arity-def, sound as sound-def};
 use tree::node;
 
 // Names are numbered up to this.

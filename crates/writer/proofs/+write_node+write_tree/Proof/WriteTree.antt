@@ -6,7 +6,7 @@ use native.Mathlib.Omega.{arith}
 use borrow.Author.Needs.{needs}
 use lib.ListN.{length}
 use Rattle.tree.specs.Tree.{Tree}
-use Rattle.writer.specs.Layout.{text, within}
+use Rattle.tables.specs.Layout.{text, within}
 use Rattle.writer.specs.Stack.{At}
 use Rattle.writer.specs.Text.{Holds}
 use Rattle.writer.proofs.Texts.{holds-bound}

@@ -1,6 +1,6 @@
 -- `writer::choice::where_is` meets its contract: each arm is the definition there. Assumes nothing.
 use borrow.Author.Tests.{eq-eqb, ne-eqb}
-use Rattle.writer.specs.Choice.{where-is}
+use Rattle.tables.specs.Choice.{where-is}
 use Rattle.writer.proofs.choice.where_is.Statement.{statement}
 use Rattle.writer.proofs.choice.where_is.Tie as tie
 

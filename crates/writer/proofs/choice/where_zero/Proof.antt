@@ -1,6 +1,6 @@
 -- `writer::choice::where_zero` meets its contract: each arm is the definition there. Assumes nothing.
 use borrow.Author.Tests.{eq-eqb, ne-eqb}
-use Rattle.writer.specs.Choice.{where-zero}
+use Rattle.tables.specs.Choice.{where-zero}
 use Rattle.writer.proofs.choice.where_zero.Statement.{statement}
 use Rattle.writer.proofs.choice.where_zero.Tie as tie
 

@@ -1,6 +1,6 @@
 -- `writer::class::argument_list` meets its contract: each arm is the definition there. Assumes nothing.
 use borrow.Author.Tests.{ne-eqb}
-use Rattle.writer.specs.Class.{argument-list}
+use Rattle.tables.specs.Class.{argument-list}
 use Rattle.writer.proofs.class.argument_list.Statement.{statement}
 use Rattle.writer.proofs.class.argument_list.Tie as tie
 

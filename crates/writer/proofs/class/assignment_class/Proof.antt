@@ -1,7 +1,7 @@
 -- `writer::class::assignment_class` meets its contract: each arm is the definition there. Assumes nothing.
 use borrow.Author.Needs.{needs}
 use borrow.Author.Tests.{ne-eqb}
-use Rattle.writer.specs.Class.{assignment-class}
+use Rattle.tables.specs.Class.{assignment-class}
 use Rattle.writer.proofs.class.assignment_class.Statement.{statement}
 use Rattle.writer.proofs.class.assignment_class.Tie as tie
 

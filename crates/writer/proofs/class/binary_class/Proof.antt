@@ -1,7 +1,7 @@
 -- `writer::class::binary_class` meets its contract: each arm is the definition there. Assumes nothing.
 use native.Mathlib.Omega.{arith}
 use borrow.Author.Needs.{needs}
-use Rattle.writer.specs.Class.{binary-class}
+use Rattle.tables.specs.Class.{binary-class}
 use Rattle.writer.proofs.Numbers.{level-most}
 use Rattle.writer.proofs.class.binary_class.Statement.{statement}
 use Rattle.writer.proofs.class.binary_class.Tie as tie

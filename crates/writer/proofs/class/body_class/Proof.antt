@@ -1,6 +1,6 @@
 -- `writer::class::body_class` meets its contract: each arm is the definition there. Assumes nothing.
 use borrow.Author.Tests.{ne-eqb}
-use Rattle.writer.specs.Class.{body-class}
+use Rattle.tables.specs.Class.{body-class}
 use Rattle.writer.proofs.class.body_class.Statement.{statement}
 use Rattle.writer.proofs.class.body_class.Tie as tie
 

@@ -1,7 +1,7 @@
 -- `writer::class::class` meets its contract: each arm is the definition there. Assumes nothing.
 use borrow.Author.Needs.{needs}
 use borrow.Author.Tests.{ne-eqb}
-use Rattle.writer.specs.Class.{class}
+use Rattle.tables.specs.Class.{class}
 use Rattle.writer.proofs.class.class.Statement.{statement}
 use Rattle.writer.proofs.class.class.Tie as tie
 

@@ -1,7 +1,7 @@
 -- `writer::class::default_list` meets its contract: each arm is the definition there. Assumes nothing.
 use borrow.Author.Needs.{needs}
 use borrow.Author.Tests.{le-ltb, lt-ltb}
-use Rattle.writer.specs.Class.{default-list}
+use Rattle.tables.specs.Class.{default-list}
 use Rattle.writer.proofs.class.default_list.Statement.{statement}
 use Rattle.writer.proofs.class.default_list.Tie as tie
 

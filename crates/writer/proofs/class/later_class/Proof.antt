@@ -1,6 +1,6 @@
 -- `writer::class::later_class` meets its contract: each arm is the definition there. Assumes nothing.
 use borrow.Author.Tests.{le-leb, lt-leb}
-use Rattle.writer.specs.Class.{later-class}
+use Rattle.tables.specs.Class.{later-class}
 use Rattle.writer.proofs.class.later_class.Statement.{statement}
 use Rattle.writer.proofs.class.later_class.Tie as tie
 

@@ -1,7 +1,7 @@
 -- `writer::class::list_class` meets its contract: each arm is the definition there. Assumes nothing.
 use borrow.Author.Needs.{needs}
 use borrow.Author.Tests.{eq-eqb, le-leb, lt-leb, ne-eqb}
-use Rattle.writer.specs.Class.{list-class}
+use Rattle.tables.specs.Class.{list-class}
 use Rattle.writer.proofs.class.list_class.Statement.{statement}
 use Rattle.writer.proofs.class.list_class.Tie as tie
 

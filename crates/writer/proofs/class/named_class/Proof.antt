@@ -1,7 +1,7 @@
 -- `writer::class::named_class` meets its contract: each arm is the definition there. Assumes nothing.
 use borrow.Author.Needs.{needs}
 use borrow.Author.Tests.{eq-eqb, le-ltb, lt-ltb, ne-eqb}
-use Rattle.writer.specs.Class.{named-class}
+use Rattle.tables.specs.Class.{named-class}
 use Rattle.writer.proofs.class.named_class.Statement.{statement}
 use Rattle.writer.proofs.class.named_class.Tie as tie
 

@@ -1,7 +1,7 @@
 -- `writer::class::plain_list` meets its contract: each arm is the definition there. Assumes nothing.
 use borrow.Author.Needs.{needs}
 use borrow.Author.Tests.{eq-eqb, le-leb, lt-leb, ne-eqb}
-use Rattle.writer.specs.Class.{plain-list}
+use Rattle.tables.specs.Class.{plain-list}
 use Rattle.writer.proofs.class.plain_list.Statement.{statement}
 use Rattle.writer.proofs.class.plain_list.Tie as tie
 

@@ -1,6 +1,6 @@
 -- `writer::demand::assigned` meets its contract: each arm is the definition there. Assumes nothing.
 use borrow.Author.Tests.{eq-eqb, le-ltb, lt-ltb, ne-eqb}
-use Rattle.writer.specs.Demand.{assigned}
+use Rattle.tables.specs.Demand.{assigned}
 use Rattle.writer.proofs.demand.assigned.Statement.{statement}
 use Rattle.writer.proofs.demand.assigned.Tie as tie
 

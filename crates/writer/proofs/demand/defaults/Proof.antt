@@ -1,6 +1,6 @@
 -- `writer::demand::defaults` meets its contract: each arm is the definition there. Assumes nothing.
 use borrow.Author.Tests.{eq-eqb, ne-eqb}
-use Rattle.writer.specs.Demand.{defaults}
+use Rattle.tables.specs.Demand.{defaults}
 use Rattle.writer.proofs.demand.defaults.Statement.{statement}
 use Rattle.writer.proofs.demand.defaults.Tie as tie
 

@@ -1,7 +1,7 @@
 -- `writer::demand::demand` meets its contract: each arm is the definition there. Assumes nothing.
 use borrow.Author.Needs.{needs}
 use borrow.Author.Tests.{eq-eqb, ne-eqb}
-use Rattle.writer.specs.Demand.{demand}
+use Rattle.tables.specs.Demand.{demand}
 use Rattle.writer.proofs.demand.demand.Statement.{statement}
 use Rattle.writer.proofs.demand.demand.Tie as tie
 

@@ -1,7 +1,7 @@
 -- `writer::demand::first_demand` meets its contract: each arm is the definition there. Assumes nothing.
 use borrow.Author.Needs.{needs}
 use borrow.Author.Tests.{ne-eqb}
-use Rattle.writer.specs.Demand.{first-demand}
+use Rattle.tables.specs.Demand.{first-demand}
 use Rattle.writer.proofs.demand.first_demand.Statement.{statement}
 use Rattle.writer.proofs.demand.first_demand.Tie as tie
 

@@ -1,6 +1,6 @@
 -- `writer::demand::fits` meets its contract: each arm is the definition there. Assumes nothing.
 use borrow.Author.Tests.{eq-eqb, le-ltb, lt-ltb, ne-eqb}
-use Rattle.writer.specs.Demand.{fits}
+use Rattle.tables.specs.Demand.{fits}
 use Rattle.writer.proofs.demand.fits.Statement.{statement}
 use Rattle.writer.proofs.demand.fits.Tie as tie
 

@@ -1,6 +1,6 @@
 -- `writer::demand::inside` meets its contract: each arm is the definition there. Assumes nothing.
 use borrow.Author.Tests.{eq-eqb, ne-eqb}
-use Rattle.writer.specs.Demand.{inside}
+use Rattle.tables.specs.Demand.{inside}
 use Rattle.writer.proofs.demand.inside.Statement.{statement}
 use Rattle.writer.proofs.demand.inside.Tie as tie
 

@@ -1,7 +1,7 @@
 -- `writer::demand::left_side` meets its contract: each arm is the definition there. Assumes nothing.
 use native.Mathlib.Omega.{arith}
 use borrow.Author.Needs.{needs}
-use Rattle.writer.specs.Demand.{left-side}
+use Rattle.tables.specs.Demand.{left-side}
 use Rattle.writer.proofs.Numbers.{level-most}
 use Rattle.writer.proofs.demand.left_side.Statement.{statement}
 use Rattle.writer.proofs.demand.left_side.Tie as tie

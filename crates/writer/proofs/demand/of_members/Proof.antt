@@ -1,7 +1,7 @@
 -- `writer::demand::of_members` meets its contract: each arm is the definition there. Assumes nothing.
 use borrow.Author.Needs.{needs}
 use borrow.Author.Tests.{eq-eqb, le-leb, lt-leb, ne-eqb}
-use Rattle.writer.specs.Demand.{of-members}
+use Rattle.tables.specs.Demand.{of-members}
 use Rattle.writer.proofs.demand.of_members.Statement.{statement}
 use Rattle.writer.proofs.demand.of_members.Tie as tie
 

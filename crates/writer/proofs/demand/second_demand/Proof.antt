@@ -1,7 +1,7 @@
 -- `writer::demand::second_demand` meets its contract: each arm is the definition there. Assumes nothing.
 use borrow.Author.Needs.{needs}
 use borrow.Author.Tests.{ne-eqb}
-use Rattle.writer.specs.Demand.{second-demand}
+use Rattle.tables.specs.Demand.{second-demand}
 use Rattle.writer.proofs.demand.second_demand.Statement.{statement}
 use Rattle.writer.proofs.demand.second_demand.Tie as tie
 

@@ -1,6 +1,6 @@
 -- `writer::demand::third_demand` meets its contract: each arm is the definition there. Assumes nothing.
 use borrow.Author.Tests.{ne-eqb}
-use Rattle.writer.specs.Demand.{third-demand}
+use Rattle.tables.specs.Demand.{third-demand}
 use Rattle.writer.proofs.demand.third_demand.Statement.{statement}
 use Rattle.writer.proofs.demand.third_demand.Tie as tie
 

@@ -1,6 +1,6 @@
 -- `writer::form::base` meets its contract: each arm is the definition there. Assumes nothing.
 use borrow.Author.Tests.{ne-eqb}
-use Rattle.writer.specs.Form.{base}
+use Rattle.tables.specs.Form.{base}
 use Rattle.writer.proofs.form.base.Statement.{statement}
 use Rattle.writer.proofs.form.base.Tie as tie
 

@@ -1,7 +1,7 @@
 -- `writer::form::deeper` meets its contract: each arm is the definition there. Assumes nothing.
 use borrow.Author.Needs.{needs}
 use borrow.Author.Tests.{ne-eqb}
-use Rattle.writer.specs.Form.{deeper}
+use Rattle.tables.specs.Form.{deeper}
 use Rattle.writer.proofs.form.deeper.Statement.{statement}
 use Rattle.writer.proofs.form.deeper.Tie as tie
 

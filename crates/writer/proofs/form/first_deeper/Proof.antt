@@ -1,7 +1,7 @@
 -- `writer::form::first_deeper` meets its contract: each arm is the definition there. Assumes nothing.
 use borrow.Author.Needs.{needs}
 use borrow.Author.Tests.{ne-eqb}
-use Rattle.writer.specs.Form.{first-deeper}
+use Rattle.tables.specs.Form.{first-deeper}
 use Rattle.writer.proofs.form.first_deeper.Statement.{statement}
 use Rattle.writer.proofs.form.first_deeper.Tie as tie
 

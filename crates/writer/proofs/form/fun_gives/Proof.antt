@@ -1,6 +1,6 @@
 -- `writer::form::fun_gives` meets its contract: each arm is the definition there. Assumes nothing.
 use borrow.Author.Tests.{ne-eqb}
-use Rattle.writer.specs.Form.{fun-gives}
+use Rattle.tables.specs.Form.{fun-gives}
 use Rattle.writer.proofs.form.fun_gives.Statement.{statement}
 use Rattle.writer.proofs.form.fun_gives.Tie as tie
 

@@ -1,7 +1,7 @@
 -- `writer::form::place_of` meets its contract: each arm is the definition there. Assumes nothing.
 use borrow.Author.Needs.{needs}
 use borrow.Author.Tests.{ne-eqb}
-use Rattle.writer.specs.Form.{place-of}
+use Rattle.tables.specs.Form.{place-of}
 use Rattle.writer.proofs.form.place_of.Statement.{statement}
 use Rattle.writer.proofs.form.place_of.Tie as tie
 

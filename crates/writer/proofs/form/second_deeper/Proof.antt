@@ -1,7 +1,7 @@
 -- `writer::form::second_deeper` meets its contract: each arm is the definition there. Assumes nothing.
 use borrow.Author.Needs.{needs}
 use borrow.Author.Tests.{ne-eqb}
-use Rattle.writer.specs.Form.{second-deeper}
+use Rattle.tables.specs.Form.{second-deeper}
 use Rattle.writer.proofs.form.second_deeper.Statement.{statement}
 use Rattle.writer.proofs.form.second_deeper.Tie as tie
 

@@ -1,7 +1,7 @@
 -- `writer::form::second_place` meets its contract: each arm is the definition there. Assumes nothing.
 use borrow.Author.Needs.{needs}
 use borrow.Author.Tests.{ne-eqb}
-use Rattle.writer.specs.Form.{second-place}
+use Rattle.tables.specs.Form.{second-place}
 use Rattle.writer.proofs.form.second_place.Statement.{statement}
 use Rattle.writer.proofs.form.second_place.Tie as tie
 

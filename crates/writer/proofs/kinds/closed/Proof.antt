@@ -1,6 +1,6 @@
 -- `writer::kinds::closed` meets its contract: each arm is the definition there. Assumes nothing.
 use borrow.Author.Tests.{ne-eqb}
-use Rattle.writer.specs.Kinds.{closed}
+use Rattle.tables.specs.Kinds.{closed}
 use Rattle.writer.proofs.kinds.closed.Statement.{statement}
 use Rattle.writer.proofs.kinds.closed.Tie as tie
 

@@ -1,7 +1,7 @@
 -- `writer::kinds::gives_name` meets its contract: each arm is the definition there. Assumes nothing.
 use borrow.Author.Needs.{needs}
 use borrow.Author.Tests.{eq-eqb, ne-eqb}
-use Rattle.writer.specs.Kinds.{gives-name}
+use Rattle.tables.specs.Kinds.{gives-name}
 use Rattle.writer.proofs.kinds.gives_name.Statement.{statement}
 use Rattle.writer.proofs.kinds.gives_name.Tie as tie
 

@@ -1,7 +1,7 @@
 -- `writer::kinds::name_is` meets its contract: each arm is the definition there. Assumes nothing.
 use borrow.Author.Needs.{needs}
 use borrow.Author.Tests.{eq-eqb, ne-eqb}
-use Rattle.writer.specs.Kinds.{name-is}
+use Rattle.tables.specs.Kinds.{name-is}
 use Rattle.writer.proofs.kinds.name_is.Statement.{statement}
 use Rattle.writer.proofs.kinds.name_is.Tie as tie
 

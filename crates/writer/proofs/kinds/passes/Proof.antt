@@ -1,6 +1,6 @@
 -- `writer::kinds::passes` meets its contract: each arm is the definition there. Assumes nothing.
 use borrow.Author.Tests.{ne-eqb}
-use Rattle.writer.specs.Kinds.{passes}
+use Rattle.tables.specs.Kinds.{passes}
 use Rattle.writer.proofs.kinds.passes.Statement.{statement}
 use Rattle.writer.proofs.kinds.passes.Tie as tie
 

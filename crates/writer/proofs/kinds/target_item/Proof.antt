@@ -1,6 +1,6 @@
 -- `writer::kinds::target_item` meets its contract: each arm is the definition there. Assumes nothing.
 use borrow.Author.Tests.{ne-eqb}
-use Rattle.writer.specs.Kinds.{target-item}
+use Rattle.tables.specs.Kinds.{target-item}
 use Rattle.writer.proofs.kinds.target_item.Statement.{statement}
 use Rattle.writer.proofs.kinds.target_item.Tie as tie
 

@@ -1,6 +1,6 @@
 -- `writer::kinds::unlabelled` meets its contract: each arm is the definition there. Assumes nothing.
 use borrow.Author.Tests.{ne-eqb}
-use Rattle.writer.specs.Kinds.{unlabelled}
+use Rattle.tables.specs.Kinds.{unlabelled}
 use Rattle.writer.proofs.kinds.unlabelled.Statement.{statement}
 use Rattle.writer.proofs.kinds.unlabelled.Tie as tie
 

@@ -5,7 +5,7 @@ use native.Mathlib.Omega.{arith}
 use borrow.Author.Needs.{needs}
 use borrow.Author.Tests.{eq-eqb, ne-eqb}
 use Rattle.writer.specs.Stack.{maybe}
-use Rattle.writer.specs.Check.{begins-labelled}
+use Rattle.tables.specs.Check.{begins-labelled}
 use Rattle.writer.proofs.Chains.{Down, down-start, down-place, down-kid, down-end, some-words, passes-some, labelled-down, labelled-here}
 use Rattle.writer.proofs.legal.begins_labelled.Statement.{statement}
 use Rattle.writer.proofs.legal.begins_labelled.Tie as tie

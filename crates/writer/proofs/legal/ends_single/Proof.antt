@@ -4,7 +4,7 @@ use mathlib.Core.Bool.{false}
 use native.Mathlib.Omega.{arith}
 use borrow.Author.Tests.{eq-eqb, ne-eqb}
 use Rattle.writer.specs.Stack.{maybe}
-use Rattle.writer.specs.Check.{ends-single}
+use Rattle.tables.specs.Check.{ends-single}
 use Rattle.writer.proofs.Places.{last-place, of-last}
 use Rattle.writer.proofs.Chains.{Down, down-start, down-place, down-last, down-end, some-words, single-down, single-here}
 use Rattle.writer.proofs.legal.ends_single.Statement.{statement}

@@ -1,7 +1,7 @@
 -- `writer::legal::ends_wrong` meets its contract. Assumes nothing.
 use mathlib.Core.Path.{sym, _∙_}
 use borrow.Author.Needs.{needs}
-use Rattle.writer.specs.Check.{ends-single}
+use Rattle.tables.specs.Check.{ends-single}
 use Rattle.writer.proofs.legal.ends_wrong.Statement.{statement}
 use Rattle.writer.proofs.legal.ends_wrong.Tie as tie
 

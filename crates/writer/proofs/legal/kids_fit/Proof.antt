@@ -10,7 +10,7 @@ use Rattle.writer.specs.Stack.{At}
 use Rattle.writer.proofs.Places.{stands, some-place, known}
 use Rattle.writer.proofs.Kids.{Part, part-start, part-look, part-end, sees-bad, sees-good}
 use Rattle.writer.proofs.Laws.{at-many}
-use Rattle.writer.specs.Check.{node-fits}
+use Rattle.tables.specs.Check.{node-fits}
 use Rattle.writer.proofs.Validity.{kid-test, node-unsound, node-sound}
 use Rattle.writer.proofs.legal.kids_fit.Statement.{statement}
 use Rattle.writer.proofs.legal.kids_fit.Tie as tie

@@ -2,7 +2,7 @@
 use mathlib.Core.Path.{sym, _∙_}
 use borrow.Author.Needs.{needs}
 use borrow.Author.Tests.{not-true, not-false}
-use Rattle.writer.specs.Check.{begins-labelled}
+use Rattle.tables.specs.Check.{begins-labelled}
 use Rattle.writer.proofs.legal.starts_wrong.Statement.{statement}
 use Rattle.writer.proofs.legal.starts_wrong.Tie as tie
 

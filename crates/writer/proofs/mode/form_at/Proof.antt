@@ -1,8 +1,8 @@
 -- `writer::mode::form_at` meets its contract: each arm is the definition there. Assumes nothing.
 use borrow.Author.Needs.{needs}
 use borrow.Author.Tests.{ne-eqb}
-use Rattle.writer.specs.Check.{signature-mode}
-use Rattle.writer.specs.Layout.{assignment-form, form-of}
+use Rattle.tables.specs.Check.{signature-mode}
+use Rattle.tables.specs.Layout.{assignment-form, form-of}
 use Rattle.writer.proofs.Places.{last-place, of-last}
 use Rattle.writer.proofs.mode.form_at.Statement.{statement}
 use Rattle.writer.proofs.mode.form_at.Tie as tie

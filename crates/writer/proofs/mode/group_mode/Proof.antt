@@ -1,7 +1,7 @@
 -- `writer::mode::group_mode` meets its contract: each arm is the definition there. Assumes nothing.
 use borrow.Author.Needs.{needs}
 use borrow.Author.Tests.{eq-eqb, ne-eqb}
-use Rattle.writer.specs.Check.{group-mode}
+use Rattle.tables.specs.Check.{group-mode}
 use Rattle.writer.proofs.Places.{last-place, of-last}
 use Rattle.writer.proofs.mode.group_mode.Statement.{statement}
 use Rattle.writer.proofs.mode.group_mode.Tie as tie

@@ -1,7 +1,7 @@
 -- `writer::mode::inner_mode` meets its contract: each arm is the definition there. Assumes nothing.
 use borrow.Author.Needs.{needs}
 use borrow.Author.Tests.{ne-eqb}
-use Rattle.writer.specs.Check.{function-form, body-mode, signature-mode, group-mode, inner-mode}
+use Rattle.tables.specs.Check.{function-form, body-mode, signature-mode, group-mode, inner-mode}
 use Rattle.writer.proofs.Places.{last-place, of-last, kid-place, of-kid}
 use Rattle.writer.proofs.mode.inner_mode.Statement.{statement}
 use Rattle.writer.proofs.mode.inner_mode.Tie as tie

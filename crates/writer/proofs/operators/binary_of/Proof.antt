@@ -1,6 +1,6 @@
 -- `writer::operators::binary_of` meets its contract: each arm is the definition there. Assumes nothing.
 use borrow.Author.Tests.{ne-eqb}
-use Rattle.writer.specs.Operators.{binary-of}
+use Rattle.tables.specs.Operators.{binary-of}
 use Rattle.writer.proofs.operators.binary_of.Statement.{statement}
 use Rattle.writer.proofs.operators.binary_of.Tie as tie
 

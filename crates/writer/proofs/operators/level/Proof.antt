@@ -1,6 +1,6 @@
 -- `writer::operators::level` meets its contract: each arm is the definition there. Assumes nothing.
 use borrow.Author.Needs.{needs}
-use Rattle.writer.specs.Operators.{level}
+use Rattle.tables.specs.Operators.{level}
 use Rattle.writer.proofs.operators.level.Statement.{statement}
 use Rattle.writer.proofs.operators.level.Tie as tie
 

@@ -1,7 +1,7 @@
 -- `writer::records::count_at` meets its contract. Assumes nothing.
 use mathlib.Core.Path.{sym, ap}
 use native.Mathlib.Omega.{arith}
-use Rattle.writer.specs.Stack.{count-in}
+use Rattle.tables.specs.Children.{count-in}
 use Rattle.writer.proofs.Memory.{spot-bound, spot-none, count-there}
 use Rattle.writer.proofs.records.count_at.Statement.{statement}
 use Rattle.writer.proofs.records.count_at.Tie as tie

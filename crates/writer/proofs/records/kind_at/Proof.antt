@@ -1,7 +1,7 @@
 -- `writer::records::kind_at` meets its contract. Assumes nothing.
 use mathlib.Core.Path.{sym, ap}
 use native.Mathlib.Omega.{arith}
-use Rattle.writer.specs.Stack.{kind-in}
+use Rattle.tables.specs.Children.{kind-in}
 use Rattle.writer.proofs.Memory.{spot-bound, spot-none, kind-there}
 use Rattle.writer.proofs.records.kind_at.Statement.{statement}
 use Rattle.writer.proofs.records.kind_at.Tie as tie

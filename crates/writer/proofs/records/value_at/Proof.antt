@@ -2,7 +2,7 @@
 use mathlib.Core.Path.{sym, ap}
 use native.Mathlib.Omega.{arith}
 use borrow.Author.Needs.{needs}
-use Rattle.writer.specs.Stack.{value-in}
+use Rattle.tables.specs.Children.{value-in}
 use Rattle.writer.proofs.Memory.{spot-bound, spot-none, value-there}
 use Rattle.writer.proofs.records.value_at.Statement.{statement}
 use Rattle.writer.proofs.records.value_at.Tie as tie

@@ -1,6 +1,6 @@
 -- `writer::sound::arity` meets its contract: each arm is the definition there. Assumes nothing.
 use borrow.Author.Tests.{ne-eqb}
-use Rattle.writer.specs.Sound.{arity}
+use Rattle.tables.specs.Sound.{arity}
 use Rattle.writer.proofs.sound.arity.Statement.{statement}
 use Rattle.writer.proofs.sound.arity.Tie as tie
 

@@ -1,7 +1,7 @@
 -- `writer::sound::exceeds` meets its contract: each arm is the definition there. Assumes nothing.
 use borrow.Author.Needs.{needs}
 use borrow.Author.Tests.{ne-eqb}
-use Rattle.writer.specs.Sound.{exceeds}
+use Rattle.tables.specs.Sound.{exceeds}
 use Rattle.writer.proofs.sound.exceeds.Statement.{statement}
 use Rattle.writer.proofs.sound.exceeds.Tie as tie
 

@@ -1,7 +1,7 @@
 -- `writer::sound::sound` meets its contract: each arm is the definition there. Assumes nothing.
 use borrow.Author.Needs.{needs}
 use borrow.Author.Tests.{eq-eqb, le-ltb, lt-ltb, ne-eqb}
-use Rattle.writer.specs.Sound.{sound}
+use Rattle.tables.specs.Sound.{sound}
 use Rattle.writer.proofs.sound.sound.Statement.{statement}
 use Rattle.writer.proofs.sound.sound.Tie as tie
 

@@ -1,6 +1,6 @@
 -- `writer::sound::top` meets its contract: each arm is the definition there. Assumes nothing.
 use borrow.Author.Tests.{ne-eqb}
-use Rattle.writer.specs.Sound.{top}
+use Rattle.tables.specs.Sound.{top}
 use Rattle.writer.proofs.sound.top.Statement.{statement}
 use Rattle.writer.proofs.sound.top.Tie as tie
 

@@ -2,7 +2,7 @@
 use mathlib.Core.Path.{sym, _∙_}
 use borrow.Author.Needs.{needs}
 use borrow.Author.Tests.{ne-eqb}
-use Rattle.writer.specs.Stack.{children-in}
+use Rattle.tables.specs.Children.{children-in}
 use Rattle.writer.proofs.Places.{of-kid, reach-kid}
 use Rattle.writer.proofs.Targets.{receiver-is, target-is}
 use Rattle.writer.proofs.target.is_target.Statement.{statement}

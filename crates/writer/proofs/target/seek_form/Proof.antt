@@ -3,8 +3,8 @@ use mathlib.Core.Path.{refl, sym, _∙_}
 use native.Mathlib.Omega.{arith}
 use borrow.Author.Needs.{needs}
 use borrow.Author.Tests.{eq-eqb, ne-eqb, not-true, not-false}
-use Rattle.writer.specs.Stack.{children-in}
-use Rattle.writer.specs.Check.{function-form}
+use Rattle.tables.specs.Children.{children-in}
+use Rattle.tables.specs.Check.{function-form}
 use Rattle.writer.proofs.Places.{kid-place, of-kid, reach-kid, a-tree}
 use Rattle.writer.proofs.Memory.{spot-none}
 use Rattle.writer.proofs.Targets.{no-function, no-signature, behind, target-place, unnamed, named}

@@ -8,7 +8,8 @@ use borrow.Author.Tests.{not-true, not-false}
 use Rattle.tree.specs.Tree.{Tree}
 use Rattle.tree.specs.Maybe.{just}
 use Rattle.grammar.specs.Canonical.Write.{target-items}
-use Rattle.writer.specs.Stack.{At, children-in}
+use Rattle.writer.specs.Stack.{At}
+use Rattle.tables.specs.Children.{children-in}
 use Rattle.writer.proofs.Places.{stands, some-place}
 use Rattle.writer.proofs.Kids.{Part, part-start, part-look, part-end, sees-bad, sees-good}
 use Rattle.writer.proofs.Laws.{at-many}

@@ -5,7 +5,8 @@ use native.Mathlib.Omega.{arith}
 use borrow.Author.Needs.{needs}
 use Rattle.tree.specs.Tree.{head-kind}
 use Rattle.grammar.specs.Canonical.Write.{tail-of, target-atom}
-use Rattle.writer.specs.Stack.{children-in, kid-in}
+use Rattle.writer.specs.Stack.{kid-in}
+use Rattle.tables.specs.Children.{children-in}
 use Rattle.writer.proofs.Places.{reach-kid, a-tree}
 use Rattle.writer.proofs.Memory.{spot-none}
 use Rattle.writer.proofs.Fitted.{not-from}

@@ -1,7 +1,7 @@
 -- `writer::tokens::after_token` meets its contract: each arm is the definition there. Assumes nothing.
 use borrow.Author.Needs.{needs}
 use borrow.Author.Tests.{eq-eqb, ne-eqb}
-use Rattle.writer.specs.Tokens.{after-token}
+use Rattle.tables.specs.Tokens.{after-token}
 use Rattle.writer.proofs.tokens.after_token.Statement.{statement}
 use Rattle.writer.proofs.tokens.after_token.Tie as tie
 

@@ -1,6 +1,6 @@
 -- `writer::tokens::assigns` meets its contract: each arm is the definition there. Assumes nothing.
 use borrow.Author.Needs.{needs}
-use Rattle.writer.specs.Tokens.{assigns}
+use Rattle.tables.specs.Tokens.{assigns}
 use Rattle.writer.proofs.tokens.assigns.Statement.{statement}
 use Rattle.writer.proofs.tokens.assigns.Tie as tie
 

@@ -1,7 +1,7 @@
 -- `writer::tokens::behind_token` meets its contract: each arm is the definition there. Assumes nothing.
 use borrow.Author.Needs.{needs}
 use borrow.Author.Tests.{ne-eqb}
-use Rattle.writer.specs.Tokens.{behind-token}
+use Rattle.tables.specs.Tokens.{behind-token}
 use Rattle.writer.proofs.tokens.behind_token.Statement.{statement}
 use Rattle.writer.proofs.tokens.behind_token.Tie as tie
 

@@ -1,7 +1,7 @@
 -- `writer::tokens::between` meets its contract: each arm is the definition there. Assumes nothing.
 use borrow.Author.Needs.{needs}
 use borrow.Author.Tests.{ne-eqb}
-use Rattle.writer.specs.Tokens.{between}
+use Rattle.tables.specs.Tokens.{between}
 use Rattle.writer.proofs.tokens.between.Statement.{statement}
 use Rattle.writer.proofs.tokens.between.Tie as tie
 

@@ -1,7 +1,7 @@
 -- `writer::tokens::carried` meets its contract: each arm is the definition there. Assumes nothing.
 use borrow.Author.Needs.{needs}
 use borrow.Author.Tests.{ne-eqb}
-use Rattle.writer.specs.Tokens.{carried}
+use Rattle.tables.specs.Tokens.{carried}
 use Rattle.writer.proofs.tokens.carried.Statement.{statement}
 use Rattle.writer.proofs.tokens.carried.Tie as tie
 

@@ -1,7 +1,7 @@
 -- `writer::tokens::first_after` meets its contract: each arm is the definition there. Assumes nothing.
 use borrow.Author.Needs.{needs}
 use borrow.Author.Tests.{ne-eqb}
-use Rattle.writer.specs.Tokens.{first-after}
+use Rattle.tables.specs.Tokens.{first-after}
 use Rattle.writer.proofs.tokens.first_after.Statement.{statement}
 use Rattle.writer.proofs.tokens.first_after.Tie as tie
 

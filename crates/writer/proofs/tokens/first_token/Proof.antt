@@ -1,7 +1,7 @@
 -- `writer::tokens::first_token` meets its contract: each arm is the definition there. Assumes nothing.
 use borrow.Author.Needs.{needs}
 use borrow.Author.Tests.{ne-eqb}
-use Rattle.writer.specs.Tokens.{first-token}
+use Rattle.tables.specs.Tokens.{first-token}
 use Rattle.writer.proofs.tokens.first_token.Statement.{statement}
 use Rattle.writer.proofs.tokens.first_token.Tie as tie
 

@@ -1,7 +1,7 @@
 -- `writer::tokens::label_in` meets its contract: each arm is the definition there. Assumes nothing.
 use borrow.Author.Needs.{needs}
 use borrow.Author.Tests.{eq-eqb, ne-eqb}
-use Rattle.writer.specs.Tokens.{label-in}
+use Rattle.tables.specs.Tokens.{label-in}
 use Rattle.writer.proofs.tokens.label_in.Statement.{statement}
 use Rattle.writer.proofs.tokens.label_in.Tie as tie
 

@@ -1,6 +1,6 @@
 -- `writer::tokens::last_token` meets its contract: each arm is the definition there. Assumes nothing.
 use borrow.Author.Tests.{ne-eqb}
-use Rattle.writer.specs.Tokens.{last-token}
+use Rattle.tables.specs.Tokens.{last-token}
 use Rattle.writer.proofs.tokens.last_token.Statement.{statement}
 use Rattle.writer.proofs.tokens.last_token.Tie as tie
 

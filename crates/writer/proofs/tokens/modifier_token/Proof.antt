@@ -1,7 +1,7 @@
 -- `writer::tokens::modifier_token` meets its contract: each arm is the definition there. Assumes nothing.
 use borrow.Author.Needs.{needs}
 use borrow.Author.Tests.{eq-eqb, ne-eqb}
-use Rattle.writer.specs.Tokens.{modifier-token}
+use Rattle.tables.specs.Tokens.{modifier-token}
 use Rattle.writer.proofs.tokens.modifier_token.Statement.{statement}
 use Rattle.writer.proofs.tokens.modifier_token.Tie as tie
 

@@ -1,6 +1,6 @@
 -- `writer::tokens::name_in` meets its contract: each arm is the definition there. Assumes nothing.
 use borrow.Author.Tests.{ne-eqb}
-use Rattle.writer.specs.Tokens.{name-in}
+use Rattle.tables.specs.Tokens.{name-in}
 use Rattle.writer.proofs.tokens.name_in.Statement.{statement}
 use Rattle.writer.proofs.tokens.name_in.Tie as tie
 

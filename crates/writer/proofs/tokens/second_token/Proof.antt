@@ -1,7 +1,7 @@
 -- `writer::tokens::second_token` meets its contract: each arm is the definition there. Assumes nothing.
 use borrow.Author.Needs.{needs}
 use borrow.Author.Tests.{ne-eqb}
-use Rattle.writer.specs.Tokens.{second-token}
+use Rattle.tables.specs.Tokens.{second-token}
 use Rattle.writer.proofs.tokens.second_token.Statement.{statement}
 use Rattle.writer.proofs.tokens.second_token.Tie as tie
 
