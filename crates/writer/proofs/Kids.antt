@@ -92,8 +92,8 @@ module _ {L : List ℕ} {p q i : ℕ} (w : Kids L p q i) (i-some : 0 < i) where
             omega (arith, skipped-below k (x .2), w .below);
       }
 
-  pub kids-end : Kid-of L p i q
-  kids-end = record { how = λ m s h. let x = child m s h in rw (x .1) (record { how = x .2 }); below = w .below }
+  pub kids-end : {j : ℕ} → j ≡ i → Kid-of L p j q
+  kids-end e = rw e (record { how = λ m s h. let x = child m s h in rw (x .1) (record { how = x .2 }); below = w .below })
 
 -- ---------------------------------------------------------------- a test of every child, by its number
 unfoldable pub from-first : (ℕ → Tree → Bool) → ℕ → Forest → Bool

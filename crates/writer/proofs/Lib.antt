@@ -1,3 +1,4 @@
+mod Known
 mod Numbers
 mod Laws
 mod Shaping

@@ -86,26 +86,18 @@ form-set slot t form =
 pub spot-zero : {L : List ℕ} {p : ℕ} {m : Maybe Tree} {s : List Tree} → m ≡ nothing → Spot L p m s → p ≡ 0
 spot-zero e h = rw e at h .how
 
-pub kind-there : {L : List ℕ} {p : ℕ} (m : Maybe Tree) (s : List Tree) → 2 ≤ p → Spot L p m s → getD L (p - 2) 0 % 256 ≡ kind-in m
-kind-there {L} {p} m s l h = go m (h .how)
-  where
-    go : (m : Maybe Tree) → SpotAs L p m s → getD L (p - 2) 0 % 256 ≡ kind-in m
-    go nothing e = absurd (omega arith)
-    go (just (node k v f)) a = pop a .kind
+-- the numbers of the record before a place that has words before it
+pub record Read (L : List ℕ) (p : ℕ) (m : Maybe Tree) : Type 0 where
+  pub kind : getD L (p - 2) 0 % 256 ≡ kind-in m
+  pub kids : getD L (p - 2) 0 / 256 ≡ count-in m
+  pub value : getD L (p - 1) 0 ≡ value-in m
 
-pub count-there : {L : List ℕ} {p : ℕ} (m : Maybe Tree) (s : List Tree) → 2 ≤ p → Spot L p m s → getD L (p - 2) 0 / 256 ≡ count-in m
-count-there {L} {p} m s l h = go m (h .how)
+pub read : {L : List ℕ} {p : ℕ} (m : Maybe Tree) (s : List Tree) → 2 ≤ p → Spot L p m s → Read L p m
+read {L} {p} m s l h = go m (h .how)
   where
-    go : (m : Maybe Tree) → SpotAs L p m s → getD L (p - 2) 0 / 256 ≡ count-in m
+    go : (m : Maybe Tree) → SpotAs L p m s → Read L p m
     go nothing e = absurd (omega arith)
-    go (just (node k v f)) a = pop a .kids
-
-pub value-there : {L : List ℕ} {p : ℕ} (m : Maybe Tree) (s : List Tree) → 2 ≤ p → Spot L p m s → getD L (p - 1) 0 ≡ value-in m
-value-there {L} {p} m s l h = go m (h .how)
-  where
-    go : (m : Maybe Tree) → SpotAs L p m s → getD L (p - 1) 0 ≡ value-in m
-    go nothing e = absurd (omega arith)
-    go (just (node k v f)) a = pop a .value
+    go (just (node k v f)) a = let x = pop a in record { kind = x .kind; kids = x .kids; value = x .value }
 
 last-none : (m : Maybe Tree) → count-in m ≡ 0 → last-in m ≡ nothing
 unfolding count last-tree

@@ -15,8 +15,8 @@ stands a = record { how = a }
 pub some-place : {L K S : List ℕ} {p : ℕ} → Known L K S p → Somewhere L p
 some-place y = record { tree = just (y .top); rest = y .rest; spot = stands (y .here) }
 
-pub known : {L K S : List ℕ} {p : ℕ} → Known L K S p → Reach L K S p
-known y = record { place = some-place y; memo = y .memo }
+pub reach-of : {L K S : List ℕ} {p : ℕ} → Known L K S p → Reach L K S p
+reach-of y = record { place = some-place y; memo = y .memo }
 
 -- the last child's place is one, and what is said there
 pub last-place : {L : List ℕ} {p q : ℕ} → Last-of L p q → Somewhere L p → Somewhere L q

@@ -1,6 +1,6 @@
 -- What a call of the writing pass answers, and where trees end. Assumes nothing.
 use mathlib.Core.Path.{_≡_, refl}
-use mathlib.Core.Bool.{false}
+use mathlib.Core.Bool.{true, false}
 use mathlib.Core.List.{List, [], _∷_}
 use Prim.Native.Nat.{ℕ, _+_, _≤_}
 use native.Mathlib.Omega.{arith}
@@ -9,7 +9,7 @@ use types.Run.{OneOf}
 use denote.Enum.Declared.{tagOf}
 use Rattle.tree.specs.Tree.{Tree, records}
 use Rattle.tree.specs.Records.{records-length, size-positive, stack-records}
-use Rattle.tables.specs.Layout.{within}
+use Rattle.tables.specs.Layout.{text, within}
 use Rattle.writer.specs.Post.{Wrote-tree}
 use Rattle.writer.specs.Stack.{At}
 use Rattle.writer.specs.Text.{Holds}
@@ -27,6 +27,11 @@ under-top {t = t} {s = s} a b = omega (arith, at-length a, at-length b, length-a
 pub not-done : (r : Step) → OneOf (1 ∷ []) (tagOf the-type r) → r ≡ Deep
 not-done (Done p a) o = absurd (omega arith)
 not-done Deep o = refl
+
+-- it was enough: the tree's words stand there
+pub wrote-done : {L : List ℕ} {d place p a q b : ℕ} {O O′ : List ℕ} {r : Step} → Wrote-tree L d place p a O O′ r → r ≡ Done q b → (t : Tree) (s : List Tree) (X : List ℕ) → At L p (t ∷ s) → Holds a O X
+    → (within t place d ≡ true) × At L q s × Holds b O′ (text t place X)
+wrote-done w e t s X h g = rw e at (w .how t s X h g)
 
 -- the depth was not enough
 pub wrote-deep : {L : List ℕ} {d place p a : ℕ} {O O′ : List ℕ} {r : Step} → r ≡ Deep → ((t : Tree) (s : List Tree) (X : List ℕ) → At L p (t ∷ s) → Holds a O X → within t place d ≡ false) → Wrote-tree L d place p a O O′ r

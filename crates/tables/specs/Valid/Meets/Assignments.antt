@@ -10,8 +10,8 @@ use Rattle.tree.specs.Tree.{Tree, Forest, node, one, two, kind-of}
 use Rattle.tree.specs.Node
 use Rattle.operator.specs.Operator.{assign-code}
 use Rattle.grammar.specs.Reading.Function.{target-name}
-use Rattle.grammar.specs.Canonical.Write.{Place, target-items, is-target, function-named, has-function}
-use Rattle.grammar.specs.Canonical.Valid.{Valid, Valids, Target, assign, function, item, v-none, v-more, v-assign, v-attribute, v-index, v-function-def, v-function-default, v-function-variadic, t-name, t-attribute, t-index}
+use Rattle.grammar.specs.Canonical.Write.{Place, is-target, function-named, has-function}
+use Rattle.grammar.specs.Canonical.Valid.{Valid, assign, v-assign}
 use Rattle.grammar.specs.Laws.Facts.{clash, and-l, and-r, by-test}
 use Rattle.tables.specs.Choice.{where-zero, where-is}
 use Rattle.tables.specs.Class as Class
@@ -138,23 +138,3 @@ let-target n {p} {d} fun target of = record {
   ends = of .ends;
   tells = assignment-told 2 (two p d);
 }
-
--- what is written with `fun` is told to be
-items-target : {f : Forest} → Valids (item false) f → target-items f ≡ true
-unfolding target-items
-items-target v-none = refl
-items-target (v-more (v-attribute n) f) = items-target f
-items-target (v-more (v-index e) f) = items-target f
-
-target-is : {p : Tree} → Target p → is-target p ≡ true
-target-is (t-name n) = refl
-target-is (t-attribute e a f n) = rw (e, items-target f)
-target-is (t-index e a f i) = rw (e, items-target f)
-
-function-is : {n : ℕ} {d : Tree} → Valid (function n) d → function-named n d ≡ true
-function-is {n} (v-function-def f b) = eq-eqb n n refl
-function-is {n} (v-function-default f v e b) = eq-eqb n n refl
-function-is {n} (v-function-variadic f v b) = eq-eqb n n refl
-
-pub fun-is : {p d : Tree} → Target p → Valid (function (target-name p)) d → has-function (two p d) ≡ true
-fun-is t h = rw (target-is t, function-is h)

@@ -11,6 +11,7 @@ use Rattle.tree.specs.Node
 use Rattle.operator.specs.Operator.{assign-code}
 use Rattle.grammar.specs.Reading.Function.{target-name}
 use Rattle.grammar.specs.Canonical.Valid.{IsNamed, Role, stmt, Valid, a-label, v-nil, v-empty-tuple, v-identifier, v-true, v-false, v-integer, v-float, v-string, v-group, v-modified, v-atom, v-primary, v-prim, v-unpack, v-ellipsis, v-table, v-function, v-target, v-if, v-block, v-labelled, v-tight, v-unary-op, v-unary, v-up, v-binary-op, v-assign, v-inner, v-single, v-tuple, v-local, v-plain, v-keyword, v-given, v-given-assign, v-given-target, v-function-def, v-function-default, v-function-variadic, v-attribute, v-index, v-invoke, v-invoke-table, v-field, v-field-index, v-table-item, v-param, v-branch, v-no-else, v-else, v-continue, v-break, v-break-value, v-break-label, v-return, v-return-value, v-no-control, v-control, v-body, v-block-plain, v-block-control, v-block-result, v-expression, v-loop, v-while, v-for, v-assert, v-none, v-more, no-argument, one-argument, arguments, p-identifier, p-attribute, p-index, p-tuple, p-pack, p-ellipsis, p-modifier, p-none, p-more, t-name, t-attribute, t-index}
+use Rattle.grammar.specs.Laws.Back.Starts.{has-target}
 use Rattle.grammar.specs.Laws.Facts.{clash, by-test}
 use Rattle.tables.specs.Choice.{where-zero}
 use Rattle.tables.specs.Class as Class
@@ -28,7 +29,7 @@ use Rattle.tables.specs.Valid.Meets.Met.{Met, positive, told, wider, sui
 use Rattle.tables.specs.Valid.Meets.Lists.{Mets, m-none, m-more, Listed, none-listed, some-listed, listed, list-kid, patterns, stmts, items, table-items, params, branches, operands, default, argument, exactly}
 use Rattle.tables.specs.Valid.Meets.Narrow.{absent-met, absent-kid, some-kind, stated, unassigned, untupled}
 use Rattle.tables.specs.Valid.Meets.Operators.{unary-range, assign-most, within-level, binary-met}
-use Rattle.tables.specs.Valid.Meets.Assignments.{assign-met, given-assign, given-other, function-met, given-target, let-target, fun-is}
+use Rattle.tables.specs.Valid.Meets.Assignments.{assign-met, given-assign, given-other, function-met, given-target, let-target}
 use Rattle.tables.specs.Valid.Meets.Blocks.{plain-last, body-met, plain-block, control-block, result-block}
 
 -- the receiver of a pattern: a primary, perhaps without a path
@@ -97,7 +98,7 @@ meets h =
       | v-ellipsis ↦ λ x. met (one-fits refl refl (absent-kid refl)) refl
       | v-table (_ → f) ↦ λ x. met (one-fits refl refl (list-kid (listed table-items refl refl (f tt)) refl)) refl
       | v-function (_ → h) ↦ λ x. wider refl (λ e. refl) (λ e. e) (h tt)
-      | v-target {begin} {p} (t → g) (d → h) ↦ λ x. let-target (target-name p) (fun-is t d) g (h tt)
+      | v-target {begin} {p} (t → g) (d → h) ↦ λ x. let-target (target-name p) (has-target t d) g (h tt)
       | v-if {begin} {b} {e} {f} (_ → h) (_ → g) (_ → r) ↦ λ x. met (two-fits refl refl (list-kid (some-listed (branches (count f)) refl (m-more (h tt) (g tt))) refl) (kid (r tt) refl)) refl
       | v-block (_ → h) ↦ λ x. met (one-fits refl refl (kid (h tt) refl)) refl
       | v-labelled {n} i (_ → h) ↦ λ x. record { fit = one-fits refl (label-range (a-label {n = n} i)) (kid (h tt) refl); class = refl; begins = λ e. clash refl e; ends = λ e. refl; tells = refl }
@@ -115,7 +116,7 @@ meets h =
       | v-keyword {begin} {close} {a} l (_ → h) ↦ λ x. wider (rw (eqb·suc-zero a)) (λ e. refl) (λ e. e) (h (omega arith))
       | v-given {a} {t} n (_ → h) ↦ λ x. rw (given-other a t n) (unassigned n (h tt))
       | v-given-assign {a} (v → h) ↦ λ x. rw (given-assign x v) (wider (either (λ d. within d Demand.Given ≡ true) (eqb a 0) refl refl) (λ e. refl) (λ e. e) (h x))
-      | v-given-target {a} {p} (t → g) (d → h) ↦ λ x. given-target a (target-name p) x (fun-is t d) g (h tt)
+      | v-given-target {a} {p} (t → g) (d → h) ↦ λ x. given-target a (target-name p) x (has-target t d) g (h tt)
       | v-function-def (_ → f) (_ → b) ↦ λ x. function-met (two-fits refl refl (signature-kid (three-fits refl refl (list-kid (listed params refl refl (f tt)) refl) (list-kid (none-listed refl) refl) (absent-kid refl))) (kid (b tt) refl))
       | v-function-default (_ → f) i (_ → h) (_ → b) ↦ λ x. function-met (two-fits refl refl (signature-kid (three-fits refl refl (list-kid (listed params refl refl (f tt)) refl) (list-kid (some-listed default refl (m-more (default-met i (h tt)) m-none)) refl) (absent-kid refl))) (kid (b tt) refl))
       | v-function-variadic (_ → f) i (_ → b) ↦ λ x. function-met (two-fits refl refl (signature-kid (three-fits refl refl (list-kid (listed params refl refl (f tt)) refl) (list-kid (none-listed refl) refl) (kid (param-met i) refl))) (kid (b tt) refl))

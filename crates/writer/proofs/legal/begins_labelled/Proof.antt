@@ -9,6 +9,7 @@ use Rattle.tables.specs.Check.{begins-labelled}
 use Rattle.writer.proofs.Chains.{Down, down-start, down-place, down-kid, down-end, some-words, passes-some, labelled-down, labelled-here}
 use Rattle.writer.proofs.legal.begins_labelled.Statement.{statement}
 use Rattle.writer.proofs.legal.begins_labelled.Tie as tie
+use Rattle.writer.proofs.Known.{known}
 
 abbrev Inv-loop : tie.InvT-loop
 Inv-loop records keys facts p q₀ q = Down records p q (maybe false begins-labelled)
@@ -16,56 +17,80 @@ Inv-loop records keys facts p q₀ q = Down records p q (maybe false begins-labe
 abbrev μ-loop : tie.MeasureT-loop
 μ-loop records keys facts p q₀ q = q
 
+abbrev Start : Type 0
+Start = tie.Start Inv-loop μ-loop
+
+abbrev At-loop : Type 0
+At-loop = tie.At-loop Inv-loop μ-loop
+
+abbrev After-kind-at : Type 0
+After-kind-at = tie.After-kind-at Inv-loop μ-loop
+
+abbrev After-passes : Type 0
+After-passes = tie.After-passes Inv-loop μ-loop
+
+abbrev Then1 : Type 0
+Then1 = tie.Then1 Inv-loop μ-loop
+
+abbrev After-kind-at2 : Type 0
+After-kind-at2 = tie.After-kind-at2 Inv-loop μ-loop
+
+abbrev Else1 : Type 0
+Else1 = tie.Else1 Inv-loop μ-loop
+
+abbrev Then2 : Type 0
+Then2 = tie.Then2 Inv-loop μ-loop
+
 loop-holds : tie.Need-loop-holds Inv-loop μ-loop
 loop-holds c = down-start
 
 kind-at-requires : tie.Need-kind-at-requires Inv-loop μ-loop
-kind-at-requires c κs = let y = down-place (c .loop .inv) (c .before .before .pre .place) in
+kind-at-requires c κs = let y = down-place (c .loop .inv) (known Start (search) .pre .place) in
     y
 
 passes-requires : tie.Need-passes-requires Inv-loop μ-loop
 passes-requires c κs = search needs
 
 kid-of-requires : tie.Need-kid-of-requires Inv-loop μ-loop
-kid-of-requires c κs = let y = down-place (c .before .before .before .loop .inv) (c .before .before .before .before .before .pre .place) in
-    (record { place = y; memo = c .before .before .before .before .before .pre .memo }, omega arith)
+kid-of-requires c κs = let y = down-place (known At-loop (search) .loop .inv) (known Start (search) .pre .place) in
+    (record { place = y; memo = known Start (search) .pre .memo }, omega arith)
 
 loop-less : tie.Need-loop-less Inv-loop μ-loop
-loop-less c = let y = down-place (c .before .before .before .before .loop .inv) (c .before .before .before .before .before .before .pre .place) in
-    let k = c .before .before .before .kind-at .ensures in
-    omega (arith, c .kid-of .ensures .below, some-words y k (passes-some (sym (c .before .before .passes .ensures) ∙ c .before .if1 .taken)))
+loop-less c = let y = down-place (known At-loop (search) .loop .inv) (known Start (search) .pre .place) in
+    let k = known After-kind-at (search) .kind-at .ensures in
+    omega (arith, c .kid-of .ensures .below, some-words y k (passes-some (sym (known After-passes (search) .passes .ensures) ∙ known Then1 (search) .if1 .taken)))
 
 loop-again : tie.Need-loop-again Inv-loop μ-loop
-loop-again c = let w = c .before .before .before .before .loop .inv in
-    let k = c .before .before .before .kind-at .ensures in
-    down-kid w (c .kid-of .ensures) (λ n u h. labelled-down n (rw (← k .how n u h) (sym (c .before .before .passes .ensures) ∙ c .before .if1 .taken)))
+loop-again c = let w = known At-loop (search) .loop .inv in
+    let k = known After-kind-at (search) .kind-at .ensures in
+    down-kid w (c .kid-of .ensures) (λ n u h. labelled-down n (rw (← k .how n u h) (sym (known After-passes (search) .passes .ensures) ∙ known Then1 (search) .if1 .taken)))
 
 kind-at-requires-2 : tie.Need-kind-at-requires-2 Inv-loop μ-loop
-kind-at-requires-2 c κs = let y = down-place (c .before .before .before .loop .inv) (c .before .before .before .before .before .pre .place) in
+kind-at-requires-2 c κs = let y = down-place (known At-loop (search) .loop .inv) (known Start (search) .pre .place) in
     y
 
 value-at-requires : tie.Need-value-at-requires Inv-loop μ-loop
-value-at-requires c κs = let y = down-place (c .before .before .before .before .before .loop .inv) (c .before .before .before .before .before .before .before .pre .place) in
+value-at-requires c κs = let y = down-place (known At-loop (search) .loop .inv) (known Start (search) .pre .place) in
     y
 
 returns : tie.Need-returns Inv-loop μ-loop
-returns c = let w = c .before .before .before .before .before .before .loop .inv in
-    let k2 = c .before .before .kind-at2 .ensures in
+returns c = let w = known At-loop (search) .loop .inv in
+    let k2 = known After-kind-at2 (search) .kind-at2 .ensures in
     let v = c .value-at .ensures in
-    let k = c .before .before .before .before .before .kind-at .ensures in
+    let k = known After-kind-at (search) .kind-at .ensures in
     down-end w (record {
       how = λ n u h.
-          let e = labelled-here n (rw (← k .how n u h) (sym (c .before .before .before .before .passes .ensures) ∙ c .before .before .before .if1 .left)) in
-          rw (e, ← k2 .how n u h, eq-eqb _ _ (c .before .if2 .taken), ← v .how n u h);
+          let e = labelled-here n (rw (← k .how n u h) (sym (known After-passes (search) .passes .ensures) ∙ known Else1 (search) .if1 .left)) in
+          rw (e, ← k2 .how n u h, eq-eqb _ _ (known Then2 (search) .if2 .taken), ← v .how n u h);
     })
 
 returns-2 : tie.Need-returns-2 Inv-loop μ-loop
-returns-2 c = let w = c .before .before .before .before .before .loop .inv in
-    let k2 = c .before .kind-at2 .ensures in
-    let k = c .before .before .before .before .kind-at .ensures in
+returns-2 c = let w = known At-loop (search) .loop .inv in
+    let k2 = known After-kind-at2 (search) .kind-at2 .ensures in
+    let k = known After-kind-at (search) .kind-at .ensures in
     down-end w (record {
       how = λ n u h.
-          let e = labelled-here n (rw (← k .how n u h) (sym (c .before .before .before .passes .ensures) ∙ c .before .before .if1 .left)) in
+          let e = labelled-here n (rw (← k .how n u h) (sym (known After-passes (search) .passes .ensures) ∙ known Else1 (search) .if1 .left)) in
           rw (e, ← k2 .how n u h, ne-eqb _ _ (c .if2 .left));
     })
 

@@ -2,7 +2,7 @@
 use mathlib.Core.Path.{sym, ap}
 use native.Mathlib.Omega.{arith}
 use Rattle.tables.specs.Children.{kind-in}
-use Rattle.writer.proofs.Memory.{spot-bound, spot-none, kind-there}
+use Rattle.writer.proofs.Memory.{spot-bound, spot-none, read}
 use Rattle.writer.proofs.records.kind_at.Statement.{statement}
 use Rattle.writer.proofs.records.kind_at.Tie as tie
 
@@ -18,7 +18,7 @@ shared-slice-read-result c = let b = spot-bound (c .before .before .pre .spot) i
     omega arith
 
 returns-2 : tie.Need-returns-2
-returns-2 c = record { how = λ m s h. kind-there m s (c .before .if1 .left) h }
+returns-2 c = record { how = λ m s h. read m s (c .before .if1 .left) h .kind }
 
 pub kind-at-spec : {M : Type 1} → statement M
 kind-at-spec = tie.close (tie.spec returns mul-result shared-slice-read-result returns-2)

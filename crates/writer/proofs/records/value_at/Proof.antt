@@ -3,7 +3,7 @@ use mathlib.Core.Path.{sym, ap}
 use native.Mathlib.Omega.{arith}
 use borrow.Author.Needs.{needs}
 use Rattle.tables.specs.Children.{value-in}
-use Rattle.writer.proofs.Memory.{spot-bound, spot-none, value-there}
+use Rattle.writer.proofs.Memory.{spot-bound, spot-none, read}
 use Rattle.writer.proofs.records.value_at.Statement.{statement}
 use Rattle.writer.proofs.records.value_at.Tie as tie
 
@@ -22,7 +22,7 @@ shared-slice-read-result c = let b = spot-bound (c .before .before .pre .spot) i
     omega arith
 
 returns-2 : tie.Need-returns-2
-returns-2 c = record { how = λ m s h. value-there m s (c .before .if1 .left) h }
+returns-2 c = record { how = λ m s h. read m s (c .before .if1 .left) h .value }
 
 pub value-at-spec : {M : Type 1} → statement M
 value-at-spec =

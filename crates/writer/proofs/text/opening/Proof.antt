@@ -3,6 +3,28 @@ use borrow.Author.Needs.{needs}
 use Rattle.writer.proofs.Texts.{opened-puts}
 use Rattle.writer.proofs.text.opening.Statement.{statement}
 use Rattle.writer.proofs.text.opening.Tie as tie
+use Rattle.writer.proofs.Known.{known}
+
+abbrev after-third-token-of-after-put-arg2 : tie.After-put-arg2 → tie.After-third-token
+after-third-token-of-after-put-arg2 c = search
+
+abbrev after-third-token-of-after-put3 : tie.After-put3 → tie.After-third-token
+after-third-token-of-after-put3 c = after-third-token-of-after-put-arg2 (search)
+
+abbrev after-second-token-of-after-put-arg2 : tie.After-put-arg2 → tie.After-second-token
+after-second-token-of-after-put-arg2 c = search
+
+abbrev after-second-token-of-after-put3 : tie.After-put3 → tie.After-second-token
+after-second-token-of-after-put3 c = after-second-token-of-after-put-arg2 (search)
+
+abbrev after-carried-of-after-put3 : tie.After-put3 → tie.After-carried
+after-carried-of-after-put3 c = search
+
+abbrev after-put-of-after-put-arg2 : tie.After-put-arg2 → tie.After-put
+after-put-of-after-put-arg2 c = search
+
+abbrev after-put-of-after-put3 : tie.After-put3 → tie.After-put
+after-put-of-after-put3 c = after-put-of-after-put-arg2 (search)
 
 third-token-requires : tie.Need-third-token-requires
 third-token-requires c κs = search needs
@@ -32,7 +54,7 @@ same-length : tie.Need-same-length
 same-length c = search needs
 
 returns : tie.Need-returns
-returns c = opened-puts (c .before .before .before .before .before .before .before .before .before .before .before .before .before .before .before .third-token .ensures) (c .before .before .before .before .before .before .before .before .before .before .before .second-token .ensures) (c .before .before .before .before .before .before .before .before .before .carried .ensures) (c .before .before .before .before .before .first-token .ensures) (c .before .before .before .carried2 .ensures) (c .before .before .before .before .before .before .before .before .before .before .before .before .before .before .put .ensures) (c .before .before .before .before .before .before .before .before .put2 .ensures) (c .before .before .put3 .ensures)
+returns c = opened-puts (after-third-token-of-after-put3 (search) .third-token .ensures) (after-second-token-of-after-put3 (search) .second-token .ensures) (after-carried-of-after-put3 (search) .carried .ensures) (known tie.After-first-token (search) .first-token .ensures) (known tie.After-carried2 (search) .carried2 .ensures) (after-put-of-after-put3 (search) .put .ensures) (known tie.After-put2 (search) .put2 .ensures) (known tie.After-put3 (search) .put3 .ensures)
 
 pub opening-spec : {M : Type 1} → statement M
 opening-spec =
