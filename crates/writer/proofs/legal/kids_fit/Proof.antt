@@ -7,6 +7,7 @@ use borrow.Author.Needs.{needs}
 use borrow.Author.Tests.{not-true, not-false}
 use Rattle.tree.specs.Tree.{Tree}
 use Rattle.writer.specs.Stack.{At}
+use Rattle.writer.specs.Memory.{Known}
 use Rattle.writer.proofs.Places.{stands, some-place, reach-of}
 use Rattle.writer.proofs.Kids.{Part, part-start, part-look, part-end, sees-bad, sees-good}
 use Rattle.writer.proofs.Laws.{at-many}
@@ -58,8 +59,19 @@ After-demand = tie.After-demand Inv-loop μ-loop
 abbrev Else2 : Type 0
 Else2 = tie.Else2 Inv-loop μ-loop
 
-abbrev start-of-at-loop : At-loop → Start
-start-of-at-loop c = search
+-- the child that is looked at
+module _ (c : In-loop) where
+  abbrev loop : At-loop
+  loop = search
+
+  abbrev start : Start
+  start = search (loop)
+
+  child-known : Known (start .args .records .now) (start .args .keys .now) (start .args .facts .now) (loop .loop .q)
+  child-known =
+      let y = start .pre in
+      let o = part-look (loop .loop .inv .go (y .top) (y .rest) (y .here)) (c .loop-test .taken) in
+      record { top = o .top; rest = _; here = o .at; memo = y .memo }
 
 kind-at-requires : tie.Need-kind-at-requires Inv-loop μ-loop
 kind-at-requires c κs = some-place (known Start (search) .pre)
@@ -96,9 +108,7 @@ demand-requires : tie.Need-demand-requires Inv-loop μ-loop
 demand-requires c κs = search needs
 
 kid-fits-requires : tie.Need-kid-fits-requires Inv-loop μ-loop
-kid-fits-requires c κs = let y = start-of-at-loop (search) .pre in
-    let o = part-look (known At-loop (search) .loop .inv .go (y .top) (y .rest) (y .here)) (known In-loop (search) .loop-test .taken) in
-    record { top = o .top; rest = _; here = o .at; memo = y .memo }
+kid-fits-requires c κs = child-known (search)
 
 returns-2 : tie.Need-returns-2 Inv-loop μ-loop
 returns-2 c = record {
@@ -109,9 +119,7 @@ returns-2 c = record {
 }
 
 begin-requires : tie.Need-begin-requires Inv-loop μ-loop
-begin-requires c κs = let y = start-of-at-loop (search) .pre in
-    let o = part-look (known At-loop (search) .loop .inv .go (y .top) (y .rest) (y .here)) (known In-loop (search) .loop-test .taken) in
-    record { top = o .top; rest = _; here = o .at; memo = y .memo }
+begin-requires c κs = child-known (search)
 
 sub-j : tie.Need-sub-j Inv-loop μ-loop
 sub-j c = search needs

@@ -10,7 +10,7 @@ use Rattle.tree.specs.Maybe.{just}
 use Rattle.writer.specs.Stack.{At}
 use Rattle.writer.specs.Memory.{tree-places, Table, Slot}
 use Rattle.writer.proofs.Places.{stands}
-use Rattle.writer.proofs.Validity.{Passed, passed-start, passed-next, passed-end, whole-bad, whole-good}
+use Rattle.writer.proofs.Validity.{Passed, Next, passed-start, passed-next, passed-end, whole-bad, whole-good}
 use Rattle.writer.proofs.Fitted.{fit-done, fit-not, not-from}
 use Rattle.writer.proofs.Memory.{table-set}
 use Rattle.writer.proofs.legal.legal.Statement.{statement}
@@ -40,9 +40,6 @@ In-loop = tie.In-loop Inv-loop μ-loop
 abbrev After-note-form : Type 0
 After-note-form = tie.After-note-form Inv-loop μ-loop
 
-abbrev After-kids-fit-arg2 : Type 0
-After-kids-fit-arg2 = tie.After-kids-fit-arg2 Inv-loop μ-loop
-
 abbrev After-kids-fit : Type 0
 After-kids-fit = tie.After-kids-fit Inv-loop μ-loop
 
@@ -55,34 +52,36 @@ After-r = tie.After-r Inv-loop μ-loop
 abbrev After-loop : Type 0
 After-loop = tie.After-loop Inv-loop μ-loop
 
-abbrev at-loop-of-after-kids-fit-arg2 : After-kids-fit-arg2 → At-loop
-at-loop-of-after-kids-fit-arg2 c = search
+-- the node that is looked at
+module _ (c : In-loop) where
+  abbrev loop : At-loop
+  loop = search
 
-abbrev start-of-after-kids-fit-arg2 : After-kids-fit-arg2 → Start
-start-of-after-kids-fit-arg2 c = search
+  abbrev start : Start
+  start = search
 
-abbrev in-loop-of-after-kids-fit-arg2 : After-kids-fit-arg2 → In-loop
-in-loop-of-after-kids-fit-arg2 c = search
+  looked-at : Next (start .args .records .now) (start .pre .top) (loop .loop .p)
+  looked-at = passed-next (loop .loop .inv .go (start .pre .top) (start .pre .here)) (c .loop-test .taken)
+
+-- its children were tested
+module _ (c : After-kids-fit) where
+  abbrev turn : In-loop
+  turn = search
 
 loop-holds : tie.Need-loop-holds Inv-loop μ-loop
 loop-holds c = let y = known Start (search) .pre in
     record { go = λ t a. passed-start a; table = y .table; place = record { from = omega arith; inside = omega arith } }
 
 add-p : tie.Need-add-p Inv-loop μ-loop
-add-p c = let y = known Start (search) .pre in
-    let o = passed-next (known At-loop (search) .loop .inv .go (y .top) (y .here)) (c .loop-test .taken) in
-    let x = o .at .inside in
-    omega arith
+add-p c = omega (arith, looked-at (search) .at .inside)
 
 note-form-requires : tie.Need-note-form-requires Inv-loop μ-loop
-note-form-requires c κs = let y = known Start (search) .pre in
+note-form-requires c κs = let o = looked-at (search) in
     let v = known At-loop (search) .loop .inv in
-    let o = passed-next (v .go (y .top) (y .here)) (known In-loop (search) .loop-test .taken) in
     (record { top = o .top; rest = o .rest; here = o .at }, v .table, v .place)
 
 kids-fit-requires : tie.Need-kids-fit-requires Inv-loop μ-loop
-kids-fit-requires c κs = let y = known Start (search) .pre in
-    let o = passed-next (known At-loop (search) .loop .inv .go (y .top) (y .here)) (known In-loop (search) .loop-test .taken) in
+kids-fit-requires c κs = let o = looked-at (search) in
     record { top = o .top; rest = o .rest; here = o .at; memo = known After-note-form (search) .note-form .ensures .0 .memo }
 
 enum-known-r : tie.Need-enum-known-r Inv-loop μ-loop
@@ -92,12 +91,13 @@ enum-told : tie.Need-enum-told Inv-loop μ-loop
 enum-told c = search needs
 
 returns : tie.Need-returns Inv-loop μ-loop
-returns c = record {
-  how = λ t a.
-      let z = passed-next (at-loop-of-after-kids-fit-arg2 (search) .loop .inv .go t a) (known In-loop (search) .loop-test .taken) in
-      sym (whole-bad t (z .bad (fit-not (known After-kids-fit (search) .kids-fit .ensures) (z .top) (z .rest) (z .at) (not-from _ (known At-match-keys2 (search) .match .keys2)))));
-  memo = known After-note-form (search) .note-form .ensures .0 .memo;
-}
+returns c = let f = known After-kids-fit (search) in
+    record {
+      how = λ t a.
+          let z = passed-next (loop (turn f) .loop .inv .go t a) (turn f .loop-test .taken) in
+          sym (whole-bad t (z .bad (fit-not (f .kids-fit .ensures) (z .top) (z .rest) (z .at) (not-from _ (known At-match-keys2 (search) .match .keys2)))));
+      memo = known After-note-form (search) .note-form .ensures .0 .memo;
+    }
 
 mul-keys : tie.Need-mul-keys Inv-loop μ-loop
 mul-keys c = search needs
@@ -112,20 +112,18 @@ element-write-facts : tie.Need-element-write-facts Inv-loop μ-loop
 element-write-facts c = search needs
 
 loop-less : tie.Need-loop-less Inv-loop μ-loop
-loop-less c = let y = start-of-after-kids-fit-arg2 (search) .pre in
-    let o = passed-next (at-loop-of-after-kids-fit-arg2 (search) .loop .inv .go (y .top) (y .here)) (in-loop-of-after-kids-fit-arg2 (search) .loop-test .taken) in
-    let x = o .at .inside in
-    omega arith
+loop-less c = omega (arith, looked-at (turn (search)) .at .inside)
 
 loop-again : tie.Need-loop-again Inv-loop μ-loop
-loop-again c = let fit = known After-kids-fit (search) .kids-fit .ensures in
+loop-again c = let f = known After-kids-fit (search) in
+    let i = turn f in
     let from = known After-r (search) .r .given .1 in
     let noted = known After-note-form (search) .note-form .ensures in
     record {
       go = λ t a.
-          let z = passed-next (at-loop-of-after-kids-fit-arg2 (search) .loop .inv .go t a) (in-loop-of-after-kids-fit-arg2 (search) .loop-test .taken) in
-          z .fits (fit-done fit (z .top) (z .rest) (z .at) from .0);
-      table = table-set _ _ ((at-loop-of-after-kids-fit-arg2 (search) .loop .p + 2) / 2 % tree-places) _ _ (omega arith) (noted .0) (λ l. record { how = λ t s a. fit-done fit t s a from .1 }) (λ l. let x = l .from in absurd (omega arith));
+          let z = passed-next (loop i .loop .inv .go t a) (i .loop-test .taken) in
+          z .fits (fit-done (f .kids-fit .ensures) (z .top) (z .rest) (z .at) from .0);
+      table = table-set _ _ ((loop i .loop .p + 2) / 2 % tree-places) _ _ (omega arith) (noted .0) (λ l. record { how = λ t s a. fit-done (f .kids-fit .ensures) t s a from .1 }) (λ l. let x = l .from in absurd (omega arith));
       place = noted .1;
     }
 

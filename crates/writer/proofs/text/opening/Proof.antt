@@ -5,27 +5,6 @@ use Rattle.writer.proofs.text.opening.Statement.{statement}
 use Rattle.writer.proofs.text.opening.Tie as tie
 use Rattle.writer.proofs.Known.{known}
 
-abbrev after-third-token-of-after-put-arg2 : tie.After-put-arg2 → tie.After-third-token
-after-third-token-of-after-put-arg2 c = search
-
-abbrev after-third-token-of-after-put3 : tie.After-put3 → tie.After-third-token
-after-third-token-of-after-put3 c = after-third-token-of-after-put-arg2 (search)
-
-abbrev after-second-token-of-after-put-arg2 : tie.After-put-arg2 → tie.After-second-token
-after-second-token-of-after-put-arg2 c = search
-
-abbrev after-second-token-of-after-put3 : tie.After-put3 → tie.After-second-token
-after-second-token-of-after-put3 c = after-second-token-of-after-put-arg2 (search)
-
-abbrev after-carried-of-after-put3 : tie.After-put3 → tie.After-carried
-after-carried-of-after-put3 c = search
-
-abbrev after-put-of-after-put-arg2 : tie.After-put-arg2 → tie.After-put
-after-put-of-after-put-arg2 c = search
-
-abbrev after-put-of-after-put3 : tie.After-put3 → tie.After-put
-after-put-of-after-put3 c = after-put-of-after-put-arg2 (search)
-
 third-token-requires : tie.Need-third-token-requires
 third-token-requires c κs = search needs
 
@@ -54,7 +33,8 @@ same-length : tie.Need-same-length
 same-length c = search needs
 
 returns : tie.Need-returns
-returns c = opened-puts (after-third-token-of-after-put3 (search) .third-token .ensures) (after-second-token-of-after-put3 (search) .second-token .ensures) (after-carried-of-after-put3 (search) .carried .ensures) (known tie.After-first-token (search) .first-token .ensures) (known tie.After-carried2 (search) .carried2 .ensures) (after-put-of-after-put3 (search) .put .ensures) (known tie.After-put2 (search) .put2 .ensures) (known tie.After-put3 (search) .put3 .ensures)
+returns c = let w : tie.After-put-arg2 = search (known tie.After-put3 (search)) in
+    opened-puts (known tie.After-third-token (search) .third-token .ensures) (known tie.After-second-token (search) .second-token .ensures) (known tie.After-carried (search) .carried .ensures) (known tie.After-first-token (search) .first-token .ensures) (known tie.After-carried2 (search) .carried2 .ensures) (known tie.After-put (search) .put .ensures) (known tie.After-put2 (search) .put2 .ensures) (known tie.After-put3 (search) .put3 .ensures)
 
 pub opening-spec : {M : Type 1} → statement M
 opening-spec =
