@@ -22,9 +22,7 @@ returns-4 c = rw (c .match .keys4)
 
 returns-5 : tie.Need-returns-5
 unfolding closed
-returns-5 c =
-    let r = c .match .rest in
-    simp (ne-eqb _ _ (r .1), ne-eqb _ _ (r .0 .1), ne-eqb _ _ (r .0 .0 .1), ne-eqb _ _ (r .0 .0 .0 .1))
+returns-5 c = search ne-eqb
 
 pub closed-spec : {M : Type 1} → statement M
 closed-spec = tie.close (tie.spec returns returns-2 returns-3 returns-4 returns-5)

@@ -22,9 +22,7 @@ returns-6 : tie.Need-returns-6
 returns-6 c = rw (c .match .keys6)
 
 returns-7 : tie.Need-returns-7
-returns-7 c =
-    let r = c .match .rest in
-    simp (ne-eqb _ _ (r .1), ne-eqb _ _ (r .0 .1), ne-eqb _ _ (r .0 .0 .1), ne-eqb _ _ (r .0 .0 .0 .1), ne-eqb _ _ (r .0 .0 .0 .0 .1), ne-eqb _ _ (r .0 .0 .0 .0 .0 .1))
+returns-7 c = search ne-eqb
 
 pub target-atom-spec : {M : Type 1} → statement M
 target-atom-spec =

@@ -1,7 +1,8 @@
 -- `writer::operators::assign_token` meets its contract: each arm is the definition there. Assumes nothing.
 use mathlib.Core.Path.{sym}
+use lib.ListN.{List·getD-eq-default}
 use Rattle.operator.specs.Operator.{no-token, assign-tokens, assign-token}
-use Rattle.writer.proofs.Numbers.{least, past, up}
+use Rattle.writer.proofs.Numbers.{from}
 use Rattle.writer.proofs.operators.assign_token.Statement.{statement}
 use Rattle.writer.proofs.operators.assign_token.Tie as tie
 
@@ -51,9 +52,7 @@ returns-11 c = rw (c .match .keys11)
 
 returns-12 : tie.Need-returns-12
 unfolding assign-token
-returns-12 c =
-    let r = c .match .rest in
-    sym (past assign-tokens (c .before .args .place) no-token (up (up (up (up (up (up (up (up (up (up (up (least (c .before .args .place)) (r .0 .0 .0 .0 .0 .0 .0 .0 .0 .0 .1)) (r .0 .0 .0 .0 .0 .0 .0 .0 .0 .1)) (r .0 .0 .0 .0 .0 .0 .0 .0 .1)) (r .0 .0 .0 .0 .0 .0 .0 .1)) (r .0 .0 .0 .0 .0 .0 .1)) (r .0 .0 .0 .0 .0 .1)) (r .0 .0 .0 .0 .1)) (r .0 .0 .0 .1)) (r .0 .0 .1)) (r .0 .1)) (r .1)))
+returns-12 c = sym (List·getD-eq-default assign-tokens no-token (from 11 (c .match .rest)))
 
 pub assign-token-spec : {M : Type 1} → statement M
 assign-token-spec =

@@ -1,7 +1,8 @@
 -- `writer::operators::op_token` meets its contract: each arm is the definition there. Assumes nothing.
 use mathlib.Core.Path.{sym}
+use lib.ListN.{List·getD-eq-default}
 use Rattle.operator.specs.Operator.{no-token, op-tokens, op-token}
-use Rattle.writer.proofs.Numbers.{least, past, up}
+use Rattle.writer.proofs.Numbers.{from}
 use Rattle.writer.proofs.operators.op_token.Statement.{statement}
 use Rattle.writer.proofs.operators.op_token.Tie as tie
 
@@ -79,9 +80,7 @@ returns-18 c = rw (c .match .keys18)
 
 returns-19 : tie.Need-returns-19
 unfolding op-token
-returns-19 c =
-    let r = c .match .rest in
-    sym (past op-tokens (c .before .args .number) no-token (up (up (up (up (up (up (up (up (up (up (up (up (up (up (up (up (up (up (least (c .before .args .number)) (r .0 .0 .0 .0 .0 .0 .0 .0 .0 .0 .0 .0 .0 .0 .0 .0 .0 .1)) (r .0 .0 .0 .0 .0 .0 .0 .0 .0 .0 .0 .0 .0 .0 .0 .0 .1)) (r .0 .0 .0 .0 .0 .0 .0 .0 .0 .0 .0 .0 .0 .0 .0 .1)) (r .0 .0 .0 .0 .0 .0 .0 .0 .0 .0 .0 .0 .0 .0 .1)) (r .0 .0 .0 .0 .0 .0 .0 .0 .0 .0 .0 .0 .0 .1)) (r .0 .0 .0 .0 .0 .0 .0 .0 .0 .0 .0 .0 .1)) (r .0 .0 .0 .0 .0 .0 .0 .0 .0 .0 .0 .1)) (r .0 .0 .0 .0 .0 .0 .0 .0 .0 .0 .1)) (r .0 .0 .0 .0 .0 .0 .0 .0 .0 .1)) (r .0 .0 .0 .0 .0 .0 .0 .0 .1)) (r .0 .0 .0 .0 .0 .0 .0 .1)) (r .0 .0 .0 .0 .0 .0 .1)) (r .0 .0 .0 .0 .0 .1)) (r .0 .0 .0 .0 .1)) (r .0 .0 .0 .1)) (r .0 .0 .1)) (r .0 .1)) (r .1)))
+returns-19 c = sym (List·getD-eq-default op-tokens no-token (from 18 (c .match .rest)))
 
 pub op-token-spec : {M : Type 1} → statement M
 op-token-spec =

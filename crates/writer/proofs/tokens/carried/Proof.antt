@@ -33,9 +33,7 @@ returns-5 c = simp (c .label-in .ensures, c .before .match .keys5)
 
 returns-6 : tie.Need-returns-6
 unfolding carried
-returns-6 c =
-    let r = c .match .rest in
-    simp (ne-eqb _ _ (r .1), ne-eqb _ _ (r .0 .1), ne-eqb _ _ (r .0 .0 .1), ne-eqb _ _ (r .0 .0 .0 .1), ne-eqb _ _ (r .0 .0 .0 .0 .1))
+returns-6 c = search ne-eqb
 
 pub carried-spec : {M : Type 1} → statement M
 carried-spec =
