@@ -1,11 +1,15 @@
--- Facts of numbers: an operator's level is 10 at most; a number that is none of those below a bound. Assumes nothing.
+-- Facts of numbers: tests; a number that is none of those below a bound; an operator's level is 10 at most. Assumes nothing.
 use mathlib.Core.Path.{_≡_}
 use Prim.Native.Nat.{ℕ, zero, suc, _≤_}
 use native.Mathlib.Omega.{arith}
+use borrow.Author.Tests.{eq-eqb, ne-eqb, lt-ltb, le-ltb, lt-leb, le-leb}
 use Rattle.operator.specs.Operator.{precedence-level}
 use Rattle.operator.specs.declared.BinaryOp.{BinaryOp}
 use Rattle.operator.specs.declared.BinaryOp.the-variants.{Mul, Div, Mod, Add, Sub, LShift, RShift, BitAnd, BitXor, BitOr, LT, GT, LE, GE, EQ, NE, And, Or}
 use Rattle.tables.specs.Operators.{binary-of, level}
+
+-- tests, by what is known of the numbers
+pub ruleset tests = (eq-eqb, ne-eqb, lt-ltb, le-ltb, lt-leb, le-leb)
 
 -- none of the numbers below n, one by one
 abbrev pub None-below : ℕ → ℕ → Type 0

@@ -1,7 +1,7 @@
 -- `writer::class::assignment_class` meets its contract: each arm is the definition there. Assumes nothing.
 use borrow.Author.Needs.{needs}
-use borrow.Author.Tests.{ne-eqb}
 use Rattle.tables.specs.Class.{assignment-class}
+use Rattle.writer.proofs.Numbers.{tests}
 use Rattle.writer.proofs.class.assignment_class.Statement.{statement}
 use Rattle.writer.proofs.class.assignment_class.Tie as tie
 
@@ -27,9 +27,7 @@ returns-2 c = simp (c .where-is .ensures, c .before .keyword-class2 .ensures, c 
 
 returns-3 : tie.Need-returns-3
 unfolding assignment-class
-returns-3 c =
-    let r = c .before .match .rest in
-    simp (c .named-class .ensures, ne-eqb _ _ (r .1), ne-eqb _ _ (r .0 .1))
+returns-3 c = search (c .named-class .ensures, tests)
 
 pub assignment-class-spec : {M : Type 1} → statement M
 assignment-class-spec =

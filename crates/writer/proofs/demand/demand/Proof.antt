@@ -1,7 +1,7 @@
 -- `writer::demand::demand` meets its contract: each arm is the definition there. Assumes nothing.
 use borrow.Author.Needs.{needs}
-use borrow.Author.Tests.{eq-eqb, ne-eqb}
 use Rattle.tables.specs.Demand.{demand}
+use Rattle.writer.proofs.Numbers.{tests}
 use Rattle.writer.proofs.demand.demand.Statement.{statement}
 use Rattle.writer.proofs.demand.demand.Tie as tie
 
@@ -10,7 +10,7 @@ of-members-requires c κs = search needs
 
 returns : tie.Need-returns
 unfolding demand
-returns c = simp (c .of-members .ensures, eq-eqb _ _ (c .before .if1 .taken))
+returns c = search (c .of-members .ensures, tests)
 
 first-demand-requires : tie.Need-first-demand-requires
 first-demand-requires c κs = search needs
@@ -23,17 +23,15 @@ third-demand-requires c κs = search needs
 
 returns-2 : tie.Need-returns-2
 unfolding demand
-returns-2 c = simp (c .first-demand .ensures, ne-eqb _ _ (c .before .before .if1 .left), c .before .match .keys1)
+returns-2 c = search (c .first-demand .ensures, c .before .match .keys1, tests)
 
 returns-3 : tie.Need-returns-3
 unfolding demand
-returns-3 c = simp (c .second-demand .ensures, ne-eqb _ _ (c .before .before .if1 .left), c .before .match .keys2)
+returns-3 c = search (c .second-demand .ensures, c .before .match .keys2, tests)
 
 returns-4 : tie.Need-returns-4
 unfolding demand
-returns-4 c =
-    let r = c .before .match .rest in
-    simp (c .third-demand .ensures, ne-eqb _ _ (c .before .before .if1 .left), ne-eqb _ _ (r .1), ne-eqb _ _ (r .0 .1))
+returns-4 c = search (c .third-demand .ensures, tests)
 
 pub demand-spec : {M : Type 1} → statement M
 demand-spec =

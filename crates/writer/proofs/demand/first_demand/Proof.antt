@@ -1,7 +1,7 @@
 -- `writer::demand::first_demand` meets its contract: each arm is the definition there. Assumes nothing.
 use borrow.Author.Needs.{needs}
-use borrow.Author.Tests.{ne-eqb}
 use Rattle.tables.specs.Demand.{first-demand}
+use Rattle.writer.proofs.Numbers.{tests}
 use Rattle.writer.proofs.demand.first_demand.Statement.{statement}
 use Rattle.writer.proofs.demand.first_demand.Tie as tie
 
@@ -148,7 +148,7 @@ returns-33 c = rw (c .match .keys33)
 
 returns-34 : tie.Need-returns-34
 unfolding first-demand
-returns-34 c = search ne-eqb
+returns-34 c = search tests
 
 pub first-demand-spec : {M : Type 1} → statement M
 first-demand-spec =

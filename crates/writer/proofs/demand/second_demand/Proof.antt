@@ -1,7 +1,7 @@
 -- `writer::demand::second_demand` meets its contract: each arm is the definition there. Assumes nothing.
 use borrow.Author.Needs.{needs}
-use borrow.Author.Tests.{ne-eqb}
 use Rattle.tables.specs.Demand.{second-demand}
+use Rattle.writer.proofs.Numbers.{tests}
 use Rattle.writer.proofs.demand.second_demand.Statement.{statement}
 use Rattle.writer.proofs.demand.second_demand.Tie as tie
 
@@ -68,7 +68,7 @@ returns-13 c = rw (c .match .keys13)
 
 returns-14 : tie.Need-returns-14
 unfolding second-demand
-returns-14 c = search ne-eqb
+returns-14 c = search tests
 
 pub second-demand-spec : {M : Type 1} → statement M
 second-demand-spec =

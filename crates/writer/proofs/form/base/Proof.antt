@@ -1,6 +1,6 @@
 -- `writer::form::base` meets its contract: each arm is the definition there. Assumes nothing.
-use borrow.Author.Tests.{ne-eqb}
 use Rattle.tables.specs.Form.{base}
+use Rattle.writer.proofs.Numbers.{tests}
 use Rattle.writer.proofs.form.base.Statement.{statement}
 use Rattle.writer.proofs.form.base.Tie as tie
 
@@ -94,7 +94,7 @@ returns-22 c = rw (c .match .keys22)
 
 returns-23 : tie.Need-returns-23
 unfolding base
-returns-23 c = search ne-eqb
+returns-23 c = search tests
 
 pub base-spec : {M : Type 1} → statement M
 base-spec =

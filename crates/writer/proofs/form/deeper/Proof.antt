@@ -1,7 +1,7 @@
 -- `writer::form::deeper` meets its contract: each arm is the definition there. Assumes nothing.
 use borrow.Author.Needs.{needs}
-use borrow.Author.Tests.{ne-eqb}
 use Rattle.tables.specs.Form.{deeper}
+use Rattle.writer.proofs.Numbers.{tests}
 use Rattle.writer.proofs.form.deeper.Statement.{statement}
 use Rattle.writer.proofs.form.deeper.Tie as tie
 
@@ -21,7 +21,7 @@ returns-2 c = simp (c .second-deeper .ensures, c .before .match .keys2)
 
 returns-3 : tie.Need-returns-3
 unfolding deeper
-returns-3 c = search ne-eqb
+returns-3 c = search tests
 
 pub deeper-spec : {M : Type 1} → statement M
 deeper-spec =

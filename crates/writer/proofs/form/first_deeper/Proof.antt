@@ -1,7 +1,7 @@
 -- `writer::form::first_deeper` meets its contract: each arm is the definition there. Assumes nothing.
 use borrow.Author.Needs.{needs}
-use borrow.Author.Tests.{ne-eqb}
 use Rattle.tables.specs.Form.{first-deeper}
+use Rattle.writer.proofs.Numbers.{tests}
 use Rattle.writer.proofs.form.first_deeper.Statement.{statement}
 use Rattle.writer.proofs.form.first_deeper.Tie as tie
 
@@ -62,7 +62,7 @@ returns-13 c = rw (c .match .keys13)
 
 returns-14 : tie.Need-returns-14
 unfolding first-deeper
-returns-14 c = search ne-eqb
+returns-14 c = search tests
 
 pub first-deeper-spec : {M : Type 1} → statement M
 first-deeper-spec =

@@ -1,7 +1,7 @@
 -- `writer::form::first_place` meets its contract: each arm is the definition there. Assumes nothing.
 use borrow.Author.Needs.{needs}
-use borrow.Author.Tests.{ne-eqb}
 use Rattle.tables.specs.Form.{first-place}
+use Rattle.writer.proofs.Numbers.{tests}
 use Rattle.writer.proofs.form.first_place.Statement.{statement}
 use Rattle.writer.proofs.form.first_place.Tie as tie
 
@@ -49,7 +49,7 @@ returns-9 c = rw (c .match .keys9)
 
 returns-10 : tie.Need-returns-10
 unfolding first-place
-returns-10 c = search ne-eqb
+returns-10 c = search tests
 
 pub first-place-spec : {M : Type 1} → statement M
 first-place-spec =

@@ -1,6 +1,6 @@
 -- `writer::form::fun_gives` meets its contract: each arm is the definition there. Assumes nothing.
-use borrow.Author.Tests.{ne-eqb}
 use Rattle.tables.specs.Form.{fun-gives}
+use Rattle.writer.proofs.Numbers.{tests}
 use Rattle.writer.proofs.form.fun_gives.Statement.{statement}
 use Rattle.writer.proofs.form.fun_gives.Tie as tie
 
@@ -14,7 +14,7 @@ returns-2 c = rw (c .match .keys2)
 
 returns-3 : tie.Need-returns-3
 unfolding fun-gives
-returns-3 c = search ne-eqb
+returns-3 c = search tests
 
 pub fun-gives-spec : {M : Type 1} → statement M
 fun-gives-spec = tie.close (tie.spec returns returns-2 returns-3)

@@ -1,7 +1,7 @@
 -- `writer::form::place_of` meets its contract: each arm is the definition there. Assumes nothing.
 use borrow.Author.Needs.{needs}
-use borrow.Author.Tests.{ne-eqb}
 use Rattle.tables.specs.Form.{place-of}
+use Rattle.writer.proofs.Numbers.{tests}
 use Rattle.writer.proofs.form.place_of.Statement.{statement}
 use Rattle.writer.proofs.form.place_of.Tie as tie
 
@@ -21,7 +21,7 @@ returns-2 c = simp (c .second-place .ensures, c .before .match .keys2)
 
 returns-3 : tie.Need-returns-3
 unfolding place-of
-returns-3 c = search ne-eqb
+returns-3 c = search tests
 
 pub place-of-spec : {M : Type 1} → statement M
 place-of-spec =

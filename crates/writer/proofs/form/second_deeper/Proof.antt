@@ -1,7 +1,7 @@
 -- `writer::form::second_deeper` meets its contract: each arm is the definition there. Assumes nothing.
 use borrow.Author.Needs.{needs}
-use borrow.Author.Tests.{ne-eqb}
 use Rattle.tables.specs.Form.{second-deeper}
+use Rattle.writer.proofs.Numbers.{tests}
 use Rattle.writer.proofs.form.second_deeper.Statement.{statement}
 use Rattle.writer.proofs.form.second_deeper.Tie as tie
 
@@ -34,7 +34,7 @@ returns-6 c = rw (c .match .keys6)
 
 returns-7 : tie.Need-returns-7
 unfolding second-deeper
-returns-7 c = search ne-eqb
+returns-7 c = search tests
 
 pub second-deeper-spec : {M : Type 1} → statement M
 second-deeper-spec =

@@ -1,7 +1,7 @@
 -- `writer::form::second_place` meets its contract: each arm is the definition there. Assumes nothing.
 use borrow.Author.Needs.{needs}
-use borrow.Author.Tests.{ne-eqb}
 use Rattle.tables.specs.Form.{second-place}
+use Rattle.writer.proofs.Numbers.{tests}
 use Rattle.writer.proofs.form.second_place.Statement.{statement}
 use Rattle.writer.proofs.form.second_place.Tie as tie
 
@@ -22,7 +22,7 @@ returns-3 c = rw (c .match .keys3)
 
 returns-4 : tie.Need-returns-4
 unfolding second-place
-returns-4 c = search ne-eqb
+returns-4 c = search tests
 
 pub second-place-spec : {M : Type 1} → statement M
 second-place-spec = tie.close (tie.spec where-is-requires returns returns-2 returns-3 returns-4)

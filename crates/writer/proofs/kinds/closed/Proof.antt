@@ -1,6 +1,6 @@
 -- `writer::kinds::closed` meets its contract: each arm is the definition there. Assumes nothing.
-use borrow.Author.Tests.{ne-eqb}
 use Rattle.tables.specs.Kinds.{closed}
+use Rattle.writer.proofs.Numbers.{tests}
 use Rattle.writer.proofs.kinds.closed.Statement.{statement}
 use Rattle.writer.proofs.kinds.closed.Tie as tie
 
@@ -22,7 +22,7 @@ returns-4 c = rw (c .match .keys4)
 
 returns-5 : tie.Need-returns-5
 unfolding closed
-returns-5 c = search ne-eqb
+returns-5 c = search tests
 
 pub closed-spec : {M : Type 1} → statement M
 closed-spec = tie.close (tie.spec returns returns-2 returns-3 returns-4 returns-5)

@@ -1,5 +1,5 @@
 -- `writer::kinds::target_atom` meets its contract: each arm is the definition there. Assumes nothing.
-use borrow.Author.Tests.{ne-eqb}
+use Rattle.writer.proofs.Numbers.{tests}
 use Rattle.writer.proofs.kinds.target_atom.Statement.{statement}
 use Rattle.writer.proofs.kinds.target_atom.Tie as tie
 
@@ -22,7 +22,7 @@ returns-6 : tie.Need-returns-6
 returns-6 c = rw (c .match .keys6)
 
 returns-7 : tie.Need-returns-7
-returns-7 c = search ne-eqb
+returns-7 c = search tests
 
 pub target-atom-spec : {M : Type 1} → statement M
 target-atom-spec =

@@ -1,6 +1,6 @@
 -- `writer::kinds::unlabelled` meets its contract: each arm is the definition there. Assumes nothing.
-use borrow.Author.Tests.{ne-eqb}
 use Rattle.tables.specs.Kinds.{unlabelled}
+use Rattle.writer.proofs.Numbers.{tests}
 use Rattle.writer.proofs.kinds.unlabelled.Statement.{statement}
 use Rattle.writer.proofs.kinds.unlabelled.Tie as tie
 
@@ -18,7 +18,7 @@ returns-3 c = rw (c .match .keys3)
 
 returns-4 : tie.Need-returns-4
 unfolding unlabelled
-returns-4 c = search ne-eqb
+returns-4 c = search tests
 
 pub unlabelled-spec : {M : Type 1} → statement M
 unlabelled-spec = tie.close (tie.spec returns returns-2 returns-3 returns-4)

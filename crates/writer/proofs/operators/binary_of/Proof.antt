@@ -1,6 +1,6 @@
 -- `writer::operators::binary_of` meets its contract: each arm is the definition there. Assumes nothing.
-use borrow.Author.Tests.{ne-eqb}
 use Rattle.tables.specs.Operators.{binary-of}
+use Rattle.writer.proofs.Numbers.{tests}
 use Rattle.writer.proofs.operators.binary_of.Statement.{statement}
 use Rattle.writer.proofs.operators.binary_of.Tie as tie
 
@@ -74,7 +74,7 @@ returns-17 c = rw (c .match .keys17)
 
 returns-18 : tie.Need-returns-18
 unfolding binary-of
-returns-18 c = search ne-eqb
+returns-18 c = search tests
 
 pub binary-of-spec : {M : Type 1} → statement M
 binary-of-spec =

@@ -1,5 +1,5 @@
 -- `writer::operators::keyword_of` meets its contract: each arm is the definition there. Assumes nothing.
-use borrow.Author.Tests.{ne-eqb}
+use Rattle.writer.proofs.Numbers.{tests}
 use Rattle.writer.proofs.operators.keyword_of.Statement.{statement}
 use Rattle.writer.proofs.operators.keyword_of.Tie as tie
 
@@ -13,7 +13,7 @@ returns-3 : tie.Need-returns-3
 returns-3 c = rw (c .match .keys3)
 
 returns-4 : tie.Need-returns-4
-returns-4 c = search ne-eqb
+returns-4 c = search tests
 
 pub keyword-of-spec : {M : Type 1} → statement M
 keyword-of-spec = tie.close (tie.spec returns returns-2 returns-3 returns-4)

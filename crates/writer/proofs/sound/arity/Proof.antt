@@ -1,6 +1,6 @@
 -- `writer::sound::arity` meets its contract: each arm is the definition there. Assumes nothing.
-use borrow.Author.Tests.{ne-eqb}
 use Rattle.tables.specs.Sound.{arity}
+use Rattle.writer.proofs.Numbers.{tests}
 use Rattle.writer.proofs.sound.arity.Statement.{statement}
 use Rattle.writer.proofs.sound.arity.Tie as tie
 
@@ -110,7 +110,7 @@ returns-26 c = rw (c .match .keys26)
 
 returns-27 : tie.Need-returns-27
 unfolding arity
-returns-27 c = search ne-eqb
+returns-27 c = search tests
 
 pub arity-spec : {M : Type 1} → statement M
 arity-spec =

@@ -1,7 +1,7 @@
 -- `writer::sound::exceeds` meets its contract: each arm is the definition there. Assumes nothing.
 use borrow.Author.Needs.{needs}
-use borrow.Author.Tests.{ne-eqb}
 use Rattle.tables.specs.Sound.{exceeds}
+use Rattle.writer.proofs.Numbers.{tests}
 use Rattle.writer.proofs.sound.exceeds.Statement.{statement}
 use Rattle.writer.proofs.sound.exceeds.Tie as tie
 
@@ -22,9 +22,7 @@ returns-3 c = rw (c .match .keys3)
 
 returns-4 : tie.Need-returns-4
 unfolding exceeds
-returns-4 c =
-    let r = c .before .match .rest in
-    simp (c .top .ensures, ne-eqb _ _ (r .1), ne-eqb _ _ (r .0 .1), ne-eqb _ _ (r .0 .0 .1))
+returns-4 c = search (c .top .ensures, tests)
 
 pub exceeds-spec : {M : Type 1} → statement M
 exceeds-spec = tie.close (tie.spec top-requires returns returns-2 returns-3 returns-4)

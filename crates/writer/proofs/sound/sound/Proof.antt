@@ -1,14 +1,15 @@
 -- `writer::sound::sound` meets its contract: each arm is the definition there. Assumes nothing.
 use borrow.Author.Needs.{needs}
-use borrow.Author.Tests.{eq-eqb, le-ltb, lt-ltb, ne-eqb}
+use borrow.Author.Tests.{eq-eqb, le-ltb, ne-eqb}
 use Rattle.tables.specs.Sound.{sound}
+use Rattle.writer.proofs.Numbers.{tests}
 use Rattle.writer.proofs.sound.sound.Statement.{statement}
 use Rattle.writer.proofs.sound.sound.Tie as tie
 use Rattle.writer.proofs.Known.{known}
 
 returns : tie.Need-returns
 unfolding sound
-returns c = rw (lt-ltb _ _ (c .if1 .taken))
+returns c = search tests
 
 exceeds-requires : tie.Need-exceeds-requires
 exceeds-requires c κs = search needs

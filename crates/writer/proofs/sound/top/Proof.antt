@@ -1,6 +1,6 @@
 -- `writer::sound::top` meets its contract: each arm is the definition there. Assumes nothing.
-use borrow.Author.Tests.{ne-eqb}
 use Rattle.tables.specs.Sound.{top}
+use Rattle.writer.proofs.Numbers.{tests}
 use Rattle.writer.proofs.sound.top.Statement.{statement}
 use Rattle.writer.proofs.sound.top.Tie as tie
 
@@ -86,7 +86,7 @@ returns-20 c = rw (c .match .keys20)
 
 returns-21 : tie.Need-returns-21
 unfolding top
-returns-21 c = search ne-eqb
+returns-21 c = search tests
 
 pub top-spec : {M : Type 1} → statement M
 top-spec =

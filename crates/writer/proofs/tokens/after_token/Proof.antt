@@ -1,7 +1,7 @@
 -- `writer::tokens::after_token` meets its contract: each arm is the definition there. Assumes nothing.
 use borrow.Author.Needs.{needs}
-use borrow.Author.Tests.{eq-eqb, ne-eqb}
 use Rattle.tables.specs.Tokens.{after-token}
+use Rattle.writer.proofs.Numbers.{tests}
 use Rattle.writer.proofs.tokens.after_token.Statement.{statement}
 use Rattle.writer.proofs.tokens.after_token.Tie as tie
 
@@ -10,7 +10,7 @@ between-requires c κs = search needs
 
 returns : tie.Need-returns
 unfolding after-token
-returns c = simp (c .between .ensures, eq-eqb _ _ (c .before .if1 .taken))
+returns c = search (c .between .ensures, tests)
 
 first-after-requires : tie.Need-first-after-requires
 first-after-requires c κs = search needs
@@ -20,17 +20,15 @@ where-is-requires c κs = search needs
 
 returns-2 : tie.Need-returns-2
 unfolding after-token
-returns-2 c = simp (c .first-after .ensures, ne-eqb _ _ (c .before .before .if1 .left), c .before .match .keys1)
+returns-2 c = search (c .first-after .ensures, c .before .match .keys1, tests)
 
 returns-3 : tie.Need-returns-3
 unfolding after-token
-returns-3 c = simp (c .where-is .ensures, ne-eqb _ _ (c .before .before .if1 .left), c .before .match .keys2)
+returns-3 c = search (c .where-is .ensures, c .before .match .keys2, tests)
 
 returns-4 : tie.Need-returns-4
 unfolding after-token
-returns-4 c =
-    let r = c .match .rest in
-    simp (ne-eqb _ _ (c .before .if1 .left), ne-eqb _ _ (r .1), ne-eqb _ _ (r .0 .1))
+returns-4 c = search tests
 
 pub after-token-spec : {M : Type 1} → statement M
 after-token-spec =

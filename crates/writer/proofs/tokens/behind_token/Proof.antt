@@ -1,7 +1,7 @@
 -- `writer::tokens::behind_token` meets its contract: each arm is the definition there. Assumes nothing.
 use borrow.Author.Needs.{needs}
-use borrow.Author.Tests.{ne-eqb}
 use Rattle.tables.specs.Tokens.{behind-token}
+use Rattle.writer.proofs.Numbers.{tests}
 use Rattle.writer.proofs.tokens.behind_token.Statement.{statement}
 use Rattle.writer.proofs.tokens.behind_token.Tie as tie
 
@@ -96,7 +96,7 @@ returns-20 c = rw (c .match .keys20)
 
 returns-21 : tie.Need-returns-21
 unfolding behind-token
-returns-21 c = search ne-eqb
+returns-21 c = search tests
 
 pub behind-token-spec : {M : Type 1} → statement M
 behind-token-spec =

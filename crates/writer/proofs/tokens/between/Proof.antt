@@ -1,7 +1,7 @@
 -- `writer::tokens::between` meets its contract: each arm is the definition there. Assumes nothing.
 use borrow.Author.Needs.{needs}
-use borrow.Author.Tests.{ne-eqb}
 use Rattle.tables.specs.Tokens.{between}
+use Rattle.writer.proofs.Numbers.{tests}
 use Rattle.writer.proofs.tokens.between.Statement.{statement}
 use Rattle.writer.proofs.tokens.between.Tie as tie
 
@@ -39,7 +39,7 @@ returns-5 c = rw (c .match .keys5)
 
 returns-6 : tie.Need-returns-6
 unfolding between
-returns-6 c = search ne-eqb
+returns-6 c = search tests
 
 pub between-spec : {M : Type 1} → statement M
 between-spec =

@@ -1,7 +1,7 @@
 -- `writer::tokens::carried` meets its contract: each arm is the definition there. Assumes nothing.
 use borrow.Author.Needs.{needs}
-use borrow.Author.Tests.{ne-eqb}
 use Rattle.tables.specs.Tokens.{carried}
+use Rattle.writer.proofs.Numbers.{tests}
 use Rattle.writer.proofs.tokens.carried.Statement.{statement}
 use Rattle.writer.proofs.tokens.carried.Tie as tie
 
@@ -33,7 +33,7 @@ returns-5 c = simp (c .label-in .ensures, c .before .match .keys5)
 
 returns-6 : tie.Need-returns-6
 unfolding carried
-returns-6 c = search ne-eqb
+returns-6 c = search tests
 
 pub carried-spec : {M : Type 1} → statement M
 carried-spec =

@@ -1,7 +1,7 @@
 -- `writer::tokens::first_after` meets its contract: each arm is the definition there. Assumes nothing.
 use borrow.Author.Needs.{needs}
-use borrow.Author.Tests.{ne-eqb}
 use Rattle.tables.specs.Tokens.{first-after}
+use Rattle.writer.proofs.Numbers.{tests}
 use Rattle.writer.proofs.tokens.first_after.Statement.{statement}
 use Rattle.writer.proofs.tokens.first_after.Tie as tie
 
@@ -48,7 +48,7 @@ returns-8 c = rw (c .match .keys8)
 
 returns-9 : tie.Need-returns-9
 unfolding first-after
-returns-9 c = search ne-eqb
+returns-9 c = search tests
 
 pub first-after-spec : {M : Type 1} → statement M
 first-after-spec =

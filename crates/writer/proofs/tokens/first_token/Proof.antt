@@ -1,7 +1,7 @@
 -- `writer::tokens::first_token` meets its contract: each arm is the definition there. Assumes nothing.
 use borrow.Author.Needs.{needs}
-use borrow.Author.Tests.{ne-eqb}
 use Rattle.tables.specs.Tokens.{first-token}
+use Rattle.writer.proofs.Numbers.{tests}
 use Rattle.writer.proofs.tokens.first_token.Statement.{statement}
 use Rattle.writer.proofs.tokens.first_token.Tie as tie
 
@@ -115,9 +115,7 @@ returns-18 c = rw (c .match .keys18)
 
 returns-19 : tie.Need-returns-19
 unfolding first-token
-returns-19 c =
-    let r = c .before .match .rest in
-    simp (c .later-first-token .ensures, ne-eqb _ _ (r .1), ne-eqb _ _ (r .0 .1), ne-eqb _ _ (r .0 .0 .1), ne-eqb _ _ (r .0 .0 .0 .1), ne-eqb _ _ (r .0 .0 .0 .0 .1), ne-eqb _ _ (r .0 .0 .0 .0 .0 .1), ne-eqb _ _ (r .0 .0 .0 .0 .0 .0 .1), ne-eqb _ _ (r .0 .0 .0 .0 .0 .0 .0 .1), ne-eqb _ _ (r .0 .0 .0 .0 .0 .0 .0 .0 .1), ne-eqb _ _ (r .0 .0 .0 .0 .0 .0 .0 .0 .0 .1), ne-eqb _ _ (r .0 .0 .0 .0 .0 .0 .0 .0 .0 .0 .1), ne-eqb _ _ (r .0 .0 .0 .0 .0 .0 .0 .0 .0 .0 .0 .1), ne-eqb _ _ (r .0 .0 .0 .0 .0 .0 .0 .0 .0 .0 .0 .0 .1), ne-eqb _ _ (r .0 .0 .0 .0 .0 .0 .0 .0 .0 .0 .0 .0 .0 .1), ne-eqb _ _ (r .0 .0 .0 .0 .0 .0 .0 .0 .0 .0 .0 .0 .0 .0 .1), ne-eqb _ _ (r .0 .0 .0 .0 .0 .0 .0 .0 .0 .0 .0 .0 .0 .0 .0 .1), ne-eqb _ _ (r .0 .0 .0 .0 .0 .0 .0 .0 .0 .0 .0 .0 .0 .0 .0 .0 .1), ne-eqb _ _ (r .0 .0 .0 .0 .0 .0 .0 .0 .0 .0 .0 .0 .0 .0 .0 .0 .0 .1))
+returns-19 c = search (c .later-first-token .ensures, tests)
 
 pub first-token-spec : {M : Type 1} → statement M
 first-token-spec =

@@ -1,7 +1,7 @@
 -- `writer::tokens::later_first_token` meets its contract: each arm is the definition there. Assumes nothing.
 use borrow.Author.Needs.{needs}
-use borrow.Author.Tests.{ne-eqb}
 use Rattle.tables.specs.Tokens.{later-first-token}
+use Rattle.writer.proofs.Numbers.{tests}
 use Rattle.writer.proofs.tokens.later_first_token.Statement.{statement}
 use Rattle.writer.proofs.tokens.later_first_token.Tie as tie
 
@@ -77,7 +77,7 @@ returns-16 c = rw (c .match .keys16)
 
 returns-17 : tie.Need-returns-17
 unfolding later-first-token
-returns-17 c = search ne-eqb
+returns-17 c = search tests
 
 pub later-first-token-spec : {M : Type 1} → statement M
 later-first-token-spec =

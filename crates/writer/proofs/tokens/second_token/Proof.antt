@@ -1,7 +1,7 @@
 -- `writer::tokens::second_token` meets its contract: each arm is the definition there. Assumes nothing.
 use borrow.Author.Needs.{needs}
-use borrow.Author.Tests.{ne-eqb}
 use Rattle.tables.specs.Tokens.{second-token}
+use Rattle.writer.proofs.Numbers.{tests}
 use Rattle.writer.proofs.tokens.second_token.Statement.{statement}
 use Rattle.writer.proofs.tokens.second_token.Tie as tie
 
@@ -71,7 +71,7 @@ returns-13 c = simp (c .keyword-of .ensures, c .before .match .keys13)
 
 returns-14 : tie.Need-returns-14
 unfolding second-token
-returns-14 c = search ne-eqb
+returns-14 c = search tests
 
 pub second-token-spec : {M : Type 1} → statement M
 second-token-spec =
