@@ -4,17 +4,11 @@ use Rattle.writer.proofs.Numbers.{tests}
 use Rattle.writer.proofs.demand.assigned.Statement.{statement}
 use Rattle.writer.proofs.demand.assigned.Tie as tie
 
-returns : tie.Need-returns
-unfolding assigned
-returns c = search tests
-
-returns-2 : tie.Need-returns-2
-unfolding assigned
-returns-2 c = search tests
-
-returns-3 : tie.Need-returns-3
-unfolding assigned
-returns-3 c = search tests
-
 pub assigned-spec : {M : Type 1} → statement M
-assigned-spec = tie.close (tie.spec returns returns-2 returns-3)
+unfolding assigned
+assigned-spec =
+    tie.close
+    (tie.spec
+    (λ c. search tests)
+    (λ c. search tests)
+    (λ c. search tests))

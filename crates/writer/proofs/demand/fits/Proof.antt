@@ -4,17 +4,11 @@ use Rattle.writer.proofs.Numbers.{tests}
 use Rattle.writer.proofs.demand.fits.Statement.{statement}
 use Rattle.writer.proofs.demand.fits.Tie as tie
 
-returns : tie.Need-returns
-unfolding fits
-returns c = search tests
-
-returns-2 : tie.Need-returns-2
-unfolding fits
-returns-2 c = search tests
-
-returns-3 : tie.Need-returns-3
-unfolding fits
-returns-3 c = search tests
-
 pub fits-spec : {M : Type 1} → statement M
-fits-spec = tie.close (tie.spec returns returns-2 returns-3)
+unfolding fits
+fits-spec =
+    tie.close
+    (tie.spec
+    (λ c. search tests)
+    (λ c. search tests)
+    (λ c. search tests))

@@ -5,16 +5,11 @@ use Rattle.writer.proofs.Numbers.{tests}
 use Rattle.writer.proofs.tokens.label_in.Statement.{statement}
 use Rattle.writer.proofs.tokens.label_in.Tie as tie
 
-returns : tie.Need-returns
-unfolding label-in
-returns c = search tests
-
-sub-result : tie.Need-sub-result
-sub-result c = search needs
-
-returns-2 : tie.Need-returns-2
-unfolding label-in
-returns-2 c = search tests
-
 pub label-in-spec : {M : Type 1} → statement M
-label-in-spec = tie.close (tie.spec returns sub-result returns-2)
+unfolding label-in
+label-in-spec =
+    tie.close
+    (tie.spec
+    (λ c. search tests)
+    (λ c. search needs)
+    (λ c. search tests))
