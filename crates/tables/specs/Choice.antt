@@ -9,8 +9,8 @@ if b then x else y = cond b x y
 
 -- One of two numbers: by whether x is 0, and by whether x is y.
 unfoldable pub where-zero : ℕ → ℕ → ℕ → ℕ
-where-zero x zero other =
-    if eqb x 0 then zero else
+where-zero x same other =
+    if eqb x 0 then same else
     other
 
 unfoldable pub where-is : ℕ → ℕ → ℕ → ℕ → ℕ

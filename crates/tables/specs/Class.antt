@@ -3,7 +3,7 @@ use Prim.Native.Nat.{ℕ, _+_, _%_}
 use lib.Dec.{eqb, ltb, leb}
 use Rattle.tree.specs.NodeKind
 use Rattle.tables.specs.Choice.{if_then_else_, where-zero, where-is}
-use Rattle.tables.specs.Operators.{level}
+use Rattle.tables.specs.Operators.{Levels, level}
 
 -- `...` alone.
 abbrev pub Lone : ℕ
@@ -20,84 +20,84 @@ Atom = 3
 abbrev pub Tight : ℕ
 Tight = 4
 
--- A unary operator; a binary one is 5 + its level, up to 15.
+-- A unary operator; a binary one is that + its level.
 abbrev pub Unary : ℕ
 Unary = 5
 
 abbrev pub LastOperator : ℕ
-LastOperator = 15
+LastOperator = Unary + Levels
 
 abbrev pub Tuple : ℕ
-Tuple = 16
+Tuple = LastOperator + 1
 
 -- An assignment without a keyword, and one with a keyword.
 abbrev pub Local : ℕ
-Local = 17
+Local = LastOperator + 2
 
 abbrev pub Keyword : ℕ
-Keyword = 18
+Keyword = LastOperator + 3
 
 -- An assignment that `fun` gives only under a group's modifier.
 abbrev pub Given : ℕ
-Given = 19
+Given = LastOperator + 4
 
 -- A primary without a path.
 abbrev pub Bare : ℕ
-Bare = 20
+Bare = LastOperator + 5
 
 -- A function with a name in its signature.
 abbrev pub Named : ℕ
-Named = 21
+Named = LastOperator + 6
 
 abbrev pub Absent : ℕ
-Absent = 22
+Absent = LastOperator + 7
 
 abbrev pub Pattern : ℕ
-Pattern = 23
+Pattern = LastOperator + 8
 
 abbrev pub Statement : ℕ
-Statement = 24
+Statement = LastOperator + 9
 
 abbrev pub Control : ℕ
-Control = 25
+Control = LastOperator + 10
 
 -- An access item.
 abbrev pub Item : ℕ
-Item = 26
+Item = LastOperator + 11
 
 abbrev pub Field : ℕ
-Field = 27
+Field = LastOperator + 12
 
 abbrev pub TableItem : ℕ
-TableItem = 28
+TableItem = LastOperator + 13
 
 abbrev pub Param : ℕ
-Param = 29
+Param = LastOperator + 14
 
 abbrev pub Default : ℕ
-Default = 30
+Default = LastOperator + 15
 
 abbrev pub Signature : ℕ
-Signature = 31
+Signature = LastOperator + 16
 
 abbrev pub Branch : ℕ
-Branch = 32
+Branch = LastOperator + 17
 
 -- An `ExprBlock`.
 abbrev pub Block : ℕ
-Block = 33
+Block = LastOperator + 18
 
 -- A `StmtList` without control whose last statement is an expression; any other without control; one with control.
 abbrev pub OpenBody : ℕ
-OpenBody = 34
+OpenBody = LastOperator + 19
 
 abbrev pub PlainBody : ℕ
-PlainBody = 35
+PlainBody = LastOperator + 20
 
 abbrev pub EndedBody : ℕ
-EndedBody = 36
+EndedBody = LastOperator + 21
 
--- A list of members of a class from 23 to 39, which is added.
+-- A list of members of a class from Pattern on, which is added.
 abbrev pub Lists : ℕ
 Lists = 40
 
@@ -105,7 +105,7 @@ Lists = 40
 abbrev pub Empty : ℕ
 Empty = 50
 
--- A list of operands, up to 15.
+-- A list of operands.
 abbrev pub Operands : ℕ
 Operands = 51
 

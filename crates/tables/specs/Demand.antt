@@ -7,115 +7,132 @@ use Rattle.tables.specs.Choice.{if_then_else_, where-zero}
 use Rattle.tables.specs.Operators.{level}
 use Rattle.tables.specs.Class
 
+-- The classes from one to another; one alone; one more beside others.
+abbrev pub from-to : ℕ → ℕ → ℕ
+from-to least most = least + 100 * most
+
+abbrev pub only : ℕ → ℕ
+only class = 101 * class
+
+abbrev pub beside : ℕ → ℕ → ℕ
+beside other demand = demand + 10000 * other
+
 -- Any expression, or Absent; the same but for `...` alone, as in a statement.
 abbrev pub Expr : ℕ
-Expr = 1801
+Expr = from-to Class.Lone Class.Keyword
 
 abbrev pub ExprOrAbsent : ℕ
-ExprOrAbsent = 221801
+ExprOrAbsent = beside Class.Absent Expr
 
 abbrev pub Stated : ℕ
-Stated = 1802
+Stated = from-to Class.Primary Class.Keyword
 
 abbrev pub StatedOrAbsent : ℕ
-StatedOrAbsent = 221802
+StatedOrAbsent = beside Class.Absent Stated
 
 -- A member of a tuple, an argument of several, a table's value.
 abbrev pub Operand : ℕ
-Operand = 1501
+Operand = from-to Class.Lone Class.LastOperator
 
 -- Under a unary operator.
 abbrev pub Unary : ℕ
-Unary = 501
+Unary = from-to Class.Lone Class.Unary
+
+-- What binds tighter than operators; operands up to a level, each of which takes one class more.
+abbrev pub Tight : ℕ
+Tight = from-to Class.Lone Class.Tight
+
+abbrev pub Level : ℕ → ℕ
+Level l = 100 * l + Unary
 
 -- An atom, alone or with a path, or Absent; an atom; a primary with or without a path.
 abbrev pub PrimaryOrAbsent : ℕ
-PrimaryOrAbsent = 220302
+PrimaryOrAbsent = beside Class.Absent (from-to Class.Primary Class.Atom)
 
 abbrev pub Atom : ℕ
-Atom = 303
+Atom = only Class.Atom
 
 abbrev pub Receiver : ℕ
-Receiver = 200202
+Receiver = beside Class.Bare (only Class.Primary)
 
 -- Inside a group without modifier; under a modifier what is no assignment, and what is one of its action.
 abbrev pub Grouped : ℕ
-Grouped = 1701
+Grouped = from-to Class.Lone Class.Local
 
 abbrev pub Unassigned : ℕ
-Unassigned = 1601
+Unassigned = from-to Class.Lone Class.Tuple
 
 abbrev pub Given : ℕ
-Given = 1901
+Given = from-to Class.Lone Class.Given
 
 -- Any expression, or a function with a name; a plain assignment, as the only argument.
 abbrev pub ExprOrNamed : ℕ
-ExprOrNamed = 211801
+ExprOrNamed = beside Class.Named Expr
 
 abbrev pub Assignment : ℕ
-Assignment = 1817
+Assignment = from-to Class.Local Class.Keyword
 
 abbrev pub Pattern : ℕ
-Pattern = 2323
+Pattern = only Class.Pattern
 
 abbrev pub PatternOrAbsent : ℕ
-PatternOrAbsent = 222323
+PatternOrAbsent = beside Class.Absent Pattern
 
 abbrev pub ControlOrAbsent : ℕ
-ControlOrAbsent = 222525
+ControlOrAbsent = beside Class.Absent (only Class.Control)
 
 abbrev pub Field : ℕ
-Field = 2727
+Field = only Class.Field
 
 abbrev pub ParamOrAbsent : ℕ
-ParamOrAbsent = 222929
+ParamOrAbsent = beside Class.Absent (only Class.Param)
 
 abbrev pub Signature : ℕ
-Signature = 3131
+Signature = only Class.Signature
 
 abbrev pub Block : ℕ
-Block = 3333
+Block = only Class.Block
 
 abbrev pub BlockOrAbsent : ℕ
-BlockOrAbsent = 223333
+BlockOrAbsent = beside Class.Absent Block
 
 -- A statement list: any; before a result, which wants no control; without a result, which wants no expression last.
 abbrev pub Body : ℕ
-Body = 3634
+Body = from-to Class.OpenBody Class.EndedBody
 
 abbrev pub BodyBefore : ℕ
-BodyBefore = 3534
+BodyBefore = from-to Class.OpenBody Class.PlainBody
 
 abbrev pub BodyAlone : ℕ
-BodyAlone = 3635
+BodyAlone = from-to Class.PlainBody Class.EndedBody
 
 -- Lists. Only those of members, branches and patterns may not be empty.
 abbrev pub Members : ℕ
-Members = 5151
+Members = only Class.Operands
 
 abbrev pub Arguments : ℕ
-Arguments = 505251
+Arguments = beside Class.Empty (from-to Class.Operands Class.Argument)
 
 abbrev pub Statements : ℕ
-Statements = 506464
+Statements = beside Class.Empty (only (Class.Lists + Class.Statement))
 
 abbrev pub Items : ℕ
-Items = 506666
+Items = beside Class.Empty (only (Class.Lists + Class.Item))
 
 abbrev pub TableItems : ℕ
-TableItems = 506868
+TableItems = beside Class.Empty (only (Class.Lists + Class.TableItem))
 
 abbrev pub Params : ℕ
-Params = 506969
+Params = beside Class.Empty (only (Class.Lists + Class.Param))
 
 abbrev pub Defaults : ℕ
-Defaults = 507070
+Defaults = beside Class.Empty (only (Class.Lists + Class.Default))
 
 abbrev pub Branches : ℕ
-Branches = 7272
+Branches = only (Class.Lists + Class.Branch)
 
 abbrev pub Patterns : ℕ
-Patterns = 6363
+Patterns = only (Class.Lists + Class.Pattern)
 
 -- What a list of a class demands of its members: their class.
 unfoldable pub of-members : ℕ → ℕ
@@ -124,16 +141,16 @@ of-members list =
     if eqb list Class.Argument then Assignment else
     if leb list Class.Argument then Class.Nothing else
     if leb Class.Nothing list then Class.Nothing else
-    101 * (list - Class.Lists)
+    only (list - Class.Lists)
 
 -- An operator's left side is of its own level or tighter, its right side tighter.
 unfoldable pub left-side : ℕ → ℕ
 left-side value =
-    (100 * (level value)) + 501
+    Level (level value)
 
 unfoldable pub right-side : ℕ → ℕ
 right-side value =
-    (100 * (level value)) + 401
+    100 * (level value) + Tight
 
 -- An assignment's right side has a name where `fun` with the target can give it.
 unfoldable pub assigned : ℕ → ℕ → ℕ

@@ -4,6 +4,7 @@ use Prim.Native.Nat.{ℕ}
 use lib.Dec.{eqb, ltb}
 use Rattle.tree.specs.NodeKind
 use Rattle.tables.specs.Choice.{if_then_else_}
+use Rattle.tables.specs.Operators.{LastBinary}
 
 -- Names are numbered up to this.
 abbrev pub Name : ℕ
@@ -26,7 +27,7 @@ top kind =
     if eqb kind NodeKind.Continue then Label else
     if eqb kind NodeKind.Break then Label else
     if eqb kind NodeKind.UnaryOp then 3 else
-    if eqb kind NodeKind.BinaryOp then 17 else
+    if eqb kind NodeKind.BinaryOp then LastBinary else
     if eqb kind NodeKind.Assignment then 43 else
     if eqb kind NodeKind.Block then Label else
     if eqb kind NodeKind.ParamDef then Named else

@@ -10,6 +10,11 @@ use token::kind;
 // No token: one more than the lexer error's kind.
 pub const NO_TOKEN: u64 = 77;
 
+// How many levels there are, and the last operator's number: classes and demands are computed from them.
+pub const LEVELS: u64 = 10;
+
+pub const LAST_BINARY: u64 = 17;
+
 fn binary_of(number: u64) -> BinaryOp
     ensures { λ r. ⌜ r ≡ binary-of-def number ⌝ }
 {
@@ -35,7 +40,7 @@ fn binary_of(number: u64) -> BinaryOp
     }
 }
 
-// From 1, the tightest, to 10.
+// From 1, the tightest, to LEVELS.
 pub fn level(number: u64) -> u64
     ensures { λ r. ⌜ r ≡ level-def number ⌝ }
 {

@@ -11,6 +11,7 @@ use Rattle.grammar.specs.Reading.Block.{split, whole}
 use Rattle.grammar.specs.Reading.Stmt.{lone-ellipsis}
 use Rattle.grammar.specs.Canonical.Write.{function-named}
 use Rattle.grammar.specs.Canonical.Valid.{atom, tight, unary, binop, plain, ex, given, function, item, field, table-item, param, branch, jump, block, stmt, Valid, Valids, Pattern, IsNamed}
+use Rattle.tables.specs.Operators.{Levels}
 use Rattle.tables.specs.Class as Class
 use Rattle.tables.specs.Class.{class}
 use Rattle.tables.specs.Demand as Demand
@@ -50,7 +51,7 @@ pub data Tight : ℕ → Tree → Type 0 where
 pub data Expression : ℕ → Tree → Type 0 where
   bound : {c : ℕ} {t : Tree} → Tight c t → Expression c t
   as-unary : {t : Tree} → ((begin : Bool) → Begins begin t → Valid (unary begin) t) → Expression Class.Unary t
-  as-binary : {t : Tree} (l : ℕ) → 1 ≤ l → l ≤ 10 → ((begin : Bool) → Begins begin t → Valid (binop begin l) t) → Expression (Class.Unary + l) t
+  as-binary : {t : Tree} (l : ℕ) → 1 ≤ l → l ≤ Levels → ((begin : Bool) → Begins begin t → Valid (binop begin l) t) → Expression (Class.Unary + l) t
   as-plain : {c : ℕ} {t : Tree} → Class.Tuple ≤ c → c ≤ Class.Local → ((begin close : Bool) → Begins begin t → Ends close t → Valid (plain begin close) t) → Expression c t
   as-any : {t : Tree} → ((begin close : Bool) → Begins begin t → Ends close t → Valid (ex begin close) t) → Expression Class.Keyword t
 
@@ -117,7 +118,7 @@ pub data Listed (P : Tree → Type 0) : Tree → Type 0 where
   listed : {t : Tree} {f : Forest} → P t → Each P f → Listed P (Node.list (more t f))
 
 abbrev pub Operand : Tree → Type 0
-Operand t = (begin : Bool) → Begins begin t → Valid (binop begin 10) t
+Operand t = (begin : Bool) → Begins begin t → Valid (binop begin Levels) t
 
 pub record Argument (t : Tree) : Type 0 where
   pub valid : Valid (ex true true) t

@@ -1,13 +1,13 @@
 -- Nodes of expressions, assignments aside, whose children meet their demands: what their class says. Assumes nothing.
 use mathlib.Core.Path.{_≡_, refl, subst}
 use mathlib.Core.Bool.{Bool, true, false}
-use Prim.Native.Nat.{ℕ, zero, suc, _+_, _*_, _≤_, _<_}
+use Prim.Native.Nat.{ℕ, zero, suc, _+_, _≤_, _<_}
 use native.Mathlib.Omega.{arith}
 use lib.Dec.{eqb, leb}
 use borrow.Author.Tests.{eqb-true, ne-eqb, ltb-false, lt-ltb, le-leb}
 use Rattle.token.specs.Kind
 use Rattle.operator.specs.Operator.{which-unary-op, which-binary-op, op-level, op-token, unary-code}
-use Rattle.operator.specs.Below.{equal-below, most-below}
+use Rattle.operator.specs.Below.{equal-below}
 use Rattle.operator.specs.Laws.{op-number-token}
 use Rattle.tree.specs.NodeKind
 use Rattle.tree.specs.Tree.{Tree, node, none, more, one, two, count}
@@ -16,7 +16,7 @@ use Rattle.tree.specs.Maybe.{just}
 use Rattle.grammar.specs.Canonical.Valid.{atom, tight, unary, binop, plain, function, item, table-item, branch, block, Valid, v-unpack, v-table, v-function, v-if, v-block, v-labelled, v-unary-op, v-binary-op, v-single, v-tuple, v-none, v-more}
 use Rattle.grammar.specs.Laws.Facts.{clash, by-test}
 use Rattle.tables.specs.Choice.{where-zero}
-use Rattle.tables.specs.Operators.{level, binary-of}
+use Rattle.tables.specs.Operators.{Levels, LastBinary, level, binary-of, level-range}
 use Rattle.tables.specs.Class as Class
 use Rattle.tables.specs.Class.{binary-class}
 use Rattle.tables.specs.Demand as Demand
@@ -51,19 +51,11 @@ pub of-unary : Rule NodeKind.UnaryOp
 unfolding tables
 of-unary v h t k = simple refl refl (as-unary λ begin p. unary-valid v (ltb-false 3 v h) (unary-in k))
 
-level-is : (v : ℕ) → v < 18 → op-level (op-token v) ≡ level v
+level-is : (v : ℕ) → v < suc LastBinary → op-level (op-token v) ≡ level v
 unfolding op-level op-token which-binary-op level binary-of
-level-is = equal-below (λ v. op-level (op-token v)) level 18 tt
+level-is = equal-below (λ v. op-level (op-token v)) level (suc LastBinary) tt
 
-level-least : (v : ℕ) → v < 18 → 1 ≤ level v
-unfolding level binary-of
-level-least = most-below (λ v. 1) level 18 tt
-
-level-most : (v : ℕ) → v < 18 → level v ≤ 10
-unfolding level binary-of
-level-most = most-below level (λ v. 10) 18 tt
-
-binary-valid : {begin : Bool} {t u : Tree} (v l : ℕ) → v < 18 → level v ≡ suc l → Valid (binop begin (suc l)) t → Valid (binop true l) u → Valid (binop begin (suc l)) (Node.binary-op v t u)
+binary-valid : {begin : Bool} {t u : Tree} (v l : ℕ) → v < suc LastBinary → level v ≡ suc l → Valid (binop begin (suc l)) t → Valid (binop true l) u → Valid (binop begin (suc l)) (Node.binary-op v t u)
 binary-valid {begin} {t} {u} v l h e x y =
     let x′ : op-level (op-token v) ≡ suc l = omega (arith, level-is v h) in
     subst (λ n. Valid (binop begin (suc l)) (Node.binary-op n t u)) (op-number-token v h) (v-binary-op (op-token v) x′ x y)
@@ -72,15 +64,15 @@ pub of-binary : Rule NodeKind.BinaryOp
 unfolding tables binary-class left-side right-side begins-labelled passes
 of-binary v h t u k m = go (level v) refl
   where
-    range : v < 18
-    range = let l = ltb-false 17 v h in omega arith
+    range : v < suc LastBinary
+    range = let l = ltb-false LastBinary v h in omega arith
 
     go : (n : ℕ) → level v ≡ n → Means (binary-class v) (node NodeKind.BinaryOp v (two t u))
-    go zero e = absurd (omega (arith, level-least v range))
+    go zero e = absurd (omega (arith, level-range v .0))
     go (suc l) e =
-        let most : l ≤ 9 = omega (arith, level-most v range) in
-        let left : 100 * level v + 501 ≡ 100 * suc l + 501 = omega arith in
-        let right : 100 * level v + 401 ≡ 100 * l + 501 = omega arith in
+        let most : suc l ≤ Levels = omega (arith, level-range v .1) in
+        let left : Demand.Level (level v) ≡ Demand.Level (suc l) = omega arith in
+        let right : right-side v ≡ Demand.Level l = omega arith in
         let test : leb (Class.Unary + level v) Class.Given ≡ true = le-leb (Class.Unary + level v) Class.Given (omega arith) in
         rw (test, e)
         (simple refl refl (as-binary (suc l) (omega arith) (omega arith) λ begin p.

@@ -8,6 +8,7 @@ use borrow.Author.Tests.{eqb-true, eqb-false}
 use Rattle.tree.specs.Tree.{Tree}
 use Rattle.grammar.specs.Canonical.Valid.{atom, prim, tight, unary, binop, plain, ex, Valid, v-atom, v-primary, v-prim, v-ellipsis, v-tight, v-unary, v-up, v-inner, v-plain, v-more}
 use Rattle.grammar.specs.Laws.Facts.{by-test}
+use Rattle.tables.specs.Operators.{Levels}
 use Rattle.tables.specs.Class as Class
 use Rattle.tables.specs.Valid.Builds.Classes.{Begins, Ends, Tight, as-lone, as-path, as-atom, as-tight, Expression, bound, as-unary, as-binary, as-plain, as-any, Receiver, receiver}
 
@@ -75,7 +76,7 @@ raise {begin} {t} l (suc m) h v =
     (λ y. subst (λ n. Valid (binop begin n) t) (eqb-true l (suc m) y) v)
     (λ n. let d = eqb-false l (suc m) n in v-up (raise l m (omega arith) v))
 
-pub binary-of : {c : ℕ} {t : Tree} (m : ℕ) → c ≤ Class.Unary + m → m ≤ 10 → Expression c t → (begin : Bool) → Begins begin t → Valid (binop begin m) t
+pub binary-of : {c : ℕ} {t : Tree} (m : ℕ) → c ≤ Class.Unary + m → m ≤ Levels → Expression c t → (begin : Bool) → Begins begin t → Valid (binop begin m) t
 binary-of m x y (bound h) begin p = raise 0 m (omega arith) (v-unary (v-tight (tight-of h begin p)))
 binary-of m x y (as-unary h) begin p = raise 0 m (omega arith) (v-unary (h begin p))
 binary-of m x y (as-binary l n o h) begin p = raise l m (omega arith) (h begin p)
@@ -84,9 +85,9 @@ binary-of m x y (as-any h) begin p = absurd (omega arith)
 
 -- expressions
 pub plain-of : {c : ℕ} {t : Tree} → c ≤ Class.Local → Expression c t → (begin close : Bool) → Begins begin t → Ends close t → Valid (plain begin close) t
-plain-of x (bound h) begin close p q = v-inner (raise 0 10 (omega arith) (v-unary (v-tight (tight-of h begin p))))
-plain-of x (as-unary h) begin close p q = v-inner (raise 0 10 (omega arith) (v-unary (h begin p)))
-plain-of x (as-binary l m n h) begin close p q = v-inner (raise l 10 n (h begin p))
+plain-of x (bound h) begin close p q = v-inner (raise 0 Levels (omega arith) (v-unary (v-tight (tight-of h begin p))))
+plain-of x (as-unary h) begin close p q = v-inner (raise 0 Levels (omega arith) (v-unary (h begin p)))
+plain-of x (as-binary l m n h) begin close p q = v-inner (raise l Levels n (h begin p))
 plain-of x (as-plain m n h) begin close p q = h begin close p q
 plain-of x (as-any h) begin close p q = absurd (omega arith)
 

@@ -8,6 +8,7 @@ use borrow.Author.Tests.{eqb-true, eqb-false, ne-eqb, leb-true, leb-false, lt-le
 use Rattle.tree.specs.Tree.{Tree, Forest, none, more, count}
 use Rattle.tree.specs.Node
 use Rattle.grammar.specs.Laws.Facts.{by-test}
+use Rattle.tables.specs.Operators.{Levels}
 use Rattle.tables.specs.Class as Class
 use Rattle.tables.specs.Class.{list-class, plain-list, default-list, argument-list}
 use Rattle.tables.specs.Demand as Demand
@@ -47,7 +48,7 @@ each-map h none e = tt
 each-map h (more t f) e = (h t (e .0), each-map h f (e .1))
 
 operand : (t : Tree) → Kid Demand.Operand true true t → Operand t
-operand t k begin p = operand-in 10 (omega arith) k begin p
+operand t k begin p = operand-in Levels (omega arith) k begin p
 
 argument : {t : Tree} → Kid Demand.Assignment true true t → Argument t
 argument {t} k = record {

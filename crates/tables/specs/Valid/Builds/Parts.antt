@@ -12,6 +12,7 @@ use Rattle.tree.specs.Maybe.{just}
 use Rattle.grammar.specs.Canonical.Valid.{param, block, stmt, Valid, IsNamed, read-only, read-write, v-function-def, v-function-default, v-function-variadic, v-field, v-field-index, v-table-item, v-param, v-branch, v-block-plain, v-block-control, v-block-result}
 use Rattle.grammar.specs.Laws.Facts.{clash, by-test}
 use Rattle.tables.specs.Choice.{where-zero}
+use Rattle.tables.specs.Operators.{Levels}
 use Rattle.tables.specs.Class as Class
 use Rattle.tables.specs.Demand as Demand
 use Rattle.tables.specs.Demand.{defaults}
@@ -30,7 +31,7 @@ named-of v h =
 
 pub of-table-item : Rule NodeKind.TableItem
 unfolding tables
-of-table-item t u k l = v-table-item (exactly Class.Field (omega arith) k) (operand-in 10 (omega arith) l true (l .begins))
+of-table-item t u k l = v-table-item (exactly Class.Field (omega arith) k) (operand-in Levels (omega arith) l true (l .begins))
 
 -- blocks: a statement list alone has no expression at the end, one before a result has no control
 alone : {c : ℕ} {t : Tree} → Class.PlainBody ≤ c → Body c t → Valid block (Node.expr-block t Node.absent)

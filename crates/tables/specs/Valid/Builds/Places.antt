@@ -12,6 +12,7 @@ use Rattle.tree.specs.Maybe.{just}
 use Rattle.grammar.specs.Reading.Stmt.{lone-ellipsis}
 use Rattle.grammar.specs.Canonical.Valid.{Role, atom, unary, binop, plain, ex, item, table-item, param, else-clause, control, body, stmt, Valid, Valids, IsName, v-none, v-more, v-no-else, v-else, v-no-control, v-control, v-body, v-expression}
 use Rattle.grammar.specs.Laws.Facts.{clash, by-test, not-true}
+use Rattle.tables.specs.Operators.{Levels}
 use Rattle.tables.specs.Class as Class
 use Rattle.tables.specs.Class.{class}
 use Rattle.tables.specs.Demand as Demand
@@ -86,10 +87,10 @@ pub plain-in : {begin close : Bool} {t : Tree} (d : ℕ) → d / 10000 ≡ 0 →
 plain-in {begin = begin} {close = close} d h m k =
     in-range d h k λ low high. plain-of (omega arith) (expression d h (omega arith) k) begin close (k .begins) (k .ends)
 
-pub operand-in : {begin close : Bool} {t : Tree} (l : ℕ) → l ≤ 10 → Kid (100 * l + 501) begin close t → (start : Bool) → Begins start t → Valid (binop start l) t
+pub operand-in : {begin close : Bool} {t : Tree} (l : ℕ) → l ≤ Levels → Kid (Demand.Level l) begin close t → (start : Bool) → Begins start t → Valid (binop start l) t
 operand-in l h k start p =
-    let e : (100 * l + 501) / 10000 ≡ 0 = omega arith in
-    in-range (100 * l + 501) e k λ low high. binary-of l (omega arith) h (expression (100 * l + 501) e (omega arith) k) start p
+    let e : Demand.Level l / 10000 ≡ 0 = omega arith in
+    in-range (Demand.Level l) e k λ low high. binary-of l (omega arith) h (expression (Demand.Level l) e (omega arith) k) start p
 
 pub unary-in : {begin close : Bool} {t : Tree} → Kid Demand.Unary begin close t → Valid (unary begin) t
 unary-in {begin = begin} k = in-range Demand.Unary refl k λ low high. unary-of high (expression Demand.Unary refl (omega arith) k) begin (k .begins)
@@ -184,7 +185,7 @@ pub statements-in : {begin close : Bool} {t : Tree} → Kid Demand.Statements be
 statements-in k = either-class (Class.Lists + Class.Statement) Class.Empty (omega arith) k no-row some-row
 
 -- operands behind the first
-pub operands : {f : Forest} → Each Operand f → Valids (binop true 10) f
+pub operands : {f : Forest} → Each Operand f → Valids (binop true Levels) f
 unfolding Each
 operands {f = none} h = v-none
 operands {f = more t f} h = v-more (h .0 true (λ e. clash refl e)) (operands (h .1))

@@ -1,53 +1,48 @@
 -- What the tables ask of a tree in each role of the grammar: its class, and whether a label may begin it and a tuple of one member end it.
 -- Definitions; they assume nothing.
 use mathlib.Core.Bool.{Bool, true, false}
-use Prim.Native.Nat.{ℕ, suc, _+_, _*_, _≤_, _<_}
+use Prim.Native.Nat.{ℕ, suc, _≤_, _<_}
 use Rattle.tree.specs.Tree.{Tree, one}
 use Rattle.grammar.specs.Canonical.Valid.{Role, atom, prim, tight, unary, binop, assign, plain, ex, given, function, item, field, table-item, param, branch, else-clause, jump, control, body, block, stmt}
 use Rattle.tables.specs.Choice.{where-zero}
 use Rattle.tables.specs.Demand as Demand
-use Rattle.tables.specs.Demand.{inside}
+use Rattle.tables.specs.Operators.{Levels}
+use Rattle.tables.specs.Class as Class
+use Rattle.tables.specs.Demand.{from-to, only, beside, Tight, Level, inside}
 use Rattle.tables.specs.Check.{group-mode}
 
 -- demands of roles that are not those of one place
 abbrev pub Primary : ℕ
-Primary = 302
-
-abbrev pub Tight : ℕ
-Tight = 401
-
--- operands up to a level
-abbrev pub Level : ℕ → ℕ
-Level l = 100 * l + 501
+Primary = from-to Class.Primary Class.Atom
 
 -- a function, by its name
 abbrev pub Function : ℕ → ℕ
-Function n = where-zero n 404 210404
+Function n = where-zero n (only Class.Tight) (beside Class.Named (only Class.Tight))
 
 abbrev pub Statement : ℕ
-Statement = 2424
+Statement = only Class.Statement
 
 abbrev pub Control : ℕ
-Control = 2525
+Control = only Class.Control
 
 abbrev pub Item : ℕ
-Item = 2626
+Item = only Class.Item
 
 abbrev pub TableItem : ℕ
-TableItem = 2828
+TableItem = only Class.TableItem
 
 abbrev pub Param : ℕ
-Param = 2929
+Param = only Class.Param
 
 abbrev pub Default : ℕ
-Default = 3030
+Default = only Class.Default
 
 abbrev pub Branch : ℕ
-Branch = 3232
+Branch = only Class.Branch
 
--- the roles that the grammar reads anything in: four actions and ten levels
+-- the roles that the grammar reads anything in: four actions, and as many levels as there are
 abbrev pub Known : Role → Type 0
-Known (binop begin l) = l ≤ 10
+Known (binop begin l) = l ≤ Levels
 Known (assign p close a) = a < 4
 Known (given a) = a < 4
 Known (function n) = Unit {0}

@@ -17,12 +17,12 @@ use Rattle.tables.specs.Choice.{where-zero, where-is}
 use Rattle.tables.specs.Class as Class
 use Rattle.tables.specs.Class.{keyword-class, named-class, assignment-class, class}
 use Rattle.tables.specs.Demand as Demand
-use Rattle.tables.specs.Demand.{assigned, inside, first-demand, second-demand, demand, fits}
+use Rattle.tables.specs.Demand.{Tight, assigned, inside, first-demand, second-demand, demand, fits}
 use Rattle.tables.specs.Kinds.{passes, unlabelled, closed}
 use Rattle.tables.specs.Sound.{top, exceeds, arity}
 use Rattle.tables.specs.Children.{value-in, first-tree, last-tree}
 use Rattle.tables.specs.Check.{name-given, function-form, group-mode, inner-mode, mode-of, class-of, begins-labelled, ends-single}
-use Rattle.tables.specs.Valid.Meets.Asked.{Tight, Function}
+use Rattle.tables.specs.Valid.Meets.Asked.{Function}
 use Rattle.tables.specs.Valid.Meets.Demands.{either, within}
 use Rattle.tables.specs.Valid.Meets.Kids.{Fit, two-fits, shaped}
 use Rattle.tables.specs.Valid.Meets.Met.{Met, by-class, told, suits, kid, ready, met}

@@ -1,7 +1,7 @@
 -- Lists whose members all meet one demand: their class, and that they fit. Assumes nothing.
 use mathlib.Core.Path.{_≡_, refl}
 use mathlib.Core.Bool.{Bool, true, false, not, and-false}
-use Prim.Native.Nat.{ℕ, suc, _+_, _-_, _*_, _≤_, _<_}
+use Prim.Native.Nat.{ℕ, suc, _+_, _-_, _≤_, _<_}
 use native.Mathlib.Omega.{arith}
 use lib.Dec.{eqb, eqb·suc-zero}
 use borrow.Author.Tests.{eqb-false, eq-eqb, ne-eqb, le-leb, lt-leb}
@@ -14,7 +14,7 @@ use Rattle.grammar.specs.Laws.Facts.{by-test}
 use Rattle.tables.specs.Class as Class
 use Rattle.tables.specs.Class.{class, default-list, plain-list, argument-list, list-class}
 use Rattle.tables.specs.Demand as Demand
-use Rattle.tables.specs.Demand.{of-members, demand, fits}
+use Rattle.tables.specs.Demand.{only, of-members, demand, fits}
 use Rattle.tables.specs.Kinds.{unlabelled, closed}
 use Rattle.tables.specs.Sound.{top, exceeds, sound}
 use Rattle.tables.specs.Children.{last-tree}
@@ -79,16 +79,16 @@ unfolding ends-single
 list-kid {k} l u = record { fit = l .fit .fit; class = l .class; free = rw (u, and-false (not (closed k))) }
 
 -- the members
-pub exactly : (x c : ℕ) → x < 40 → 1 ≤ c → fits (101 * x) c ≡ true → c ≡ x
-exactly x c l p h = by-fits (101 * x) c h (λ a b. omega arith) (λ e. omega arith)
+pub exactly : (x c : ℕ) → x < Class.Lists → 1 ≤ c → fits (only x) c ≡ true → c ≡ x
+exactly x c l p h = by-fits (only x) c h (λ a b. omega arith) (λ e. omega arith)
 
-exact : (x : ℕ) → 23 ≤ x → x < 40 → (x ≡ 30 → ⊥) → (n : ℕ) → Member (λ t. 101 * x) (Class.Lists + x) n
+exact : (x : ℕ) → Class.Pattern ≤ x → x < Class.Lists → (x ≡ Class.Default → ⊥) → (n : ℕ) → Member (λ t. only x) (Class.Lists + x) n
 unfolding list-class plain-list of-members
 exact x l u e n = record {
   takes = λ t.
-      let same : 101 * (40 + x - 40) ≡ 101 * x = omega arith in
-      rw (ne-eqb (40 + x) 51 (omega arith), ne-eqb (40 + x) 52 (omega arith), lt-leb (40 + x) 52 (omega arith), lt-leb 99 (40 + x) (omega arith), same, within-same (101 * x));
-  makes = λ t p h. rw (exactly x (class-of t) u p h, eqb·suc-zero n, lt-leb x 15 (omega arith), le-leb 23 x l, lt-leb 40 x u, ne-eqb x 30 e);
+      let same : only (Class.Lists + x - Class.Lists) ≡ only x = omega arith in
+      rw (ne-eqb (Class.Lists + x) Class.Operands (omega arith), ne-eqb (Class.Lists + x) Class.Argument (omega arith), lt-leb (Class.Lists + x) Class.Argument (omega arith), lt-leb Class.Nothing (Class.Lists + x) (omega arith), same, within-same (only x));
+  makes = λ t p h. rw (exactly x (class-of t) u p h, eqb·suc-zero n, lt-leb x Class.LastOperator (omega arith), le-leb Class.Pattern x l, lt-leb Class.Lists x u, ne-eqb x Class.Default e);
 }
 
 pub patterns : (n : ℕ) → Member (λ p. Demand.Pattern) (Class.Lists + Class.Pattern) n
@@ -113,7 +113,7 @@ pub operands : (n : ℕ) → Member (λ t. Demand.Operand) Class.Operands n
 unfolding list-class of-members within
 operands n = record {
   takes = λ t. refl;
-  makes = λ t p h. by-fits Demand.Operand (class-of t) h (λ a b. rw (eqb·suc-zero n, le-leb (class-of t) 15 b)) (λ e. absurd (omega arith));
+  makes = λ t p h. by-fits Demand.Operand (class-of t) h (λ a b. rw (eqb·suc-zero n, le-leb (class-of t) Class.LastOperator b)) (λ e. absurd (omega arith));
 }
 
 -- the only default, and the only argument where it is an assignment
@@ -127,9 +127,9 @@ argument = record {
   takes = λ t. refl;
   makes = λ t p h.
       by-fits Demand.Assignment (class-of t) h
-      (λ a b. rw (lt-leb (class-of t) 15 (omega arith), lt-leb 23 (class-of t) (omega arith))
+      (λ a b. rw (lt-leb (class-of t) Class.LastOperator (omega arith), lt-leb Class.Pattern (class-of t) (omega arith))
       (by-test (eqb (class-of t) Class.Local)
       (λ e. rw e)
-      (λ e. let no : class-of t ≡ 17 → ⊥ = eqb-false (class-of t) 17 e in rw (e, eq-eqb (class-of t) Class.Keyword (omega arith)))))
+      (λ e. let no : class-of t ≡ Class.Local → ⊥ = eqb-false (class-of t) Class.Local e in rw (e, eq-eqb (class-of t) Class.Keyword (omega arith)))))
       (λ e. absurd (omega arith));
 }

@@ -70,7 +70,7 @@ module _ {begin close : Bool} {t : Tree} where
   untupled l h f g =
       let no = other-class h Class.Tuple l in
       by-fits Demand.Expr (class-of t) (h .class)
-      (λ a b. by-test (leb (class-of t) 15)
-      (λ e. f (fewer h Demand.Operand (fits-between Demand.Operand (class-of t) a (leb-true (class-of t) 15 e))))
-      (λ e. g (fewer h Demand.Assignment (fits-between Demand.Assignment (class-of t) (omega (arith, leb-false (class-of t) 15 e)) b))))
+      (λ a b. by-test (leb (class-of t) Class.LastOperator)
+      (λ e. f (fewer h Demand.Operand (fits-between Demand.Operand (class-of t) a (leb-true (class-of t) Class.LastOperator e))))
+      (λ e. g (fewer h Demand.Assignment (fits-between Demand.Assignment (class-of t) (omega (arith, leb-false (class-of t) Class.LastOperator e)) b))))
       (λ e. absurd (omega (arith, positive h)))
