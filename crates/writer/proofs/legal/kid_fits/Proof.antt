@@ -9,7 +9,7 @@ use Rattle.writer.proofs.legal.kid_fits.Tie as tie
 use Rattle.writer.proofs.Known.{known}
 
 class-at-requires : tie.Need-class-at-requires
-class-at-requires c κs = reach-of (known tie.Start (search) .pre)
+class-at-requires c κs = search reach-of
 
 fits-requires : tie.Need-fits-requires
 fits-requires c κs = search needs
@@ -19,7 +19,7 @@ returns c = let d = known tie.After-class-at (search) .class-at .ensures in
     record { how = λ t s a. kid-is t _ _ _ (d .how _ s (stands a)) (sym (not-true _ (c .if1 .taken)) ∙ known tie.After-fits2 (search) .fits2 .ensures) refl refl }
 
 starts-wrong-requires : tie.Need-starts-wrong-requires
-starts-wrong-requires c κs = reach-of (known tie.Start (search) .pre)
+starts-wrong-requires c κs = search reach-of
 
 returns-2 : tie.Need-returns-2
 returns-2 c = let d = known tie.After-class-at (search) .class-at .ensures in
@@ -27,7 +27,7 @@ returns-2 c = let d = known tie.After-class-at (search) .class-at .ensures in
     record { how = λ t s a. kid-is t _ _ _ (d .how _ s (stands a)) (sym (not-false _ (known tie.Else1 (search) .if1 .left)) ∙ known tie.After-fits2 (search) .fits2 .ensures) (sym (c .if2 .taken) ∙ x .how _ s (stands a)) refl }
 
 ends-wrong-requires : tie.Need-ends-wrong-requires
-ends-wrong-requires c κs = some-place (known tie.Start (search) .pre)
+ends-wrong-requires c κs = search some-place
 
 returns-3 : tie.Need-returns-3
 returns-3 c = let d = known tie.After-class-at (search) .class-at .ensures in

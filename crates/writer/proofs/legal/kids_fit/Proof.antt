@@ -74,13 +74,13 @@ module _ (c : In-loop) where
       record { top = o .top; rest = _; here = o .at; memo = y .memo }
 
 kind-at-requires : tie.Need-kind-at-requires Inv-loop μ-loop
-kind-at-requires c κs = some-place (known Start (search) .pre)
+kind-at-requires c κs = search some-place
 
 value-at-requires : tie.Need-value-at-requires Inv-loop μ-loop
-value-at-requires c κs = some-place (known Start (search) .pre)
+value-at-requires c κs = search some-place
 
 count-at-requires : tie.Need-count-at-requires Inv-loop μ-loop
-count-at-requires c κs = some-place (known Start (search) .pre)
+count-at-requires c κs = search some-place
 
 sound-requires : tie.Need-sound-requires Inv-loop μ-loop
 sound-requires c κs = search needs
@@ -92,7 +92,7 @@ returns c = let k = known After-kind-at (search) .kind-at .ensures in
     record { how = λ t s a. node-unsound t (k .how _ s (stands a)) (v .how _ s (stands a)) (n .how _ s (stands a)) (sym (known After-sound (search) .sound .ensures) ∙ not-true _ (c .if1 .taken)) }
 
 mode-requires : tie.Need-mode-requires Inv-loop μ-loop
-mode-requires c κs = reach-of (known Start (search) .pre)
+mode-requires c κs = search reach-of
 
 sub-q : tie.Need-sub-q Inv-loop μ-loop
 sub-q c = omega (arith, at-many (known Start (search) .pre .here))

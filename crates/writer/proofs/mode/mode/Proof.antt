@@ -15,7 +15,7 @@ last-of-requires : tie.Need-last-of-requires
 last-of-requires c κs = search needs
 
 inner-class-requires : tie.Need-inner-class-requires
-inner-class-requires c κs = reach-last (c .last-of .ensures) (known tie.Start (search) .pre)
+inner-class-requires c κs = search reach-last
 
 count-at-requires : tie.Need-count-at-requires
 count-at-requires c κs = search needs

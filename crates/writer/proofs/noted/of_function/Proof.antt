@@ -3,7 +3,6 @@ use borrow.Author.Needs.{needs}
 use Rattle.writer.proofs.Places.{last-place}
 use Rattle.writer.proofs.noted.of_function.Statement.{statement}
 use Rattle.writer.proofs.noted.of_function.Tie as tie
-use Rattle.writer.proofs.Known.{known}
 
 kind-at-requires : tie.Need-kind-at-requires
 kind-at-requires c κs = search needs
@@ -15,7 +14,7 @@ last-of-requires : tie.Need-last-of-requires
 last-of-requires c κs = search needs
 
 kind-at-requires-2 : tie.Need-kind-at-requires-2
-kind-at-requires-2 c κs = last-place (c .last-of .ensures) (known tie.Start (search) .pre)
+kind-at-requires-2 c κs = search last-place
 
 returns-2 : tie.Need-returns-2
 returns-2 c = search needs

@@ -1,9 +1,9 @@
 -- `writer::target::is_target` meets its contract: each arm is the definition there. Assumes nothing.
 use mathlib.Core.Path.{sym, _∙_}
 use borrow.Author.Needs.{needs}
-use borrow.Author.Tests.{ne-eqb}
 use Rattle.tables.specs.Children.{children-in}
 use Rattle.writer.proofs.Places.{of-kid, reach-kid}
+use Rattle.writer.proofs.Numbers.{tests}
 use Rattle.writer.proofs.Targets.{receiver-is, target-is}
 use Rattle.writer.proofs.target.is_target.Statement.{statement}
 use Rattle.writer.proofs.target.is_target.Tie as tie
@@ -16,10 +16,10 @@ kind-at-requires : tie.Need-kind-at-requires
 kind-at-requires c κs = search needs
 
 target-receiver-requires : tie.Need-target-receiver-requires
-target-receiver-requires c κs = reach-kid (known tie.After-kid-of (search) .kid-of .ensures) (known tie.Start (search) .pre)
+target-receiver-requires c κs = search reach-kid
 
 target-receiver-requires-2 : tie.Need-target-receiver-requires-2
-target-receiver-requires-2 c κs = reach-kid (known tie.After-kid-of (search) .kid-of .ensures) (known tie.Start (search) .pre)
+target-receiver-requires-2 c κs = search reach-kid
 
 returns : tie.Need-returns
 returns c = let k = known tie.After-kind-at (search) .kind-at .ensures in
@@ -35,8 +35,7 @@ returns-3 c = let k = known tie.After-kind-at (search) .kind-at .ensures in
 
 returns-4 : tie.Need-returns-4
 returns-4 c = let k = known tie.After-kind-at (search) .kind-at .ensures in
-    let r = c .match .rest in
-    record { how = λ m s h. rw (target-is m, ← k .how m s h) (simp (ne-eqb _ _ (r .1), ne-eqb _ _ (r .0 .1), ne-eqb _ _ (r .0 .0 .1))) }
+    record { how = λ m s h. rw (target-is m, ← k .how m s h) (search tests) }
 
 pub is-target-spec : {M : Type 1} → statement M
 is-target-spec =

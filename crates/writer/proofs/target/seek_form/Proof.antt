@@ -46,7 +46,7 @@ kid-of-requires : tie.Need-kid-of-requires
 kid-of-requires c κs = search needs
 
 kind-at-requires : tie.Need-kind-at-requires
-kind-at-requires c κs = kid-place (c .kid-of .ensures) (known tie.Start (search) .pre .place)
+kind-at-requires c κs = search kid-place
 
 returns : tie.Need-returns
 unfolding function-form

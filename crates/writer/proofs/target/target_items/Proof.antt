@@ -46,7 +46,7 @@ abbrev Else1 : Type 0
 Else1 = tie.Else1 Inv-loop μ-loop
 
 count-at-requires : tie.Need-count-at-requires Inv-loop μ-loop
-count-at-requires c κs = some-place (known Start (search) .pre)
+count-at-requires c κs = search some-place
 
 sub-q : tie.Need-sub-q Inv-loop μ-loop
 sub-q c = omega (arith, at-many (known Start (search) .pre .here))
