@@ -12,6 +12,6 @@ mod Chains
 mod Validity
 mod Writing
 mod Nodes
-mod Spine
+mod Sides
 mod Ending
 mod Entry

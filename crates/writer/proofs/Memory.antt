@@ -32,11 +32,11 @@ pub spot-none : {L : List ℕ} {p : ℕ} (m : Maybe Tree) (s : List Tree) → p 
 spot-none {L} {p} m s l h = none-as L p m s l (h .how)
 
 -- what is remembered of the tree that ends at p
-pub begin-hit : {L K S : List ℕ} {p : ℕ} (i : ℕ) → i < tree-places → Memo L K S → getD K i 0 ≡ p → Skipped L p (getD S i 0)
-begin-hit i l m e = rw e at (m .begins i l)
+pub begin-looked-up : {L K S : List ℕ} {p : ℕ} (i : ℕ) → i < tree-places → Memo L K S → getD K i 0 ≡ p → Skipped L p (getD S i 0)
+begin-looked-up i l m e = rw e at (m .begins i l)
 
-pub form-hit : {L K S : List ℕ} {p : ℕ} (i : ℕ) → Slot i → Memo L K S → getD K i 0 ≡ p → Says L p (λ m. function-form (children-in m)) (getD S i 0)
-form-hit i l m e = rw e at (m .forms i l)
+pub form-looked-up : {L K S : List ℕ} {p : ℕ} (i : ℕ) → Slot i → Memo L K S → getD K i 0 ≡ p → Says L p (λ m. function-form (children-in m)) (getD S i 0)
+form-looked-up i l m e = rw e at (m .forms i l)
 
 -- where nothing is remembered, all that is remembered is right: no tree ends at 0
 no-begin : {L : List ℕ} {r : ℕ} → Skipped L 0 r

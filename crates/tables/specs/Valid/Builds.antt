@@ -1,7 +1,7 @@
 -- A tree that the tables call legal is one that a clean reading can give. Each node has a class; what the class says of its tree is shown kind by kind, children first.
 -- Assumes nothing.
 pub mod Classes
-pub mod Ladder
+pub mod Roles
 pub mod Places
 pub mod Lists
 pub mod Statements
@@ -94,11 +94,11 @@ kid-of k v m j t e h =
     }
 
 -- every tree of a forest is what its class says
-abbrev Senses : Forest → Type 0
-Senses f = Each (λ t. Means (class-of t) t) f
+abbrev Each-means : Forest → Type 0
+Each-means f = Each (λ t. Means (class-of t) t) f
 
 -- the first of the children from the number j on, and the others
-first-kid : (k v m j : ℕ) (t : Tree) (f : Forest) → kids-fit k v m j (more t f) ≡ true → Senses (more t f) → KidOf k v m j t
+first-kid : (k v m j : ℕ) (t : Tree) (f : Forest) → kids-fit k v m j (more t f) ≡ true → Each-means (more t f) → KidOf k v m j t
 unfolding kids-fit Each
 first-kid k v m j t f e s = kid-of k v m j t (and-l (fits (demand k v m j) (class-of t) && not (banned k v t)) (kids-fit k v m (suc j) f) e) (s .0)
 
@@ -106,7 +106,7 @@ other-kids : (k v m j : ℕ) (t : Tree) (f : Forest) → kids-fit k v m j (more 
 unfolding kids-fit
 other-kids k v m j t f e = and-r (fits (demand k v m j) (class-of t) && not (banned k v t)) (kids-fit k v m (suc j) f) e
 
-shaped : (k v n : ℕ) (f : Forest) → Shaped k v n → count f ≡ n → kids-fit k v (mode-of k f) 1 f ≡ true → Senses f → Shown k v f
+shaped : (k v n : ℕ) (f : Forest) → Shaped k v n → count f ≡ n → kids-fit k v (mode-of k f) 1 f ≡ true → Each-means f → Shown k v f
 unfolding count Each
 shaped k v zero none h c e s = h
 shaped k v zero (more t f) h c e s = absurd (omega arith)
@@ -127,12 +127,12 @@ shaped k v (suc (suc (suc zero))) (more t (more u (more w (more x f)))) h c e s 
 shaped k v (suc (suc (suc (suc n)))) (more t (more u (more w f))) h c e s = absurd h
 
 -- lists
-members : (m j : ℕ) (f : Forest) → kids-fit NodeKind.List 0 m j f ≡ true → Senses f → Each (Kid (of-members m) true true) f
+members : (m j : ℕ) (f : Forest) → kids-fit NodeKind.List 0 m j f ≡ true → Each-means f → Each (Kid (of-members m) true true) f
 unfolding Each demand unlabelled closed
 members m j none e s = tt
 members m j (more t f) e s = (first-kid NodeKind.List 0 m j t f e s, members m (suc j) f (other-kids NodeKind.List 0 m j t f e) (s .1))
 
-list-node : (k v : ℕ) (f : Forest) → k ≡ NodeKind.List → exceeds k v ≡ false → Senses f → kids-fit k v (mode-of k f) 1 f ≡ true → Shown k v f
+list-node : (k v : ℕ) (f : Forest) → k ≡ NodeKind.List → exceeds k v ≡ false → Each-means f → kids-fit k v (mode-of k f) 1 f ≡ true → Shown k v f
 unfolding class mode-of exceeds top
 list-node k v f x h s =
     let z : v ≡ 0 = omega (arith, ltb-false 0 v (rw x at h)) in
@@ -155,7 +155,7 @@ arity-is k v n l e =
     by-test (ltb NodeKind.Modifier k) (λ y. clash e (rw y)) λ z.
     by-test (exceeds k v) (λ y. clash e (rw (z, y))) (λ w. eqb-true n (arity k) (rw (z, w, l) at e))
 
-at-node : (k v : ℕ) (f : Forest) → node-fits (node k v f) ≡ true → Senses f → Shown k v f
+at-node : (k v : ℕ) (f : Forest) → node-fits (node k v f) ≡ true → Each-means f → Shown k v f
 at-node k v f e s =
     let own : sound k v (count f) ≡ true = and-l (sound k v (count f)) (kids-fit k v (mode-of k f) 1 f) e in
     let kids : kids-fit k v (mode-of k f) 1 f ≡ true = and-r (sound k v (count f)) (kids-fit k v (mode-of k f) 1 f) e in
@@ -168,16 +168,16 @@ at-node k v f e s =
 mutual
   unfolding all-fit Each
 
-  sense : (t : Tree) → all-fit t ≡ true → Means (class-of t) t
-  sense (node k v f) e = at-node k v f (and-l (node-fits (node k v f)) (all-fits f) e) (senses f (and-r (node-fits (node k v f)) (all-fits f) e))
+  tree-means : (t : Tree) → all-fit t ≡ true → Means (class-of t) t
+  tree-means (node k v f) e = at-node k v f (and-l (node-fits (node k v f)) (all-fits f) e) (each-means f (and-r (node-fits (node k v f)) (all-fits f) e))
 
-  senses : (f : Forest) → all-fits f ≡ true → Senses f
-  senses none e = tt
-  senses (more t f) e = (sense t (and-l (all-fit t) (all-fits f) e), senses f (and-r (all-fit t) (all-fits f) e))
+  each-means : (f : Forest) → all-fits f ≡ true → Each-means f
+  each-means none e = tt
+  each-means (more t f) e = (tree-means t (and-l (all-fit t) (all-fits f) e), each-means f (and-r (all-fit t) (all-fits f) e))
 
 pub legal-valid : (t : Tree) → legal-tree t ≡ true → Valid stmt t
 unfolding legal-tree
 legal-valid t e =
     let fit : all-fit t ≡ true = and-l (all-fit t) (eqb (class-of t) Class.Statement) e in
     let statement : class-of t ≡ Class.Statement = eqb-true (class-of t) Class.Statement (and-r (all-fit t) (eqb (class-of t) Class.Statement) e) in
-    at-class t (class-of t) Class.Statement statement (sense t fit)
+    at-class t (class-of t) Class.Statement statement (tree-means t fit)

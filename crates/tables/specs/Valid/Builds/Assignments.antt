@@ -24,7 +24,7 @@ use Rattle.tables.specs.Children.{kind-in, value-in, children-in, first-
 use Rattle.tables.specs.Check.{class-of, function-form, name-given, group-mode, ends-single}
 use Rattle.tables.specs.Valid.Meets.Demands.{by-fits}
 use Rattle.tables.specs.Valid.Builds.Classes.{Ends, bound, as-atom, as-tight, as-plain, as-any, Expression, Any, Means, Kid, Rule, value-of, Named, tables}
-use Rattle.tables.specs.Valid.Builds.Ladder.{any-of}
+use Rattle.tables.specs.Valid.Builds.Roles.{any-of}
 use Rattle.tables.specs.Valid.Builds.Places.{same-kind, in-range, no-kid, any-class, at-class, any-in, plain-in, simple, exactly}
 
 -- an assignment's operator, 0 or 1 + it, has a token

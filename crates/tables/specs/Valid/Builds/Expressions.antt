@@ -25,7 +25,7 @@ use Rattle.tables.specs.Kinds.{passes}
 use Rattle.tables.specs.Children.{kind-in, count-in, value-in, last-tree}
 use Rattle.tables.specs.Check.{begins-labelled, ends-single}
 use Rattle.tables.specs.Valid.Builds.Classes.{Begins, Ends, bound, as-lone, as-path, as-tight, as-unary, as-binary, as-plain, Any, receiver, Signature, Each, Listed, listed, Operand, Means, Rule, tables}
-use Rattle.tables.specs.Valid.Builds.Ladder.{tight-class, prim-of}
+use Rattle.tables.specs.Valid.Builds.Roles.{tight-class, prim-of}
 use Rattle.tables.specs.Valid.Builds.Places.{label-name, same-kind, simple, unary-in, operand-in, optional, exactly, atom-in, else-in, all-valid, Row, row, items-in, table-items-in, not-absent, operands}
 
 -- primaries

@@ -14,7 +14,7 @@ use Rattle.tables.specs.Class.{list-class, plain-list, default-list, arg
 use Rattle.tables.specs.Demand as Demand
 use Rattle.tables.specs.Demand.{of-members}
 use Rattle.tables.specs.Valid.Builds.Classes.{Each, Part, Default, Empty, empty-list, only, listed, Operand, Argument, Means, Kid}
-use Rattle.tables.specs.Valid.Builds.Ladder.{any-of}
+use Rattle.tables.specs.Valid.Builds.Roles.{any-of}
 use Rattle.tables.specs.Valid.Builds.Places.{no-tuple, in-range, expression, operand-in, exactly}
 
 -- the classes that a list of n members can have

@@ -21,7 +21,7 @@ use Rattle.tables.specs.Children.{kind-in}
 use Rattle.tables.specs.Check.{class-of, mode-of}
 use Rattle.tables.specs.Valid.Meets.Demands.{by-fits}
 use Rattle.tables.specs.Valid.Builds.Classes.{Begins, Ends, Expression, Any, Receiver, Missing, missing, Body, open-body, plain-body, ended-body, Each, Operand, Empty, empty-list, Listed, listed, Means, Kid}
-use Rattle.tables.specs.Valid.Builds.Ladder.{some, tight-class, atom-of, receiver-of, unary-of, binary-of, plain-of, any-of}
+use Rattle.tables.specs.Valid.Builds.Roles.{some, tight-class, atom-of, receiver-of, unary-of, binary-of, plain-of, any-of}
 
 -- names in range, and labels, 1 + a name
 pub name-of : (v : ℕ) → v ≤ Sound.Name → IsName v

@@ -19,7 +19,7 @@ use Rattle.tables.specs.Sound as Sound
 use Rattle.tables.specs.Children.{kind-in, last-tree}
 use Rattle.tables.specs.Check.{class-of, body-mode}
 use Rattle.tables.specs.Valid.Builds.Classes.{open-body, plain-body, ended-body, Means, Rule, tables}
-use Rattle.tables.specs.Valid.Builds.Ladder.{any-of}
+use Rattle.tables.specs.Valid.Builds.Roles.{any-of}
 use Rattle.tables.specs.Valid.Builds.Places.{label-name, any-class, in-range, expr, stated, optional, exactly, body-in, control-in, Row, row, statements-in}
 
 label-of : (v : ℕ) → ltb Sound.Label v ≡ false → IsLabel v

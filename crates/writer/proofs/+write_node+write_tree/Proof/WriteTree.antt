@@ -13,7 +13,7 @@ use Rattle.writer.specs.Text.{Holds}
 use Rattle.writer.proofs.Texts.{holds-bound}
 use Rattle.writer.proofs.Laws.{at-many}
 use Rattle.writer.proofs.Writing.{under-top, not-done, wrote-deep}
-use Rattle.writer.proofs.Spine.{Stage, Sides, sides, side-written, side-done, side-deep}
+use Rattle.writer.proofs.Sides.{Stage, Sides, sides, side-written, side-done, side-deep}
 use Rattle.writer.proofs.write_tree.Reads as reads
 use Rattle.writer.proofs.+write_node+write_tree.Lts-write_tree as lts
 use Rattle.writer.proofs.+write_node+write_tree.Proof.Base.{write-tree-calls, write-tree-at}

@@ -3,7 +3,7 @@ use borrow.Author.Needs.{needs}
 use Prim.Native.Nat.{_/_, _%_}
 use native.Mathlib.Omega.{arith}
 use Rattle.writer.specs.Memory.{tree-places}
-use Rattle.writer.proofs.Memory.{begin-hit}
+use Rattle.writer.proofs.Memory.{begin-looked-up}
 use Rattle.writer.proofs.records.begin.Statement.{statement}
 use Rattle.writer.proofs.records.begin.Tie as tie
 use Rattle.writer.proofs.Known.{known}
@@ -21,7 +21,7 @@ element-copy-out-result : tie.Need-element-copy-out-result
 element-copy-out-result c = search needs
 
 returns : tie.Need-returns
-returns c = begin-hit (known tie.Start (search) .args .p / 2 % tree-places) (omega arith) (known tie.Start (search) .pre .memo) (known tie.Then1 (search) .if1 .taken)
+returns c = begin-looked-up (known tie.Start (search) .args .p / 2 % tree-places) (omega arith) (known tie.Start (search) .pre .memo) (known tie.Then1 (search) .if1 .taken)
 
 skip-requires : tie.Need-skip-requires
 skip-requires c κs = record { top = known tie.Start (search) .pre .top; rest = known tie.Start (search) .pre .rest; here = known tie.Start (search) .pre .here }

@@ -1,4 +1,4 @@
--- An expression of a class in every role that takes the class: the roles are rungs, the tightest lowest. Assumes nothing.
+-- An expression of a class in every role that takes the class: the tightest role first. Assumes nothing.
 use mathlib.Core.Path.{_≡_, subst}
 use mathlib.Core.Bool.{Bool}
 use Prim.Native.Nat.{ℕ, zero, suc, _+_, _≤_}
