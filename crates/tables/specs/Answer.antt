@@ -1,10 +1,11 @@
 -- What is answered of a tree and left of the output, by the tables, and that grammar's definition says the same. Assumes nothing.
-use mathlib.Core.Path.{_≡_, refl, sym, _∙_}
+use mathlib.Core.Path.{_≡_, refl, sym, ap, _∙_}
 use mathlib.Core.Bool.{Bool, true, false, true≢false}
 use mathlib.Core.List.{List, [], _∷_, _++_}
 use Prim.Native.Nat.{ℕ, _-_, _/_}
+use native.Mathlib.Omega.{arith}
 use lib.Dec.{leb, ltb}
-use lib.ListN.{length, replicate}
+use lib.ListN.{length, take, replicate}
 use borrow.Author.Tests.{leb-true, leb-false, lt-ltb, le-ltb}
 use Rattle.token.specs.Kind
 use Rattle.tree.specs.Tree.{Tree}
@@ -17,6 +18,7 @@ use Rattle.grammar.specs.Canonical.Write.{own}
 use Rattle.grammar.specs.Canonical.Writing.{readable, statement-words, Wrote, bare, written}
 use Rattle.grammar.specs.Laws.Facts.{not-true}
 use Rattle.grammar.specs.Theorems.{readable-valid, limit-exact}
+use Rattle.grammar.specs.declared.Written.{Written}
 use Rattle.grammar.specs.declared.Written.the-variants.{Tokens, Stopped, Refused}
 use Rattle.tables.specs.Form.{Own}
 use Rattle.tables.specs.Check.{legal-tree}
@@ -32,6 +34,12 @@ in-room X m = ifb (ltb m (length X)) (λ _. bare m (Refused short-output)) (λ _
 -- what is answered and left of a tree, by the tables
 unfoldable pub run-out : Tree → ℕ → Wrote
 run-out t m = ifb (within t Own depth-limit) (λ _. in-room (text t Own (Kind.Semicolon ∷ 0 ∷ [])) m) (λ _. bare m (Stopped too-deep))
+
+-- an answer that leaves nothing in the output
+pub cleared : {r : Written} {w : Wrote} (O O′ : List ℕ) (m : ℕ) → O′ ≡ take 0 O ++ replicate (length O - 0) 0 → length O ≡ m → w ≡ bare m r → record { answer = r; output = O′ } ≡ w
+cleared {r} O O′ m e l b =
+    let z : length O - 0 ≡ m = omega arith in
+    ap (λ (x : List ℕ). record { answer = r; output = x }) (e ∙ rw z) ∙ sym b
 
 -- ---------------------------------------------------------------- grammar's definition
 -- a choice by `at most` is the other one by `less than`

@@ -16,7 +16,8 @@ use Rattle.tables.specs.Same.Depth.{deeper-base}
 use Rattle.writer.specs.Post.{StepAs, Wrote-tree}
 use Rattle.writer.specs.Stack.{At, Says}
 use Rattle.tables.specs.Children.{kind-in, value-in, children-in}
-use Rattle.writer.specs.Text.{Holds, Put, Opened}
+use Rattle.writer.specs.Text.{Put, Opened}
+use Rattle.output.specs.Text.{Holds}
 use Rattle.tables.specs.Tokens.{after-token}
 use Rattle.writer.specs.declared.Step.{Step}
 use Rattle.writer.specs.declared.Step.the-variants.{Done, Deep}

@@ -15,7 +15,8 @@ use Rattle.tables.specs.Form.{Own, first-place, second-place, place-of, base, f
 use Rattle.tables.specs.Layout.{form-of, text, within, emit, opened, closed}
 use Rattle.writer.specs.Post.{Wrote-tree}
 use Rattle.writer.specs.Stack.{At}
-use Rattle.writer.specs.Text.{Holds, Put}
+use Rattle.writer.specs.Text.{Put}
+use Rattle.output.specs.Text.{Holds}
 use Rattle.tables.specs.Tokens.{first-token, later-first-token, second-token, third-token, after-token, first-after, behind-token, last-token}
 use Rattle.writer.specs.declared.Step.{Step}
 use Rattle.writer.specs.declared.Step.the-variants.{Done, Deep}

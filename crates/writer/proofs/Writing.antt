@@ -12,7 +12,7 @@ use Rattle.tree.specs.Records.{records-length, size-positive, stack-records}
 use Rattle.tables.specs.Layout.{text, within}
 use Rattle.writer.specs.Post.{Wrote-tree}
 use Rattle.writer.specs.Stack.{At}
-use Rattle.writer.specs.Text.{Holds}
+use Rattle.output.specs.Text.{Holds}
 use Rattle.writer.specs.declared.Step.{Step}
 use Rattle.writer.specs.declared.Step.the-variants.{Done, Deep}
 use Rattle.writer.proofs.Step.{the-type}

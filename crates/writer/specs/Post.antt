@@ -7,16 +7,11 @@ use lib.ListN.{length}
 use Rattle.tree.specs.Tree.{Tree}
 use Rattle.grammar.specs.declared.Written.{Written}
 use Rattle.tables.specs.Layout.{text, within}
-use Rattle.tables.specs.Answer.{in-room, run-out}
+use Rattle.tables.specs.Answer.{run-out}
 use Rattle.writer.specs.Stack.{At}
-use Rattle.writer.specs.Text.{Holds}
+use Rattle.output.specs.Text.{Holds}
 use Rattle.writer.specs.declared.Step.{Step}
 use Rattle.writer.specs.declared.Step.the-variants.{Done, Deep}
-
--- some text stands at a
-pub record Held (a : ℕ) (O : List ℕ) : Type 0 where
-  pub words : List ℕ
-  pub holds : Holds a O words
 
 -- the words Y stand at b, and the trees under the one that was written end at q; or the depth was not enough
 abbrev pub StepAs : Bool → List ℕ → List Tree → List ℕ → List ℕ → Step → Type 0
@@ -27,10 +22,6 @@ StepAs enough L s Y O Deep = enough ≡ false
 pub record Wrote-tree (L : List ℕ) (d place p a : ℕ) (O O′ : List ℕ) (r : Step) : Type 0 where
   pub how : (t : Tree) (s : List Tree) (X : List ℕ) → At L p (t ∷ s) → Holds a O X → StepAs (within t place d) L s (text t place X) O′ r
 
--- the text at b is answered and left as it must be
-pub record Fronted (b : ℕ) (O O′ : List ℕ) (r : Written) : Type 0 where
-  pub how : (X : List ℕ) → Holds b O X → record { answer = r; output = O′ } ≡ in-room X (length O)
-
--- so is the whole
+-- the whole is answered and left as it must be
 pub record Ran-out (L O O′ : List ℕ) (r : Written) : Type 0 where
   pub how : (t : Tree) → At L (length L) (t ∷ []) → record { answer = r; output = O′ } ≡ run-out t (length O)

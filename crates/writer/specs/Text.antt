@@ -1,18 +1,10 @@
 -- The text at the output's end, and tokens before it. Definitions; they assume nothing.
 use mathlib.Core.Path.{_≡_}
 use mathlib.Core.List.{List}
-use Prim.Native.Nat.{ℕ, zero, suc, _+_, _≤_, _<_}
-use lib.ListN.{length, drop}
+use Prim.Native.Nat.{ℕ, _+_, _≤_}
+use lib.ListN.{length}
 use Rattle.tables.specs.Layout.{emit, opened, closed}
-
--- the output from word a - 2 on is X; or a is below 2, and X is longer than the output
-abbrev pub HoldsAs : ℕ → List ℕ → List ℕ → Type 0
-HoldsAs zero S X = length S < length X
-HoldsAs (suc zero) S X = length S < length X
-HoldsAs (suc (suc a)) S X = (a ≤ length S) × (drop a S ≡ X)
-
-pub record Holds (a : ℕ) (S X : List ℕ) : Type 0 where
-  pub how : HoldsAs a S X
+use Rattle.output.specs.Text.{Holds}
 
 -- whatever text stood at a, with a token before it it stands at b; the output is as long as before
 pub record Put (c v a b : ℕ) (S S′ : List ℕ) : Type 0 where

@@ -5,9 +5,10 @@ use native.Mathlib.Omega.{arith}
 use lib.ListN.{length}
 use borrow.Author.Needs.{needs}
 use Rattle.token.specs.Kind
-use Rattle.writer.specs.Text.{Holds}
+use Rattle.output.specs.Text.{Holds}
 use Rattle.writer.proofs.Writing.{not-done, wrote-done, stopped}
-use Rattle.writer.proofs.Ending.{cleared, semicolon, run-deep, run-done}
+use Rattle.writer.proofs.Ending.{semicolon, run-deep, run-done}
+use Rattle.tables.specs.Answer.{cleared}
 use Rattle.writer.proofs.run_out.Statement.{statement}
 use Rattle.writer.proofs.run_out.Tie as tie
 use Rattle.writer.proofs.Known.{known}

@@ -9,7 +9,7 @@ use Rattle.tree.specs.Maybe.{just}
 use Rattle.tree.specs.Decode.{decode}
 use Rattle.writer.specs.Stack.{At}
 use Rattle.writer.proofs.Memory.{table-start}
-use Rattle.writer.proofs.Ending.{cleared}
+use Rattle.tables.specs.Answer.{cleared}
 use Rattle.writer.proofs.Entry.{no-shape, a-shape, no-tree, illegal, legal}
 use Rattle.writer.proofs.write_stmt.Statement.{statement}
 use Rattle.writer.proofs.write_stmt.Tie as tie

@@ -8,8 +8,7 @@ use lib.ListN.{length, getD}
 use Rattle.tree.specs.Tree.{Tree}
 use Rattle.tables.specs.Layout.{text, within, closed}
 use Rattle.writer.specs.Stack.{At}
-use Rattle.writer.specs.Text.{Holds}
-use Rattle.writer.proofs.Texts.{holds-bound}
+use Rattle.output.specs.Text.{Holds, holds-bound}
 use Rattle.writer.proofs.Laws.{at-many}
 use Rattle.writer.proofs.Places.{reach-of}
 use Rattle.writer.proofs.Writing.{not-done, wrote-deep}

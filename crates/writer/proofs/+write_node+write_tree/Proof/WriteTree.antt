@@ -9,8 +9,7 @@ use lib.ListN.{length}
 use Rattle.tree.specs.Tree.{Tree}
 use Rattle.tables.specs.Layout.{text, within}
 use Rattle.writer.specs.Stack.{At}
-use Rattle.writer.specs.Text.{Holds}
-use Rattle.writer.proofs.Texts.{holds-bound}
+use Rattle.output.specs.Text.{Holds, holds-bound}
 use Rattle.writer.proofs.Laws.{at-many}
 use Rattle.writer.proofs.Writing.{under-top, not-done, wrote-deep}
 use Rattle.writer.proofs.Sides.{Stage, Sides, sides, side-written, side-done, side-deep}

@@ -1,9 +1,9 @@
--- `writer::text::word_at` meets its contract. Assumes nothing.
+-- `output::word_at` meets its contract. Assumes nothing.
 use mathlib.Core.Path.{sym}
 use borrow.Author.Needs.{needs}
 use lib.ListN.{List·getD-eq-default}
-use Rattle.writer.proofs.text.word_at.Statement.{statement}
-use Rattle.writer.proofs.text.word_at.Tie as tie
+use Rattle.output.proofs.word_at.Statement.{statement}
+use Rattle.output.proofs.word_at.Tie as tie
 
 mul-result : tie.Need-mul-result
 mul-result c = search needs
