@@ -13,14 +13,11 @@ use Rattle.grammar.specs.Canonical.Writing.{bare, write-stmt}
 use Rattle.grammar.specs.declared.Written.the-variants.{Refused}
 use Rattle.tables.specs.Check.{legal-tree}
 use Rattle.tables.specs.Answer.{run-out, illegal-tree, legal-run}
-use Rattle.writer.specs.Stack.{At, Shape}
+use Rattle.writer.specs.Stack.{At, ShapeAs, Shape}
 
 -- what the shape says
-pub no-shape : {L : List ℕ} {r : Bool} → Shape L r → r ≡ false → decode L ≡ nothing
-no-shape h e = rw e at (h .how)
-
-pub a-shape : {L : List ℕ} {r : Bool} → Shape L r → r ≡ true → (t : Tree) × (decode L ≡ just t) × At L (length L) (t ∷ [])
-a-shape h e = rw e at (h .how)
+pub shape-at : {L : List ℕ} {r b : Bool} → Shape L r → r ≡ b → ShapeAs L b
+shape-at h e = rw e at (h .how)
 
 at-small : {L : List ℕ} {p : ℕ} {t : Tree} → At L p (t ∷ []) → Small t
 unfolding Stack-small

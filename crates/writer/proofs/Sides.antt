@@ -21,7 +21,7 @@ use Rattle.tables.specs.Tokens.{first-token, later-first-token, second-token, t
 use Rattle.writer.specs.declared.Step.{Step}
 use Rattle.writer.specs.declared.Step.the-variants.{Done, Deep}
 use Rattle.writer.proofs.Laws.{pop}
-use Rattle.writer.proofs.Writing.{under-top, wrote-done, stopped}
+use Rattle.writer.proofs.Writing.{under-top, wrote-at}
 
 -- where the loop along it stands: what the whole writes is Y, and it is within its depth if `enough` says so; the tree that is left, and the words behind it
 pub record Stage (L : List ℕ) (s : List Tree) (Y : List ℕ) (enough : Bool) (d from : ℕ) (O : List ℕ) (at p a : ℕ) : Type 0 where
@@ -82,7 +82,7 @@ sides {L} {s} {Y} {enough} {d} {from} {O} {at} {p} {a} w h = go (w .top) (w .her
 module _ {L : List ℕ} {s : List Tree} {Y : List ℕ} {enough : Bool} {d from : ℕ} {O : List ℕ} {at p a : ℕ} (w : Sides L s Y enough d from O at p a) {O₁ : List ℕ} {r : Step} (x : Wrote-tree L d Own (p - 2) a O O₁ r) where
   -- the right side is written
   pub side-written : {q e : ℕ} → r ≡ Done q e → (within (w .right) Own d ≡ true) × At L q (w .left ∷ s) × Holds e O₁ (text (w .right) Own (w .words))
-  side-written re = wrote-done x re (w .right) (w .left ∷ s) (w .words) (w .here) (w .holds)
+  side-written re = wrote-at x re (w .right) (w .left ∷ s) (w .words) (w .here) (w .holds)
 
   -- on with the left side
   pub side-done : {O₂ : List ℕ} {c q e b : ℕ} → r ≡ Done q e → c ≡ op-token (getD L (p - 1) 0) → Put c 0 e b O₁ O₂ → Stage L s Y enough d from O₂ Own q b
@@ -101,4 +101,4 @@ module _ {L : List ℕ} {s : List Tree} {Y : List ℕ} {enough : Bool} {d from :
       }
 
   pub side-deep : r ≡ Deep → enough ≡ false
-  side-deep re = w .deep ∙ rw (stopped x re (w .right) (w .left ∷ s) (w .words) (w .here) (w .holds), and-false (within (w .left) Own d))
+  side-deep re = w .deep ∙ rw (wrote-at x re (w .right) (w .left ∷ s) (w .words) (w .here) (w .holds), and-false (within (w .left) Own d))

@@ -23,7 +23,7 @@ use Rattle.writer.specs.Verdict.{Fit}
 use Rattle.writer.proofs.Memory.{spot-zero}
 use Rattle.writer.proofs.Places.{of-kid}
 use Rattle.writer.proofs.Kids.{from-first}
-use Rattle.writer.proofs.Fitted.{fit-done, fit-not}
+use Rattle.writer.proofs.Fitted.{fit-at}
 
 -- the items of a path, one by one
 abbrev pub item : ℕ → Tree → Bool
@@ -63,7 +63,7 @@ module _ {L : List ℕ} {p q : ℕ} (path : Kid-of L p 2 q) (some : q ≡ 0 → 
       go : (f : Forest) → SpotAs L q (nth-tree 1 f) (push 1 f s) → target-path (tail-of f) ≡ false
       go none z = absurd (some z)
       go (more x none) z = absurd (some z)
-      go (more x (more (node k v g) f)) a = fit-not w (node k v g) _ a e
+      go (more x (more (node k v g) f)) a = fit-at w (node k v g) _ a e
 
   -- the atom ends where the path begins
   pub good-path : {b : ℕ} → r ≡ From b → (m : Maybe Tree) (s : List Tree) → Spot L p m s → (target-path (tail-of (children-in m)) ≡ true) × Spot L b (kid-in 1 m) s
@@ -72,7 +72,7 @@ module _ {L : List ℕ} {p q : ℕ} (path : Kid-of L p 2 q) (some : q ≡ 0 → 
       go : (f : Forest) → SpotAs L q (nth-tree 1 f) (push 1 f s) → (target-path (tail-of f) ≡ true) × Spot L b (first-tree f) s
       go none z = absurd (some z)
       go (more x none) z = absurd (some z)
-      go (more x (more (node k v g) f)) a = let y = fit-done w (node k v g) _ a e in (y .0, record { how = y .1 })
+      go (more x (more (node k v g) f)) a = let y = fit-at w (node k v g) _ a e in (y .0, record { how = y .1 })
 
 pub receiver-is : (f : Forest) → target-receiver f ≡ target-atom (head-kind (children-in (first-tree f))) && target-path (tail-of (children-in (first-tree f)))
 receiver-is none = refl

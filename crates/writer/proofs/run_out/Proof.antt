@@ -6,7 +6,7 @@ use lib.ListN.{length}
 use borrow.Author.Needs.{needs}
 use Rattle.token.specs.Kind
 use Rattle.output.specs.Text.{Holds}
-use Rattle.writer.proofs.Writing.{not-done, wrote-done, stopped}
+use Rattle.writer.proofs.Writing.{not-done, wrote-at}
 use Rattle.writer.proofs.Ending.{semicolon, run-deep, run-done}
 use Rattle.tables.specs.Answer.{cleared}
 use Rattle.writer.proofs.run_out.Statement.{statement}
@@ -42,7 +42,7 @@ enum-known-r c = search needs
 written-requires : tie.Need-written-requires
 written-requires c κs = let w = known tie.After-write-tree (search) in
     let y = start w .pre in
-    record { words = _; holds = wrote-done (w .write-tree .ensures) (known tie.After-r (search) .r .given .1) (y .top) (y .rest) _ (y .here) (ends w) .2 }
+    record { words = _; holds = wrote-at (w .write-tree .ensures) (known tie.After-r (search) .r .given .1) (y .top) (y .rest) _ (y .here) (ends w) .2 }
 
 enum-told : tie.Need-enum-told
 enum-told c = search needs
@@ -57,7 +57,7 @@ returns : tie.Need-returns
 returns c = let w : tie.After-write-tree = search (known tie.After-r (search)) in
     record {
       how = λ t a.
-          let d = wrote-done (w .write-tree .ensures) (known tie.After-r (search) .r .given .1) t [] _ a (ends w) in
+          let d = wrote-at (w .write-tree .ensures) (known tie.After-r (search) .r .given .1) t [] _ a (ends w) in
           run-done t _ (d .0) (known tie.After-written (search) .written .ensures) (d .2) (kept w);
     }
 
@@ -66,7 +66,7 @@ same-length-2 c = search needs
 
 returns-2 : tie.Need-returns-2
 returns-2 c = let w : tie.After-write-tree = search in
-    record { how = λ t a. cleared (w .write-tree .last .1 .1 .1 .0) _ (length (start w .args .output .now)) (known tie.After-clear (search) .clear .ensures) (kept w) (run-deep t _ (stopped (w .write-tree .ensures) (not-done _ (known tie.At-match-keys2 (search) .match .keys2)) t [] _ a (ends w))) }
+    record { how = λ t a. cleared (w .write-tree .last .1 .1 .1 .0) _ (length (start w .args .output .now)) (known tie.After-clear (search) .clear .ensures) (kept w) (run-deep t _ (wrote-at (w .write-tree .ensures) (not-done _ (known tie.At-match-keys2 (search) .match .keys2)) t [] _ a (ends w))) }
 
 pub run-out-spec : {M : Type 1} → statement M
 run-out-spec =

@@ -10,7 +10,7 @@ use Rattle.tree.specs.Decode.{decode}
 use Rattle.writer.specs.Stack.{At}
 use Rattle.writer.proofs.Memory.{table-start}
 use Rattle.tables.specs.Answer.{cleared}
-use Rattle.writer.proofs.Entry.{no-shape, a-shape, no-tree, illegal, legal}
+use Rattle.writer.proofs.Entry.{shape-at, no-tree, illegal, legal}
 use Rattle.writer.proofs.write_stmt.Statement.{statement}
 use Rattle.writer.proofs.write_stmt.Tie as tie
 use Rattle.writer.proofs.Known.{known}
@@ -21,7 +21,7 @@ module _ (c : tie.Else1) where
   start = search
 
   one-tree : (t : Tree) × (decode (start .args .records .now) ≡ just t) × At (start .args .records .now) (length (start .args .records .now)) (t ∷ [])
-  one-tree = a-shape (known tie.After-shape (search) .shape .ensures) (not-false _ (c .if1 .left))
+  one-tree = shape-at (known tie.After-shape (search) .shape .ensures) (not-false _ (c .if1 .left))
 
 -- it was asked whether the tree is legal
 module _ (c : tie.After-legal) where
@@ -38,7 +38,7 @@ same-length : tie.Need-same-length
 same-length c = search needs
 
 returns : tie.Need-returns
-returns c = cleared (known tie.Start (search) .args .output .now) _ _ (known tie.After-clear (search) .clear .ensures) refl (no-tree _ _ (no-shape (known tie.After-shape (search) .shape .ensures) (not-true _ (known tie.Then1 (search) .if1 .taken))))
+returns c = cleared (known tie.Start (search) .args .output .now) _ _ (known tie.After-clear (search) .clear .ensures) refl (no-tree _ _ (shape-at (known tie.After-shape (search) .shape .ensures) (not-true _ (known tie.Then1 (search) .if1 .taken))))
 
 legal-requires : tie.Need-legal-requires
 legal-requires c κs = let z = one-tree (search) in

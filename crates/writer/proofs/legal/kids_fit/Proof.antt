@@ -9,7 +9,7 @@ use Rattle.tree.specs.Tree.{Tree}
 use Rattle.writer.specs.Stack.{At}
 use Rattle.writer.specs.Memory.{Known}
 use Rattle.writer.proofs.Places.{stands, some-place, reach-of}
-use Rattle.writer.proofs.Kids.{Part, part-start, part-look, part-end, sees-bad, sees-good}
+use Rattle.writer.proofs.Kids.{Part, part-start, part-look, part-known, part-end, sees-bad, sees-good}
 use Rattle.writer.proofs.Laws.{at-many}
 use Rattle.tables.specs.Check.{node-fits}
 use Rattle.writer.proofs.Validity.{kid-test, node-unsound, node-sound}
@@ -68,10 +68,7 @@ module _ (c : In-loop) where
   start = search (loop)
 
   child-known : Known (start .args .records .now) (start .args .keys .now) (start .args .facts .now) (loop .loop .q)
-  child-known =
-      let y = start .pre in
-      let o = part-look (loop .loop .inv .go (y .top) (y .rest) (y .here)) (c .loop-test .taken) in
-      record { top = o .top; rest = _; here = o .at; memo = y .memo }
+  child-known = let y = start .pre in part-known (loop .loop .inv .go (y .top) (y .rest) (y .here)) (y .memo) (c .loop-test .taken)
 
 kind-at-requires : tie.Need-kind-at-requires Inv-loop μ-loop
 kind-at-requires c κs = search some-place

@@ -11,7 +11,7 @@ use Rattle.writer.specs.Stack.{At}
 use Rattle.writer.specs.Memory.{tree-places, Table, Slot}
 use Rattle.writer.proofs.Places.{stands}
 use Rattle.writer.proofs.Validity.{Passed, Next, passed-start, passed-next, passed-end, whole-bad, whole-good}
-use Rattle.writer.proofs.Fitted.{fit-done, fit-not, not-from}
+use Rattle.writer.proofs.Fitted.{fit-at, not-from}
 use Rattle.writer.proofs.Memory.{table-set}
 use Rattle.writer.proofs.legal.legal.Statement.{statement}
 use Rattle.writer.proofs.legal.legal.Tie as tie
@@ -95,7 +95,7 @@ returns c = let f = known After-kids-fit (search) in
     record {
       how = λ t a.
           let z = passed-next (loop (turn f) .loop .inv .go t a) (turn f .loop-test .taken) in
-          sym (whole-bad t (z .bad (fit-not (f .kids-fit .ensures) (z .top) (z .rest) (z .at) (not-from _ (known At-match-keys2 (search) .match .keys2)))));
+          sym (whole-bad t (z .bad (fit-at (f .kids-fit .ensures) (z .top) (z .rest) (z .at) (not-from _ (known At-match-keys2 (search) .match .keys2)))));
       memo = known After-note-form (search) .note-form .ensures .0 .memo;
     }
 
@@ -122,8 +122,8 @@ loop-again c = let f = known After-kids-fit (search) in
     record {
       go = λ t a.
           let z = passed-next (loop i .loop .inv .go t a) (i .loop-test .taken) in
-          z .fits (fit-done (f .kids-fit .ensures) (z .top) (z .rest) (z .at) from .0);
-      table = table-set _ _ ((loop i .loop .p + 2) / 2 % tree-places) _ _ (omega arith) (noted .0) (λ l. record { how = λ t s a. fit-done (f .kids-fit .ensures) t s a from .1 }) (λ l. let x = l .from in absurd (omega arith));
+          z .fits (fit-at (f .kids-fit .ensures) (z .top) (z .rest) (z .at) from .0);
+      table = table-set _ _ ((loop i .loop .p + 2) / 2 % tree-places) _ _ (omega arith) (noted .0) (λ l. record { how = λ t s a. fit-at (f .kids-fit .ensures) t s a from .1 }) (λ l. let x = l .from in absurd (omega arith));
       place = noted .1;
     }
 

@@ -9,9 +9,10 @@ use Rattle.tree.specs.Tree.{Tree}
 use Rattle.tree.specs.Maybe.{just}
 use Rattle.grammar.specs.Canonical.Write.{target-items}
 use Rattle.writer.specs.Stack.{At}
+use Rattle.writer.specs.Memory.{Known}
 use Rattle.tables.specs.Children.{children-in}
 use Rattle.writer.proofs.Places.{stands, some-place}
-use Rattle.writer.proofs.Kids.{Part, part-start, part-look, part-end, sees-bad, sees-good}
+use Rattle.writer.proofs.Kids.{Part, part-start, part-look, part-known, part-end, sees-bad, sees-good}
 use Rattle.writer.proofs.Laws.{at-many}
 use Rattle.writer.proofs.Targets.{item, items-all}
 use Rattle.writer.proofs.target.target_items.Statement.{statement}
@@ -45,6 +46,17 @@ After-target-item = tie.After-target-item Inv-loop μ-loop
 abbrev Else1 : Type 0
 Else1 = tie.Else1 Inv-loop μ-loop
 
+-- the item that is looked at
+module _ (c : In-loop) where
+  abbrev loop : At-loop
+  loop = search
+
+  abbrev start : Start
+  start = search
+
+  item-known : Known (start .args .records .now) (start .args .keys .now) (start .args .facts .now) (loop .loop .q)
+  item-known = let y = start .pre in part-known (loop .loop .inv .go (y .top) (y .rest) (y .here)) (y .memo) (c .loop-test .taken)
+
 count-at-requires : tie.Need-count-at-requires Inv-loop μ-loop
 count-at-requires c κs = search some-place
 
@@ -55,9 +67,7 @@ loop-holds : tie.Need-loop-holds Inv-loop μ-loop
 loop-holds c = record { go = λ t s a. part-start t a (c .count-at .ensures .how (just t) s (stands a)) (items-all (children-in (just t)) 1) }
 
 kind-at-requires : tie.Need-kind-at-requires Inv-loop μ-loop
-kind-at-requires c κs = let y = known Start (search) .pre in
-    let o = part-look (known At-loop (search) .loop .inv .go (y .top) (y .rest) (y .here)) (c .loop-test .taken) in
-    record { tree = just (o .top); rest = _; spot = stands (o .at) }
+kind-at-requires c κs = some-place (item-known c)
 
 target-item-requires : tie.Need-target-item-requires Inv-loop μ-loop
 target-item-requires c κs = search needs
@@ -71,9 +81,7 @@ returns c = record {
 }
 
 begin-requires : tie.Need-begin-requires Inv-loop μ-loop
-begin-requires c κs = let y = known Start (search) .pre in
-    let o = part-look (known At-loop (search) .loop .inv .go (y .top) (y .rest) (y .here)) (known In-loop (search) .loop-test .taken) in
-    record { top = o .top; rest = _; here = o .at; memo = y .memo }
+begin-requires c κs = item-known (search)
 
 sub-j : tie.Need-sub-j Inv-loop μ-loop
 sub-j c = search needs
