@@ -58,7 +58,7 @@ loop-less : tie.Need-loop-less Inv-loop μ-loop
 loop-less c = omega (arith, passed-over (search))
 
 loop-again : tie.Need-loop-again Inv-loop μ-loop
-loop-again c = record { go = λ t s a. over-step (c .before .before .loop .inv .go t s a) (c .before .loop-test .taken) .1 }
+loop-again c = record { go = λ t s a. let i : tie.In-loop Inv-loop μ-loop = search in over-step (loop i .loop .inv .go t s a) (i .loop-test .taken) .1 }
 
 returns : tie.Need-returns Inv-loop μ-loop
 returns c = record { how = λ t s a. over-end (c .before .loop .inv .go t s a) (omega arith) }
