@@ -33,3 +33,8 @@ first-tree (more t f) = just t
 -- the last child
 abbrev pub last-in : Maybe Tree → Maybe Tree
 last-in m = last-tree (children-in m)
+
+-- something of each of some trees
+abbrev pub Each : (Tree → Type 0) → Forest → Type 0
+Each P none = Unit {0}
+Each P (more t f) = P t × Each P f

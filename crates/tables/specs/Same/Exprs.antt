@@ -18,7 +18,7 @@ use Rattle.tables.specs.Form.{Fun}
 use Rattle.tables.specs.Check.{name-given, function-form}
 use Rattle.tables.specs.Tokens.{modifier-token, assignment-token, assigns, carried}
 use Rattle.tables.specs.Layout.{emit, assignment-form}
-use Rattle.tables.specs.Same.Agree.{number, weighed, Same, tables}
+use Rattle.tables.specs.Same.Agree.{number, depth-place, Same, tables}
 use Rattle.tables.specs.Same.Nodes.{kind-is}
 use Rattle.tables.specs.Same.Marks.{symbol-words, label-words, keyword-words, action-words, unary-words}
 
@@ -120,14 +120,14 @@ module _ (p : Place) where
   string-literal-same n = record { words = λ r. refl; depth = omega arith }
 
   -- an assignment as it stands, and as `fun` with a target
-  pub assignment-same : {t d : Tree} (v : ℕ) → weighed p ≡ p → assign-token (v / 4) < NoToken → (fun-gives p v && has-function (two t d)) ≡ false → Same own t → Same own d
+  pub assignment-same : {t d : Tree} (v : ℕ) → depth-place p ≡ p → assign-token (v / 4) < NoToken → (fun-gives p v && has-function (two t d)) ≡ false → Same own t → Same own d
       → Same p (node NodeKind.Assignment v (two t d))
   unfolding tables assigns
   assignment-same {t} {d} v q l e h g =
       let m : assignment-form v (two t d) (number p) ≡ number p = plain-form p v (two t d) e in
       record { words = λ r. rw (m, e, by-place p v .2, by-place p v .1, symbol-words (assign-token (v / 4)) _ l, h .words, g .words); depth = rw (q, m, e, by-place p v .1) (omega arith) }
 
-  pub target-same : {t d : Tree} (v : ℕ) → weighed p ≡ p → fun-gives p v ≡ true → has-function (two t d) ≡ true → Same own t → Function d
+  pub target-same : {t d : Tree} (v : ℕ) → depth-place p ≡ p → fun-gives p v ≡ true → has-function (two t d) ≡ true → Same own t → Function d
       → Same p (node NodeKind.Assignment v (two t d))
   unfolding tables assignment-token assigns
   target-same {t} {d} v q l e h g =

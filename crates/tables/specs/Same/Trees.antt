@@ -19,7 +19,8 @@ use Rattle.tables.specs.Form.{Own}
 use Rattle.tables.specs.Operators.{NoToken}
 use Rattle.tables.specs.Layout.{text, within}
 use Rattle.tables.specs.Same.Depth.{within-taken}
-use Rattle.tables.specs.Same.Agree.{weighed, Same, All, Each}
+use Rattle.tables.specs.Children.{Each}
+use Rattle.tables.specs.Same.Agree.{depth-place, Same, Each-own}
 use Rattle.tables.specs.Same.Lists.{suite-same, row-same, commas-same, members-same, branches-same, leading-same}
 use Rattle.tables.specs.Same.Nodes.{expression-same, loop-same, while-loop-same, for-loop-same, assert-same, continue-same, break-same, return-same, absent-same, stmt-list-same, expr-block-same, inner-same, conditional-branch-same, attribute-same, index-same, invoke-same, invoke-table-same, field-attribute-same, field-index-same, table-item-same, param-def-same, default-def-same, required-signature, default-signature, variadic-signature, identifier-pattern-same, attribute-pattern-same, index-pattern-same, tuple-pattern-same, pack-same, modifier-same}
 use Rattle.tables.specs.Same.Exprs.{Function, if-expr-same, primary-same, unary-op-same, binary-op-same, unpack-same, tuple-same, table-same, block-same, group-same, nil-same, empty-tuple-same, identifier-same, boolean-literal-same, integer-literal-same, float-literal-same, string-literal-same, assignment-same, target-same, function-def-same}
@@ -45,7 +46,7 @@ Agrees prim t = Free t
 Agrees (tight begin) t = Free t
 Agrees (unary begin) t = Free t
 Agrees (binop begin l) t = Free t
-Agrees (assign p close a) t = a < 4 → weighed p ≡ p → Same p t
+Agrees (assign p close a) t = a < 4 → depth-place p ≡ p → Same p t
 Agrees (plain begin close) t = Unassigned t
 Agrees (ex begin close) t = Same own t
 Agrees (given a) t = a < 4 → Same modified t
@@ -62,7 +63,7 @@ Agrees body t = Same own t
 Agrees block t = Same own t
 Agrees stmt t = Same own t
 
-each : (f : Forest) → All Free f → Each f
+each : (f : Forest) → Each Free f → Each-own f
 each none u = tt
 each (more t f) u = (u .0 .0, each f (u .1))
 
@@ -78,7 +79,7 @@ assigned (v-assign k c h g e) = refl
 same : {o : Role} {t : Tree} → Valid o t → Agrees o t
 unfolding count
 same h =
-    elim h as (λ o t x. Agrees o t) (λ o f x. All (Agrees o) f) (λ f x. Each f) (λ t x. Same own t) (λ f x. Each f) (λ t x. Same own t) [
+    elim h as (λ o t x. Agrees o t) (λ o f x. Each (Agrees o) f) (λ f x. Each-own f) (λ t x. Same own t) (λ f x. Each-own f) (λ t x. Same own t) [
       | v-nil ↦ free nil-same
       | v-empty-tuple ↦ free empty-tuple-same
       | v-identifier {n = n} _ ↦ free λ p. identifier-same p n

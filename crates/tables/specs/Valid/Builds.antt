@@ -24,9 +24,9 @@ use Rattle.tables.specs.Class.{class}
 use Rattle.tables.specs.Demand.{demand, fits, of-members}
 use Rattle.tables.specs.Sound.{top, exceeds, arity, sound}
 use Rattle.tables.specs.Kinds.{unlabelled, closed}
-use Rattle.tables.specs.Children.{last-tree}
+use Rattle.tables.specs.Children.{last-tree, Each}
 use Rattle.tables.specs.Check.{class-of, mode-of, inner-class, begins-labelled, ends-single, banned, kids-fit, node-fits, all-fit, all-fits, legal-tree}
-use Rattle.tables.specs.Valid.Builds.Classes.{missing, Each, Means, Kid, KidOf, Shown, Shaped, Rule, Rules, tables, done, _▸_}
+use Rattle.tables.specs.Valid.Builds.Classes.{missing, Means, Kid, KidOf, Shown, Shaped, Rule, Rules, tables, done, _▸_}
 use Rattle.tables.specs.Valid.Builds.Places.{at-class}
 use Rattle.tables.specs.Valid.Builds.Lists.{list-means}
 use Rattle.tables.specs.Valid.Builds.Statements.{of-expression, of-loop, of-while, of-for, of-assert, of-statements, of-continue, of-break, of-return}
@@ -99,7 +99,7 @@ Each-means f = Each (λ t. Means (class-of t) t) f
 
 -- the first of the children from the number j on, and the others
 first-kid : (k v m j : ℕ) (t : Tree) (f : Forest) → kids-fit k v m j (more t f) ≡ true → Each-means (more t f) → KidOf k v m j t
-unfolding kids-fit Each
+unfolding kids-fit
 first-kid k v m j t f e s = kid-of k v m j t (and-l (fits (demand k v m j) (class-of t) && not (banned k v t)) (kids-fit k v m (suc j) f) e) (s .0)
 
 other-kids : (k v m j : ℕ) (t : Tree) (f : Forest) → kids-fit k v m j (more t f) ≡ true → kids-fit k v m (suc j) f ≡ true
@@ -107,7 +107,7 @@ unfolding kids-fit
 other-kids k v m j t f e = and-r (fits (demand k v m j) (class-of t) && not (banned k v t)) (kids-fit k v m (suc j) f) e
 
 shaped : (k v n : ℕ) (f : Forest) → Shaped k v n → count f ≡ n → kids-fit k v (mode-of k f) 1 f ≡ true → Each-means f → Shown k v f
-unfolding count Each
+unfolding count
 shaped k v zero none h c e s = h
 shaped k v zero (more t f) h c e s = absurd (omega arith)
 shaped k v (suc n) none h c e s = absurd (omega arith)
@@ -128,7 +128,7 @@ shaped k v (suc (suc (suc (suc n)))) (more t (more u (more w f))) h c e s = absu
 
 -- lists
 members : (m j : ℕ) (f : Forest) → kids-fit NodeKind.List 0 m j f ≡ true → Each-means f → Each (Kid (of-members m) true true) f
-unfolding Each demand unlabelled closed
+unfolding demand unlabelled closed
 members m j none e s = tt
 members m j (more t f) e s = (first-kid NodeKind.List 0 m j t f e s, members m (suc j) f (other-kids NodeKind.List 0 m j t f e) (s .1))
 
@@ -166,7 +166,7 @@ at-node k v f e s =
     (λ n. shaped k v (arity k) f (rule-at k v n value (find rules k (omega arith) (omega arith))) (arity-is k v (count f) n own) kids s)
 
 mutual
-  unfolding all-fit Each
+  unfolding all-fit
 
   tree-means : (t : Tree) → all-fit t ≡ true → Means (class-of t) t
   tree-means (node k v f) e = at-node k v f (and-l (node-fits (node k v f)) (all-fits f) e) (each-means f (and-r (node-fits (node k v f)) (all-fits f) e))

@@ -15,7 +15,8 @@ use Rattle.tables.specs.Class as Class
 use Rattle.tables.specs.Demand as Demand
 use Rattle.tables.specs.Check.{class-of}
 use Rattle.tables.specs.Valid.Meets.Demands.{by-fits}
-use Rattle.tables.specs.Valid.Builds.Classes.{bound, as-atom, Receiver, receiver, Each, Empty, empty-list, Only, only, Listed, listed, Operand, Argument, Rule, tables}
+use Rattle.tables.specs.Children.{Each}
+use Rattle.tables.specs.Valid.Builds.Classes.{bound, as-atom, Receiver, receiver, Empty, empty-list, Only, only, Listed, listed, Operand, Argument, Rule, tables}
 use Rattle.tables.specs.Valid.Builds.Places.{name-in, at-class, simple, expr, either-class, exactly, missing-is, receiver-in, Row, row, table-items-in, operands}
 
 -- atoms
@@ -69,7 +70,6 @@ only-argument : {t : Tree} → Only Argument t → Call t
 only-argument (only a) = v-invoke (one-argument (a .valid) (a .no-tuple))
 
 some-arguments : {t : Tree} → Listed Operand t → Call t
-unfolding Each
 some-arguments (listed {f = none} h g) = v-invoke (arguments-sound (v-plain (v-single {begin = true} (h true λ e. clash refl e))))
 some-arguments (listed {f = more u f} h g) = v-invoke (arguments (h true λ e. clash refl e) (g .0 true λ e. clash refl e) (operands (g .1)))
 
@@ -110,7 +110,6 @@ of-index-pattern t u k l = go (receiver-in k)
     go (receiver a f) = p-index a f (expr l)
 
 patterns : {f : Forest} → Each Pattern f → Patterns f
-unfolding Each
 patterns {f = none} h = p-none
 patterns {f = more t f} h = p-more (h .0) (patterns (h .1))
 

@@ -21,7 +21,7 @@ use Rattle.tables.specs.Sound.{arity, exceeds}
 use Rattle.tables.specs.Kinds as Kinds
 use Rattle.tables.specs.Kinds.{unlabelled, closed}
 use Rattle.tables.specs.Children as Children
-use Rattle.tables.specs.Children.{value-in}
+use Rattle.tables.specs.Children.{value-in, Each}
 use Rattle.tables.specs.Check as Check
 use Rattle.tables.specs.Check.{class-of, mode-of, begins-labelled, ends-single}
 
@@ -104,10 +104,6 @@ Part c t =
     (Unit {0})))))))))))))))
 
 -- lists
-unfoldable pub Each : (Tree → Type 0) → Forest → Type 0
-Each P none = Unit {0}
-Each P (more t f) = P t × Each P f
-
 pub data Empty : Tree → Type 0 where
   empty-list : Empty (Node.list none)
 

@@ -24,7 +24,7 @@ use Rattle.tables.specs.Demand.{left-side, right-side}
 use Rattle.tables.specs.Kinds.{passes}
 use Rattle.tables.specs.Children.{kind-in, count-in, value-in, last-tree}
 use Rattle.tables.specs.Check.{begins-labelled, ends-single}
-use Rattle.tables.specs.Valid.Builds.Classes.{Begins, Ends, bound, as-lone, as-path, as-tight, as-unary, as-binary, as-plain, Any, receiver, Signature, Each, Listed, listed, Operand, Means, Rule, tables}
+use Rattle.tables.specs.Valid.Builds.Classes.{Begins, Ends, bound, as-lone, as-path, as-tight, as-unary, as-binary, as-plain, Any, receiver, Signature, Listed, listed, Operand, Means, Rule, tables}
 use Rattle.tables.specs.Valid.Builds.Roles.{tight-class, prim-of}
 use Rattle.tables.specs.Valid.Builds.Places.{label-name, same-kind, simple, unary-in, operand-in, optional, exactly, atom-in, else-in, all-valid, Row, row, items-in, table-items-in, not-absent, operands}
 
@@ -98,7 +98,7 @@ single h begin true p q = v-single (h begin p)
 single h begin false p q = clash refl (q refl)
 
 members : {t : Tree} → Listed Operand t → Any Class.Tuple (node NodeKind.Tuple 0 (one t))
-unfolding Each begins-labelled passes
+unfolding begins-labelled passes
 members (listed {f = none} h g) = simple refl refl (as-plain (omega arith) (omega arith) (single h))
 members (listed {f = more u f} h g) =
     simple refl refl (as-plain (omega arith) (omega arith) λ begin close p q. v-tuple (h begin p) (g .0 true λ e. clash refl e) (operands (g .1)))

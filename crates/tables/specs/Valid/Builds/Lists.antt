@@ -13,7 +13,8 @@ use Rattle.tables.specs.Class as Class
 use Rattle.tables.specs.Class.{list-class, plain-list, default-list, argument-list}
 use Rattle.tables.specs.Demand as Demand
 use Rattle.tables.specs.Demand.{of-members}
-use Rattle.tables.specs.Valid.Builds.Classes.{Each, Part, Default, Empty, empty-list, only, listed, Operand, Argument, Means, Kid}
+use Rattle.tables.specs.Children.{Each}
+use Rattle.tables.specs.Valid.Builds.Classes.{Part, Default, Empty, empty-list, only, listed, Operand, Argument, Means, Kid}
 use Rattle.tables.specs.Valid.Builds.Roles.{any-of}
 use Rattle.tables.specs.Valid.Builds.Places.{no-tuple, in-range, expression, operand-in, exactly}
 
@@ -43,7 +44,6 @@ abbrev Members : ℕ → Forest → Type 0
 Members m f = Each (Kid (of-members m) true true) f
 
 each-map : {P Q : Tree → Type 0} → ((t : Tree) → P t → Q t) → (f : Forest) → Each P f → Each Q f
-unfolding Each
 each-map h none e = tt
 each-map h (more t f) e = (h t (e .0), each-map h f (e .1))
 
@@ -71,24 +71,24 @@ empty-means n e none h k = empty-list
 empty-means n e (more t f) h k = absurd (omega arith)
 
 operands-mean : (n : ℕ) → 0 < n → Wanted n Class.Operands
-unfolding Wanted count Each of-members
+unfolding Wanted count of-members
 operands-mean n e none h k = absurd (omega arith)
 operands-mean n e (more t f) h k = listed (operand t (k .0)) (each-map operand f (k .1))
 
 argument-means : (n : ℕ) → n ≡ 1 → Wanted n Class.Argument
-unfolding Wanted count Each of-members
+unfolding Wanted count of-members
 argument-means n e none h k = absurd (omega arith)
 argument-means n e (more t none) h k = only (argument (k .0))
 argument-means n e (more t (more u f)) h k = absurd (omega arith)
 
 default-means : (n : ℕ) → n ≡ 1 → Wanted n (Class.Lists + Class.Default)
-unfolding Wanted count Each of-members
+unfolding Wanted count of-members
 default-means n e none h k = absurd (omega arith)
 default-means n e (more t none) h k = only (exactly Class.Default (omega arith) (k .0))
 default-means n e (more t (more u f)) h k = absurd (omega arith)
 
 parts-mean : (n c : ℕ) → 0 < n → Class.Pattern ≤ c → c < Class.Lists → (c ≡ Class.Default → ⊥) → Wanted n (Class.Lists + c)
-unfolding Wanted count Each of-members
+unfolding Wanted count of-members
 parts-mean n c e low high d none h k = absurd (omega arith)
 parts-mean n c e low high d (more t f) h k =
     let l : ℕ = Class.Lists + c in

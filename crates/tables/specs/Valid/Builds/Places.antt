@@ -17,10 +17,10 @@ use Rattle.tables.specs.Class as Class
 use Rattle.tables.specs.Class.{class}
 use Rattle.tables.specs.Demand as Demand
 use Rattle.tables.specs.Sound as Sound
-use Rattle.tables.specs.Children.{kind-in}
+use Rattle.tables.specs.Children.{kind-in, Each}
 use Rattle.tables.specs.Check.{class-of, mode-of}
 use Rattle.tables.specs.Valid.Meets.Demands.{by-fits}
-use Rattle.tables.specs.Valid.Builds.Classes.{Begins, Ends, Expression, Any, Receiver, Missing, missing, Body, open-body, plain-body, ended-body, Each, Operand, Empty, empty-list, Listed, listed, Means, Kid}
+use Rattle.tables.specs.Valid.Builds.Classes.{Begins, Ends, Expression, Any, Receiver, Missing, missing, Body, open-body, plain-body, ended-body, Operand, Empty, empty-list, Listed, listed, Means, Kid}
 use Rattle.tables.specs.Valid.Builds.Roles.{some, tight-class, atom-of, receiver-of, unary-of, binary-of, plain-of, any-of}
 
 -- names in range, and labels, 1 + a name
@@ -162,7 +162,6 @@ pub data Row (o : Role) : Tree → Type 0 where
   row : {f : Forest} → Valids o f → Row o (Node.list f)
 
 pub all-valid : {o : Role} {f : Forest} → Each (Valid o) f → Valids o f
-unfolding Each
 all-valid {f = none} h = v-none
 all-valid {f = more t f} h = v-more (h .0) (all-valid (h .1))
 
@@ -186,6 +185,5 @@ statements-in k = either-class (Class.Lists + Class.Statement) Class.Empty (omeg
 
 -- operands behind the first
 pub operands : {f : Forest} → Each Operand f → Valids (binop true Levels) f
-unfolding Each
 operands {f = none} h = v-none
 operands {f = more t f} h = v-more (h .0 true (λ e. clash refl e)) (operands (h .1))
