@@ -26,10 +26,7 @@ pub record Fronted (b : ℕ) (O O′ : List ℕ) (r : Written) : Type 0 where
   pub how : (X : List ℕ) → Holds b O X → record { answer = r; output = O′ } ≡ in-room X (length O)
 
 -- a text begins in the output
-bound-as : (a : ℕ) (S X : List ℕ) → HoldsAs a S X → a ≤ length S + 2
-bound-as zero S X h = omega arith
-bound-as (suc zero) S X h = omega arith
-bound-as (suc (suc a)) S X h = omega (arith, h .0)
-
 pub holds-bound : {a : ℕ} {S X : List ℕ} → Holds a S X → a ≤ length S + 2
-holds-bound {a} {S} {X} h = bound-as a S X (h .how)
+holds-bound {a = zero} h = omega arith
+holds-bound {a = suc zero} h = omega arith
+holds-bound {a = suc (suc b)} h = omega (arith, h .how .0)
