@@ -97,7 +97,7 @@ module _ (t : ℕ) (c : At-loop t) where
   form = search
 
   abbrev start : Start t
-  start = search (form)
+  start = search
 
   left : Left (start .args .records .now) (start .pre .1 .0 .rest) (text (start .pre .1 .0 .top) (start .args .place) (start .pre .1 .1 .words)) (within (start .pre .1 .0 .top) (start .args .place) (start .args .depth)) (start .args .depth) (word t start % 256) (value t start) (form .form-at .result) (word t start / 256) (start .args .p) (c .loop .output) (c .loop .j) (c .loop .q) (c .loop .a)
   left = let y = start .pre .1 in c .loop .inv .go (y .0 .top) (y .0 .rest) (y .1 .words) (y .0 .here) (closed-one .closing .ensures .how (y .1 .words) (y .1 .holds))

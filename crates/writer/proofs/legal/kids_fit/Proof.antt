@@ -65,7 +65,7 @@ module _ (c : In-loop) where
   loop = search
 
   abbrev start : Start
-  start = search (loop)
+  start = search
 
   child-known : Known (start .args .records .now) (start .args .keys .now) (start .args .facts .now) (loop .loop .q)
   child-known = let y = start .pre in part-known (loop .loop .inv .go (y .top) (y .rest) (y .here)) (y .memo) (c .loop-test .taken)
