@@ -9,9 +9,10 @@ use borrow.Author.Tests.{eq-eqb, ne-eqb}
 use Rattle.tree.specs.NodeKind
 use Rattle.tree.specs.Tree.{Tree, Forest, node, none, more}
 use Rattle.tree.specs.Maybe.{Maybe, nothing, just}
-use Rattle.writer.specs.Kinds.{passes}
-use Rattle.writer.specs.Stack.{SpotAs, Spot, Somewhere, Says, Last-of, Kid-of, kind-in, count-in, value-in, last-tree, last-in, kid-in, maybe}
-use Rattle.writer.specs.Check.{begins-labelled, ends-single, last-single}
+use Rattle.tables.specs.Kinds.{passes}
+use Rattle.writer.specs.Stack.{SpotAs, Spot, Somewhere, Says, Last-of, Kid-of, kid-in, maybe}
+use Rattle.tables.specs.Children.{kind-in, count-in, value-in, last-tree, last-in}
+use Rattle.tables.specs.Check.{begins-labelled, ends-single, last-single}
 use Rattle.writer.proofs.Laws.{at-many}
 
 -- what is to be said at p is what is to be said at q

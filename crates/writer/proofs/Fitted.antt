@@ -1,6 +1,6 @@
 -- What a test that goes over a tree's children says, by its answer. Assumes nothing.
 use mathlib.Core.Path.{_≡_, refl}
-use mathlib.Core.Bool.{Bool, true, false}
+use mathlib.Core.Bool.{Bool}
 use mathlib.Core.List.{List, [], _∷_}
 use Prim.Native.Nat.{ℕ}
 use native.Mathlib.Omega.{arith}
@@ -10,15 +10,12 @@ use Rattle.tree.specs.Tree.{Tree}
 use Rattle.writer.specs.declared.records.Fitting.{Fitting}
 use Rattle.writer.specs.declared.records.Fitting.the-variants.{From, Not}
 use Rattle.writer.specs.Stack.{At}
-use Rattle.writer.specs.Verdict.{Fit}
+use Rattle.writer.specs.Verdict.{FitAs, Fit}
 use Rattle.writer.proofs.records.Fitting.{the-type}
 
 module _ {L : List ℕ} {p : ℕ} {test : Tree → Bool} {r : Fitting} (w : Fit L p test r) (t : Tree) (s : List Tree) (a : At L p (t ∷ s)) where
-  pub fit-done : {q : ℕ} → r ≡ From q → (test t ≡ true) × At L q s
-  fit-done e = rw e at (w .how t s a)
-
-  pub fit-not : r ≡ Not → test t ≡ false
-  fit-not e = rw e at (w .how t s a)
+  pub fit-at : {x : Fitting} → r ≡ x → FitAs (test t) L s x
+  fit-at e = rw e at (w .how t s a)
 
 pub not-from : (r : Fitting) → OneOf (1 ∷ []) (tagOf the-type r) → r ≡ Not
 not-from (From q) o = absurd (omega arith)

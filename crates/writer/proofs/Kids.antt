@@ -8,8 +8,9 @@ use lib.ListN.{length, length-append}
 use Rattle.tree.specs.Tree.{Tree, Forest, node, none, more, count, records}
 use Rattle.tree.specs.Maybe.{Maybe, nothing, just}
 use Rattle.tree.specs.Records.{stack-records, back}
-use Rattle.writer.specs.Stack.{At, Skipped, SpotAs, Spot, Somewhere, Says, Kid-of, count-in, children-in, nth-tree, kid-in, push}
-use Rattle.writer.specs.Memory.{Known, Reach}
+use Rattle.writer.specs.Stack.{At, Skipped, SpotAs, Spot, Somewhere, Says, Kid-of, nth-tree, kid-in, push}
+use Rattle.tables.specs.Children.{count-in, children-in}
+use Rattle.writer.specs.Memory.{Memo, Known, Reach}
 use Rattle.writer.proofs.Laws.{pop, at-length, back-append, length-back}
 
 -- ---------------------------------------------------------------- the child number j
@@ -91,8 +92,8 @@ module _ {L : List ℕ} {p q i : ℕ} (w : Kids L p q i) (i-some : 0 < i) where
             omega (arith, skipped-below k (x .2), w .below);
       }
 
-  pub kids-end : Kid-of L p i q
-  kids-end = record { how = λ m s h. let x = child m s h in rw (x .1) (record { how = x .2 }); below = w .below }
+  pub kids-end : {j : ℕ} → j ≡ i → Kid-of L p j q
+  kids-end e = rw e (record { how = λ m s h. let x = child m s h in rw (x .1) (record { how = x .2 }); below = w .below })
 
 -- ---------------------------------------------------------------- a test of every child, by its number
 unfoldable pub from-first : (ℕ → Tree → Bool) → ℕ → Forest → Bool
@@ -137,6 +138,10 @@ module _ {L : List ℕ} {q j : ℕ} {s : List Tree} {g : ℕ → Tree → Bool} 
       go : (u : List Tree) → At L q (u ++ s) → length u ≡ j → b ≡ from-last g u → Sees L q j s g b
       go [] a m e = absurd (omega arith)
       go (t ∷ u) a m e = record { top = t; more = u; at = a; many = omega arith; same = e ∙ ap (λ (i : ℕ). g i t && from-last g u) m }
+
+  -- a tree ends there
+  pub part-known : {K S : List ℕ} → Memo L K S → 0 < j → Known L K S q
+  part-known memo h = let o = part-look h in record { top = o .top; rest = _; here = o .at; memo = memo }
 
   pub part-end : j ≡ 0 → (b ≡ true) × At L q s
   unfolding from-last

@@ -1,3 +1,4 @@
+mod Known
 mod Numbers
 mod Laws
 mod Shaping
@@ -11,6 +12,6 @@ mod Chains
 mod Validity
 mod Writing
 mod Nodes
-mod Spine
+mod Sides
 mod Ending
 mod Entry

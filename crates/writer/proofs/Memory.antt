@@ -9,33 +9,28 @@ use lib.Seq.{getD-set-same, getD-set-other}
 use Rattle.tree.specs.Tree.{Tree, Forest, node, none, more, count}
 use Rattle.tree.specs.Maybe.{Maybe, nothing, just}
 use Rattle.tree.specs.Records.{back}
-use Rattle.writer.specs.Stack.{At, Skipped, SpotAs, Spot, Says, kind-in, count-in, value-in, children-in, last-tree, last-in}
-use Rattle.writer.specs.Check.{function-form}
+use Rattle.writer.specs.Stack.{At, Skipped, Spot, Says}
+use Rattle.tables.specs.Children.{kind-in, count-in, value-in, children-in, last-tree, last-in}
+use Rattle.tables.specs.Check.{function-form}
 use Rattle.writer.specs.Memory.{tree-places, all-places, Slot, Memo, Table}
 use Rattle.writer.proofs.Laws.{at-many, pop}
 
-spot-bound-as : (L : List ℕ) (p : ℕ) (m : Maybe Tree) (s : List Tree) → SpotAs L p m s → p ≤ length L
-spot-bound-as L p nothing s e = omega arith
-spot-bound-as L p (just t) s a = a .inside
-
 -- a place lies in the records
 pub spot-bound : {L : List ℕ} {p : ℕ} {m : Maybe Tree} {s : List Tree} → Spot L p m s → p ≤ length L
-spot-bound {L} {p} {m} {s} h = spot-bound-as L p m s (h .how)
-
-none-as : (L : List ℕ) (p : ℕ) (m : Maybe Tree) (s : List Tree) → p < 2 → SpotAs L p m s → m ≡ nothing
-none-as L p nothing s l e = refl
-none-as L p (just t) s l a = absurd (omega (arith, at-many a))
+spot-bound {m = nothing} h = omega (arith, h .how)
+spot-bound {m = just t} h = h .how .inside
 
 -- below 2 there is no tree
 pub spot-none : {L : List ℕ} {p : ℕ} (m : Maybe Tree) (s : List Tree) → p < 2 → Spot L p m s → m ≡ nothing
-spot-none {L} {p} m s l h = none-as L p m s l (h .how)
+spot-none nothing s l h = refl
+spot-none (just t) s l h = absurd (omega (arith, at-many (h .how)))
 
 -- what is remembered of the tree that ends at p
-pub begin-hit : {L K S : List ℕ} {p : ℕ} (i : ℕ) → i < tree-places → Memo L K S → getD K i 0 ≡ p → Skipped L p (getD S i 0)
-begin-hit i l m e = rw e at (m .begins i l)
+pub begin-looked-up : {L K S : List ℕ} {p : ℕ} (i : ℕ) → i < tree-places → Memo L K S → getD K i 0 ≡ p → Skipped L p (getD S i 0)
+begin-looked-up i l m e = rw e at (m .begins i l)
 
-pub form-hit : {L K S : List ℕ} {p : ℕ} (i : ℕ) → Slot i → Memo L K S → getD K i 0 ≡ p → Says L p (λ m. function-form (children-in m)) (getD S i 0)
-form-hit i l m e = rw e at (m .forms i l)
+pub form-looked-up : {L K S : List ℕ} {p : ℕ} (i : ℕ) → Slot i → Memo L K S → getD K i 0 ≡ p → Says L p (λ m. function-form (children-in m)) (getD S i 0)
+form-looked-up i l m e = rw e at (m .forms i l)
 
 -- where nothing is remembered, all that is remembered is right: no tree ends at 0
 no-begin : {L : List ℕ} {r : ℕ} → Skipped L 0 r
@@ -85,26 +80,15 @@ form-set slot t form =
 pub spot-zero : {L : List ℕ} {p : ℕ} {m : Maybe Tree} {s : List Tree} → m ≡ nothing → Spot L p m s → p ≡ 0
 spot-zero e h = rw e at h .how
 
-pub kind-there : {L : List ℕ} {p : ℕ} (m : Maybe Tree) (s : List Tree) → 2 ≤ p → Spot L p m s → getD L (p - 2) 0 % 256 ≡ kind-in m
-kind-there {L} {p} m s l h = go m (h .how)
-  where
-    go : (m : Maybe Tree) → SpotAs L p m s → getD L (p - 2) 0 % 256 ≡ kind-in m
-    go nothing e = absurd (omega arith)
-    go (just (node k v f)) a = pop a .kind
+-- the numbers of the record before a place that has words before it
+pub record Read (L : List ℕ) (p : ℕ) (m : Maybe Tree) : Type 0 where
+  pub kind : getD L (p - 2) 0 % 256 ≡ kind-in m
+  pub kids : getD L (p - 2) 0 / 256 ≡ count-in m
+  pub value : getD L (p - 1) 0 ≡ value-in m
 
-pub count-there : {L : List ℕ} {p : ℕ} (m : Maybe Tree) (s : List Tree) → 2 ≤ p → Spot L p m s → getD L (p - 2) 0 / 256 ≡ count-in m
-count-there {L} {p} m s l h = go m (h .how)
-  where
-    go : (m : Maybe Tree) → SpotAs L p m s → getD L (p - 2) 0 / 256 ≡ count-in m
-    go nothing e = absurd (omega arith)
-    go (just (node k v f)) a = pop a .kids
-
-pub value-there : {L : List ℕ} {p : ℕ} (m : Maybe Tree) (s : List Tree) → 2 ≤ p → Spot L p m s → getD L (p - 1) 0 ≡ value-in m
-value-there {L} {p} m s l h = go m (h .how)
-  where
-    go : (m : Maybe Tree) → SpotAs L p m s → getD L (p - 1) 0 ≡ value-in m
-    go nothing e = absurd (omega arith)
-    go (just (node k v f)) a = pop a .value
+pub read : {L : List ℕ} {p : ℕ} (m : Maybe Tree) (s : List Tree) → 2 ≤ p → Spot L p m s → Read L p m
+read nothing s l h = absurd (omega (arith, h .how))
+read (just (node k v f)) s l h = let x = pop (h .how) in record { kind = x .kind; kids = x .kids; value = x .value }
 
 last-none : (m : Maybe Tree) → count-in m ≡ 0 → last-in m ≡ nothing
 unfolding count last-tree
@@ -124,18 +108,12 @@ back-last t (more u f) s = back-last u f (t ∷ s)
 -- the last child ends two words before its parent
 pub a-last : {L : List ℕ} {p : ℕ} (m : Maybe Tree) (s : List Tree) → (count-in m ≡ 0 → ⊥) → Spot L p m s → (u : List Tree) × Spot L (p - 2) (last-in m) u
 unfolding count
-a-last {L} {p} m s n h = go m n (h .how)
-  where
-    go : (m : Maybe Tree) → (count-in m ≡ 0 → ⊥) → SpotAs L p m s → (u : List Tree) × Spot L (p - 2) (last-in m) u
-    go nothing n e = absurd (n refl)
-    go (just (node k v none)) n a = absurd (n refl)
-    go (just (node k v (more t f))) n a =
-        let b = back-last t f s in
-        (b .0, rw (b .2) (record { how = subst (λ (x : List Tree). At L (p - 2) x) (b .3) (pop a .under) }))
+a-last nothing s n h = absurd (n refl)
+a-last (just (node k v none)) s n h = absurd (n refl)
+a-last {L} {p} (just (node k v (more t f))) s n h =
+    let b = back-last t f s in
+    (b .0, rw (b .2) (record { how = subst (λ (x : List Tree). At L (p - 2) x) (b .3) (pop (h .how) .under) }))
 
 pub two-before : {L : List ℕ} {p : ℕ} (m : Maybe Tree) (s : List Tree) → (count-in m ≡ 0 → ⊥) → Spot L p m s → 2 ≤ p
-two-before {L} {p} m s n h = go m n (h .how)
-  where
-    go : (m : Maybe Tree) → (count-in m ≡ 0 → ⊥) → SpotAs L p m s → 2 ≤ p
-    go nothing n e = absurd (n refl)
-    go (just t) n a = omega (arith, at-many a)
+two-before nothing s n h = absurd (n refl)
+two-before (just t) s n h = omega (arith, at-many (h .how))

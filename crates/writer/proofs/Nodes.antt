@@ -10,13 +10,15 @@ use borrow.Author.Tests.{le-leb, lt-leb}
 use Rattle.tree.specs.Tree.{Tree, Forest, node, none, more, count}
 use Rattle.tree.specs.Maybe.{just}
 use Rattle.tree.specs.Records.{back}
-use Rattle.writer.specs.Form.{place-of, base, deeper}
-use Rattle.writer.specs.Layout.{form-of, text, texts, within, withins}
-use Rattle.writer.specs.Same.Depth.{deeper-base}
+use Rattle.tables.specs.Form.{place-of, base, deeper}
+use Rattle.tables.specs.Layout.{form-of, text, texts, within, withins, emit, opened, closed}
+use Rattle.tables.specs.Same.Depth.{deeper-base}
 use Rattle.writer.specs.Post.{StepAs, Wrote-tree}
-use Rattle.writer.specs.Stack.{At, Says, kind-in, value-in, children-in}
-use Rattle.writer.specs.Text.{emit, opened, closed, Holds, Put, Opened}
-use Rattle.writer.specs.Tokens.{after-token}
+use Rattle.writer.specs.Stack.{At, Says}
+use Rattle.tables.specs.Children.{kind-in, value-in, children-in}
+use Rattle.writer.specs.Text.{Put, Opened}
+use Rattle.output.specs.Text.{Holds}
+use Rattle.tables.specs.Tokens.{after-token}
 use Rattle.writer.specs.declared.Step.{Step}
 use Rattle.writer.specs.declared.Step.the-variants.{Done, Deep}
 use Rattle.writer.proofs.Laws.{pop, back-append, length-back}

@@ -1,10 +1,11 @@
 -- From a place to the place of a child: what is said of the child is said of its parent. Assumes nothing.
-use mathlib.Core.Path.{_≡_, refl}
+use mathlib.Core.Path.{_≡_, refl, sym, ap, _∙_}
 use mathlib.Core.List.{List, _∷_}
 use Prim.Native.Nat.{ℕ}
 use Rattle.tree.specs.Tree.{Tree, node, count}
 use Rattle.tree.specs.Maybe.{Maybe, nothing, just}
-use Rattle.writer.specs.Stack.{At, SpotAs, Spot, Somewhere, Says, Last-of, Kid-of, count-in, children-in, last-in, kid-in}
+use Rattle.writer.specs.Stack.{At, SpotAs, Spot, Somewhere, Says, Last-of, Kid-of, kid-in}
+use Rattle.tables.specs.Children.{kind-in, count-in, children-in, last-in}
 use Rattle.writer.specs.Memory.{Known, Reach}
 
 -- a tree ends there
@@ -14,8 +15,8 @@ stands a = record { how = a }
 pub some-place : {L K S : List ℕ} {p : ℕ} → Known L K S p → Somewhere L p
 some-place y = record { tree = just (y .top); rest = y .rest; spot = stands (y .here) }
 
-pub known : {L K S : List ℕ} {p : ℕ} → Known L K S p → Reach L K S p
-known y = record { place = some-place y; memo = y .memo }
+pub reach-of : {L K S : List ℕ} {p : ℕ} → Known L K S p → Reach L K S p
+reach-of y = record { place = some-place y; memo = y .memo }
 
 -- the last child's place is one, and what is said there
 pub last-place : {L : List ℕ} {p q : ℕ} → Last-of L p q → Somewhere L p → Somewhere L q
@@ -38,6 +39,10 @@ reach-kid l y = record { place = kid-place l (y .place); memo = y .memo }
 
 pub of-kid : {A : Type 0} {L : List ℕ} {p j q : ℕ} {what : Maybe Tree → A} {r : A} → Kid-of L p j q → Says L q what r → Says L p (λ m. what (kid-in j m)) r
 of-kid {j = j} l e = record { how = λ m s h. e .how (kid-in j m) _ (l .how m s h) }
+
+-- by the kind that was found: what is said at this kind is said of the tree
+pub by-kind : {A : Type 0} {L : List ℕ} {p k n : ℕ} {r : A} (what : ℕ → Maybe Tree → A) → Says L p kind-in k → k ≡ n → Says L p (what n) r → Says L p (λ m. what (kind-in m) m) r
+by-kind what kind e x = record { how = λ m s h. x .how m s h ∙ ap (λ (z : ℕ). what z m) (sym e ∙ kind .how m s h) }
 
 -- the count of the children that there are
 pub count-kids : (m : Maybe Tree) → count-in m ≡ count (children-in m)

@@ -64,9 +64,6 @@ pub shaping-start : (L : List ℕ) → Shaping L 0 0
 unfolding stack-records Stack-small
 shaping-start L = record { stack = []; run = refl; many = refl; at = record { text = refl; inside = omega arith; small = tt } }
 
-pub shaping-bound : {L : List ℕ} {i h : ℕ} → Shaping L i h → i ≤ length L
-shaping-bound w = w .at .inside
-
 module _ {L : List ℕ} {i h : ℕ} (w : Shaping L i h) (two : i + 2 ≤ length L) where
   step : stacked L [] ≡ bindM (gather (getD L i 0 / 256) (getD L i 0 % 256) (getD L (i + 1) 0) none (w .stack)) (λ u. stacked (drop (i + 2) L) u)
   unfolding stacked

@@ -12,17 +12,18 @@ use Rattle.tree.specs.Tree.{Tree, Forest, node, none, more, kind-of, head-kind}
 use Rattle.tree.specs.Maybe.{Maybe, nothing, just}
 use Rattle.grammar.specs.Canonical.Write.{tail-of, target-atom, target-items, target-path, target-receiver, is-target, has-function}
 use Rattle.grammar.specs.Reading.Function.{target-name}
-use Rattle.writer.specs.Kinds.{target-item, name-is, gives-name}
+use Rattle.tables.specs.Kinds.{target-item, name-is, gives-name}
 use Rattle.writer.specs.declared.records.Fitting.{Fitting}
 use Rattle.writer.specs.declared.records.Fitting.the-variants.{From, Not}
-use Rattle.writer.specs.Stack.{Skipped, SpotAs, Spot, Says, Kid-of, kind-in, value-in, children-in, first-tree, nth-tree, kid-in, push, maybe}
+use Rattle.writer.specs.Stack.{Skipped, SpotAs, Spot, Says, Kid-of, nth-tree, kid-in, push, maybe}
+use Rattle.tables.specs.Children.{kind-in, value-in, children-in, first-tree}
 use Rattle.writer.specs.Memory.{Reach}
-use Rattle.writer.specs.Check.{name-given, function-form}
+use Rattle.tables.specs.Check.{name-given, function-form}
 use Rattle.writer.specs.Verdict.{Fit}
 use Rattle.writer.proofs.Memory.{spot-zero}
 use Rattle.writer.proofs.Places.{of-kid}
 use Rattle.writer.proofs.Kids.{from-first}
-use Rattle.writer.proofs.Fitted.{fit-done, fit-not}
+use Rattle.writer.proofs.Fitted.{fit-at}
 
 -- the items of a path, one by one
 abbrev pub item : ℕ → Tree → Bool
@@ -62,7 +63,7 @@ module _ {L : List ℕ} {p q : ℕ} (path : Kid-of L p 2 q) (some : q ≡ 0 → 
       go : (f : Forest) → SpotAs L q (nth-tree 1 f) (push 1 f s) → target-path (tail-of f) ≡ false
       go none z = absurd (some z)
       go (more x none) z = absurd (some z)
-      go (more x (more (node k v g) f)) a = fit-not w (node k v g) _ a e
+      go (more x (more (node k v g) f)) a = fit-at w (node k v g) _ a e
 
   -- the atom ends where the path begins
   pub good-path : {b : ℕ} → r ≡ From b → (m : Maybe Tree) (s : List Tree) → Spot L p m s → (target-path (tail-of (children-in m)) ≡ true) × Spot L b (kid-in 1 m) s
@@ -71,7 +72,7 @@ module _ {L : List ℕ} {p q : ℕ} (path : Kid-of L p 2 q) (some : q ≡ 0 → 
       go : (f : Forest) → SpotAs L q (nth-tree 1 f) (push 1 f s) → (target-path (tail-of f) ≡ true) × Spot L b (first-tree f) s
       go none z = absurd (some z)
       go (more x none) z = absurd (some z)
-      go (more x (more (node k v g) f)) a = let y = fit-done w (node k v g) _ a e in (y .0, record { how = y .1 })
+      go (more x (more (node k v g) f)) a = let y = fit-at w (node k v g) _ a e in (y .0, record { how = y .1 })
 
 pub receiver-is : (f : Forest) → target-receiver f ≡ target-atom (head-kind (children-in (first-tree f))) && target-path (tail-of (children-in (first-tree f)))
 receiver-is none = refl

@@ -1,25 +1,18 @@
--- The text at the output's end, a token before it, and the move to the front. Assumes nothing.
-use mathlib.Core.Path.{_≡_, refl, sym, ap, _∙_, subst}
-use mathlib.Core.List.{List, [], _∷_, _++_, append-assoc, append-nil}
+-- The text at the output's end, and tokens before it. Assumes nothing.
+use mathlib.Core.Path.{_≡_, refl, ap, _∙_}
+use mathlib.Core.List.{List, [], _∷_}
 use Prim.Native.Nat.{ℕ, zero, suc, _+_, _-_, _≤_, _<_}
-use native.Mathlib.Numerals.{add-one, add-two}
+use native.Mathlib.Numerals.{add-two}
 use native.Mathlib.Omega.{arith}
-use native.Mathlib.Decide.{decLt}
 use borrow.Author.Tests.{ne-eqb}
-use lib.ListN.{length, take, drop, getD, set, replicate, length-set, length-drop, length-append, length-replicate, getD-replicate, List·getD-append, List·getD-eq-default, drop-of-length-le}
-use lib.Seq.{drop-cons, take-suc, take-all, getD-set-same, getD-set-other, drop-set-lt, set-at, length-take-le, getD-drop, getD-append-add, drop-length}
-use Rattle.writer.specs.Operators.{NoToken}
-use Rattle.writer.specs.Text.{emit, opened, closed, HoldsAs, Holds, Put, Opened, Closed}
-use Rattle.writer.specs.Tokens.{first-token, second-token, third-token, behind-token, last-token, carried}
+use lib.ListN.{length, drop, getD, set, length-set, length-drop}
+use lib.Seq.{getD-set-same, getD-set-other, drop-set-lt, drop-length}
+use Rattle.tables.specs.Operators.{NoToken}
+use Rattle.output.specs.Text.{HoldsAs, Holds}
+use Rattle.writer.specs.Text.{Put, Opened, Closed}
+use Rattle.tables.specs.Layout.{emit, opened, closed}
+use Rattle.tables.specs.Tokens.{first-token, second-token, third-token, behind-token, last-token, carried}
 use Rattle.writer.proofs.Shaping.{drop-two}
-
-bound-as : (a : ℕ) (S X : List ℕ) → HoldsAs a S X → a ≤ length S + 2
-bound-as zero S X h = omega arith
-bound-as (suc zero) S X h = omega arith
-bound-as (suc (suc a)) S X h = omega (arith, h .0)
-
-pub holds-bound : {a : ℕ} {S X : List ℕ} → Holds a S X → a ≤ length S + 2
-holds-bound {a} {S} {X} h = bound-as a S X (h .how)
 
 pub holds-all : (S : List ℕ) → Holds (length S + 2) S []
 holds-all S = rw (add-two (length S)) (record { how = (omega arith, drop-length S) })
@@ -66,49 +59,6 @@ full-as (suc (suc (suc (suc b)))) c v S X l h =
 
 pub put-full : {a c v : ℕ} {S : List ℕ} → (c ≡ NoToken → ⊥) → 4 ≤ a → a ≤ length S + 2 → Put c v a (a - 2) S (set (set S (a - 4) c) (a - 3) v)
 put-full {a} {c} {v} {S} n l b = record { how = λ X h. rw (emitted c v X n) (full-as a c v S X l h); long = length-set (set S (a - 4) c) (a - 3) v ∙ length-set S (a - 4) c; room = omega arith }
-
--- ---------------------------------------------------------------- the move to the front
-unfoldable pub moved : List ℕ → ℕ → List ℕ
-moved O by = drop by O ++ replicate by 0
-
-pub length-moved : (O : List ℕ) (by : ℕ) → by ≤ length O → length (moved O by) ≡ length O
-unfolding moved
-length-moved O by h = omega (arith, length-append (drop by O) (replicate by 0), length-drop by O, length-replicate {A = ℕ} by 0)
-
-pub moved-at : (O : List ℕ) (by i : ℕ) → by ≤ length O → i < length O → getD (moved O by) i 0 ≡ getD O (i + by) 0
-unfolding moved
-moved-at O by i h l = go (decLt i (length O - by))
-  where
-    go : Dec (i < length O - by) → getD (drop by O ++ replicate by 0) i 0 ≡ getD O (i + by) 0
-    go (yes p) =
-        let n : length (drop by O) ≡ length O - by = length-drop by O in
-        let e : by + i ≡ i + by = omega arith in
-        List·getD-append (drop by O) (replicate by 0) 0 i (omega arith) ∙ getD-drop by O i 0 ∙ ap (λ (m : ℕ). getD O m 0) e
-    go (no p) =
-        let n : length (drop by O) ≡ length O - by = length-drop by O in
-        let g : length O - by ≤ i = omega arith in
-        let e : i ≡ length (drop by O) + (i - (length O - by)) = omega arith in
-        ap (λ (m : ℕ). getD (drop by O ++ replicate by 0) m 0) e ∙ getD-append-add (drop by O) (replicate by 0) (i - (length O - by)) 0 ∙ getD-replicate by (i - (length O - by)) 0 0 (omega arith) ∙ sym (List·getD-eq-default O 0 (omega arith))
-
-pub shift-step : (O Z : List ℕ) (i : ℕ) → length Z ≡ length O → i < length O → set (take i Z ++ drop i O) i (getD Z i 0) ≡ take (i + 1) Z ++ drop (i + 1) O
-shift-step O Z i m l =
-    let k : i < length Z = omega arith in
-    rw (add-one i) (ap (λ x. set (take i Z ++ x) i (getD Z i 0)) (drop-cons O i 0 l) ∙ set-at (take i Z) (getD O i 0) (drop (suc i) O) (getD Z i 0) i (length-take-le i Z (omega arith)) ∙ sym (append-assoc (take i Z) (getD Z i 0 ∷ []) (drop (suc i) O)) ∙ ap (λ x. x ++ drop (suc i) O) (sym (take-suc Z i 0 k)))
-
-pub shift-read : (O Z : List ℕ) (i by : ℕ) → length Z ≡ length O → i < length O → getD (take i Z ++ drop i O) (i + by) 0 ≡ getD O (i + by) 0
-shift-read O Z i by m l =
-    let n : length (take i Z) ≡ i = length-take-le i Z (omega arith) in
-    let a = getD-append-add (take i Z) (drop i O) by 0 in
-    subst (λ (j : ℕ). getD (take i Z ++ drop i O) (j + by) 0 ≡ getD (drop i O) by 0) n a ∙ getD-drop i O by 0
-
-pub shift-end : (O Z : List ℕ) (i : ℕ) → length Z ≡ length O → length O ≤ i → take i Z ++ drop i O ≡ Z
-shift-end O Z i m h = rw (drop-of-length-le O h) (append-nil (take i Z) ∙ take-all i Z (omega arith))
-
-pub shift-next : (O S : List ℕ) (by i r : ℕ) → by ≤ length O → i < length O → S ≡ take i (moved O by) ++ drop i O → r ≡ getD S (i + by) 0 → set S i r ≡ take (i + 1) (moved O by) ++ drop (i + 1) O
-shift-next O S by i r h l e g =
-    let m = length-moved O by h in
-    let x : r ≡ getD (moved O by) i 0 = g ∙ ap (λ z. getD z (i + by) 0) e ∙ shift-read O (moved O by) i by m l ∙ sym (moved-at O by i h l) in
-    ap (λ z. set z i r) e ∙ ap (λ (z : ℕ). set (take i (moved O by) ++ drop i O) i z) x ∙ shift-step O (moved O by) i m l
 
 -- ---------------------------------------------------------------- the tokens behind a node's children and before them
 pub closed-puts : {kind value form a b e last held behind : ℕ} {S S₁ S₂ : List ℕ} → last ≡ last-token kind → held ≡ carried kind value last → behind ≡ behind-token kind form

@@ -9,12 +9,13 @@ use lib.ListN.{length}
 use Rattle.tree.specs.Tree.{Tree, Forest, node, none, more}
 use Rattle.tree.specs.Maybe.{just}
 use Rattle.tree.specs.Records.{stack-records, back}
-use Rattle.writer.specs.Demand.{demand, fits}
-use Rattle.writer.specs.Kinds.{unlabelled, closed}
-use Rattle.writer.specs.Sound.{sound}
-use Rattle.writer.specs.Class as Class
-use Rattle.writer.specs.Stack.{At, kind-in, count-in, value-in, children-in, maybe}
-use Rattle.writer.specs.Check.{class-of, class-in, mode-of, begins-labelled, ends-single, banned, kids-fit, node-fits, all-fit, all-fits, legal-tree}
+use Rattle.tables.specs.Demand.{demand, fits}
+use Rattle.tables.specs.Kinds.{unlabelled, closed}
+use Rattle.tables.specs.Sound.{sound}
+use Rattle.tables.specs.Class as Class
+use Rattle.writer.specs.Stack.{At, maybe}
+use Rattle.tables.specs.Children.{kind-in, count-in, value-in, children-in}
+use Rattle.tables.specs.Check.{class-of, class-in, mode-of, begins-labelled, ends-single, banned, kids-fit, node-fits, all-fit, all-fits, legal-tree}
 use Rattle.writer.proofs.Laws.{pop, at-many, at-length}
 use Rattle.writer.proofs.Kids.{from-first}
 

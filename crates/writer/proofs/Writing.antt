@@ -9,10 +9,10 @@ use types.Run.{OneOf}
 use denote.Enum.Declared.{tagOf}
 use Rattle.tree.specs.Tree.{Tree, records}
 use Rattle.tree.specs.Records.{records-length, size-positive, stack-records}
-use Rattle.writer.specs.Layout.{within}
-use Rattle.writer.specs.Post.{Wrote-tree}
+use Rattle.tables.specs.Layout.{text, within}
+use Rattle.writer.specs.Post.{StepAs, Wrote-tree}
 use Rattle.writer.specs.Stack.{At}
-use Rattle.writer.specs.Text.{Holds}
+use Rattle.output.specs.Text.{Holds}
 use Rattle.writer.specs.declared.Step.{Step}
 use Rattle.writer.specs.declared.Step.the-variants.{Done, Deep}
 use Rattle.writer.proofs.Step.{the-type}
@@ -28,9 +28,10 @@ pub not-done : (r : Step) → OneOf (1 ∷ []) (tagOf the-type r) → r ≡ Deep
 not-done (Done p a) o = absurd (omega arith)
 not-done Deep o = refl
 
+-- by its answer: the tree's words stand there, or the depth was not enough
+pub wrote-at : {L : List ℕ} {d place p a : ℕ} {O O′ : List ℕ} {r x : Step} → Wrote-tree L d place p a O O′ r → r ≡ x → (t : Tree) (s : List Tree) (X : List ℕ) → At L p (t ∷ s) → Holds a O X → StepAs (within t place d) L s (text t place X) O′ x
+wrote-at w e t s X h g = rw e at (w .how t s X h g)
+
 -- the depth was not enough
 pub wrote-deep : {L : List ℕ} {d place p a : ℕ} {O O′ : List ℕ} {r : Step} → r ≡ Deep → ((t : Tree) (s : List Tree) (X : List ℕ) → At L p (t ∷ s) → Holds a O X → within t place d ≡ false) → Wrote-tree L d place p a O O′ r
 wrote-deep e f = record { how = λ t s X h g. rw e (f t s X h g) }
-
-pub stopped : {L : List ℕ} {d place p a : ℕ} {O O′ : List ℕ} {r : Step} → Wrote-tree L d place p a O O′ r → r ≡ Deep → (t : Tree) (s : List Tree) (X : List ℕ) → At L p (t ∷ s) → Holds a O X → within t place d ≡ false
-stopped w e t s X h g = rw e at (w .how t s X h g)

@@ -4,8 +4,9 @@ use mathlib.Core.List.{List, _∷_}
 use Prim.Native.Nat.{ℕ, _≤_, _<_}
 use lib.ListN.{length, getD}
 use Rattle.tree.specs.Tree.{Tree}
-use Rattle.writer.specs.Stack.{At, Skipped, Somewhere, Says, children-in}
-use Rattle.writer.specs.Check.{function-form}
+use Rattle.writer.specs.Stack.{At, Skipped, Somewhere, Says}
+use Rattle.tables.specs.Children.{children-in}
+use Rattle.tables.specs.Check.{function-form}
 
 -- how many places there are for where trees begin, and how many with those for how `fun` gives assignments
 abbrev pub tree-places : ℕ

@@ -98,8 +98,8 @@ module _ (words : List ℕ) (m : ℕ) where
   is : {w : Wrote} → Outcome words m w → Outcome words m (write-stmt words m)
   is o = subst (Outcome words m) (sym (sole o)) o
 
-  weigh : Given words → Outcome words m (write-stmt words m)
-  weigh g =
+  given-outcome : Given words → Outcome words m (write-stmt words m)
+  given-outcome g =
       let z = token-count (g .tree) in
       by-test (exceeds-depth (g .tree)) (λ x. is (deep g (too-deep-is (given-valid g) .0 x))) λ x.
       let n : Too-deep (g .tree) → ⊥ = λ y. true≢false (sym (too-deep-is (given-valid g) .1 y) ∙ x) in
@@ -115,7 +115,7 @@ module _ (words : List ℕ) (m : ℕ) where
 
       go : (d : Maybe Tree) → decode words ≡ d → Outcome words m (write-stmt words m)
       go nothing d = refused (rw d)
-      go (just t) d = by-test (readable t) (λ r. weigh (decoded-given d r)) λ r. refused (rw (d, r))
+      go (just t) d = by-test (readable t) (λ r. given-outcome (decoded-given d r)) λ r. refused (rw (d, r))
 
 -- ---------------------------------------------------------------- each number exactly in its case
 -- a statement that is too deep; one that is not, and has no room; one that is not, and has room

@@ -4,11 +4,12 @@ use mathlib.Core.Bool.{Bool, true, false}
 use mathlib.Core.List.{List, [], _∷_}
 use Prim.Native.Nat.{ℕ, zero, suc, _-_, _≤_}
 use lib.ListN.{length, take}
-use Rattle.tree.specs.Tree.{Tree, Forest, node, none, more, count}
+use Rattle.tree.specs.Tree.{Tree, Forest, none, more}
 use Rattle.tree.specs.Maybe.{Maybe, nothing, just}
 use Rattle.tree.specs.Decode.{decode}
 use Rattle.tree.specs.Records.{stack-records, Stack-small}
 use Rattle.grammar.specs.Canonical.Write.{tail-of}
+use Rattle.tables.specs.Children.{children-in, first-tree, last-in}
 
 -- the words before p are the records of a stack
 pub record At (L : List ℕ) (p : ℕ) (s : List Tree) : Type 0 where
@@ -47,24 +48,7 @@ pub record Somewhere (L : List ℕ) (p : ℕ) : Type 0 where
   pub rest : List Tree
   pub spot : Spot L p tree rest
 
--- the numbers of a tree's record, 0 where there is no tree
-abbrev pub kind-in : Maybe Tree → ℕ
-kind-in nothing = 0
-kind-in (just (node k v f)) = k
-
-abbrev pub count-in : Maybe Tree → ℕ
-count-in nothing = 0
-count-in (just (node k v f)) = count f
-
-abbrev pub value-in : Maybe Tree → ℕ
-value-in nothing = 0
-value-in (just (node k v f)) = v
-
-abbrev pub children-in : Maybe Tree → Forest
-children-in nothing = none
-children-in (just (node k v f)) = f
-
--- the same of a tree, and something else where there is none
+-- what is to be said of a tree, and something else where there is none
 abbrev pub maybe : {A : Type 0} → A → (Tree → A) → Maybe Tree → A
 maybe a g nothing = a
 maybe a g (just t) = g t
@@ -73,16 +57,7 @@ maybe a g (just t) = g t
 pub record Says {A : Type 0} (L : List ℕ) (p : ℕ) (what : Maybe Tree → A) (r : A) : Type 0 where
   pub how : (m : Maybe Tree) (s : List Tree) → Spot L p m s → r ≡ what m
 
--- the last of some trees, the first, and the one that has n before it, if there is one
-unfoldable pub last-tree : Forest → Maybe Tree
-last-tree none = nothing
-last-tree (more t none) = just t
-last-tree (more t (more u f)) = last-tree (more u f)
-
-abbrev pub first-tree : Forest → Maybe Tree
-first-tree none = nothing
-first-tree (more t f) = just t
-
+-- the tree that has n before it, if there is one
 abbrev pub nth-tree : ℕ → Forest → Maybe Tree
 nth-tree zero f = first-tree f
 nth-tree (suc n) f = nth-tree n (tail-of f)
@@ -93,10 +68,7 @@ push zero f s = s
 push (suc n) none s = s
 push (suc n) (more t f) s = push n f (t ∷ s)
 
--- the last child, and the child number j, from 1
-abbrev pub last-in : Maybe Tree → Maybe Tree
-last-in m = last-tree (children-in m)
-
+-- the child number j, from 1
 abbrev pub kid-in : ℕ → Maybe Tree → Maybe Tree
 kid-in j m = nth-tree (j - 1) (children-in m)
 

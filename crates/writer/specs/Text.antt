@@ -1,35 +1,10 @@
--- The text at the output's end, and a token before it. Definitions; they assume nothing.
+-- The text at the output's end, and tokens before it. Definitions; they assume nothing.
 use mathlib.Core.Path.{_≡_}
-use mathlib.Core.List.{List, _∷_}
-use Prim.Native.Nat.{ℕ, zero, suc, _+_, _≤_, _<_}
-use lib.Dec.{eqb}
-use lib.ListN.{length, drop}
-use Rattle.writer.specs.Choice.{if_then_else_}
-use Rattle.writer.specs.Operators.{NoToken}
-use Rattle.writer.specs.Tokens.{first-token, second-token, third-token, behind-token, last-token, carried}
-
--- one token, or none
-unfoldable pub emit : ℕ → ℕ → List ℕ → List ℕ
-emit c v r = if eqb c NoToken then r else c ∷ v ∷ r
-
--- the tokens before a node's children, and those behind them
-unfoldable pub opened : ℕ → ℕ → ℕ → List ℕ → List ℕ
-opened kind value form r =
-    emit (first-token kind value form) (carried kind value (first-token kind value form))
-    (emit (second-token kind value) (carried kind value (second-token kind value))
-    (emit (third-token kind) 0 r))
-
-unfoldable pub closed : ℕ → ℕ → ℕ → List ℕ → List ℕ
-closed kind value form r = emit (behind-token kind form) 0 (emit (last-token kind) (carried kind value (last-token kind)) r)
-
--- the output from word a - 2 on is X; or a is below 2, and X is longer than the output
-abbrev pub HoldsAs : ℕ → List ℕ → List ℕ → Type 0
-HoldsAs zero S X = length S < length X
-HoldsAs (suc zero) S X = length S < length X
-HoldsAs (suc (suc a)) S X = (a ≤ length S) × (drop a S ≡ X)
-
-pub record Holds (a : ℕ) (S X : List ℕ) : Type 0 where
-  pub how : HoldsAs a S X
+use mathlib.Core.List.{List}
+use Prim.Native.Nat.{ℕ, _+_, _≤_}
+use lib.ListN.{length}
+use Rattle.tables.specs.Layout.{emit, opened, closed}
+use Rattle.output.specs.Text.{Holds}
 
 -- whatever text stood at a, with a token before it it stands at b; the output is as long as before
 pub record Put (c v a b : ℕ) (S S′ : List ℕ) : Type 0 where

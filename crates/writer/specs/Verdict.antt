@@ -7,10 +7,10 @@ use lib.ListN.{length}
 use Rattle.tree.specs.Tree.{Tree}
 use Rattle.writer.specs.declared.records.Fitting.{Fitting}
 use Rattle.writer.specs.declared.records.Fitting.the-variants.{From, Not}
-use Rattle.writer.specs.Demand.{fits}
+use Rattle.tables.specs.Demand.{fits}
 use Rattle.writer.specs.Stack.{At}
 use Rattle.writer.specs.Memory.{Memo, Table}
-use Rattle.writer.specs.Check.{class-of, banned, legal-tree}
+use Rattle.tables.specs.Check.{class-of, banned, legal-tree}
 
 -- the tree at q can be a child of a node
 pub record Kid-fits (L : List ℕ) (kind value asked q : ℕ) (r : Bool) : Type 0 where

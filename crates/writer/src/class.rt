@@ -3,7 +3,7 @@
 // THE MODE of a node is what of its children is not said by its own record (mode.rt).
 //
 // THE CLASS of a node is what it can stand as. It follows from its kind, value and mode. Expressions come first, the tightest first: a place
-// takes those up to some class. A list's class is that of its members, the last one's, + 40.
+// takes those up to some class. A list's class is that of its members, the last one's, + LISTS.
 //
 // THE DEMAND of a place, of the child number j of a node, from 1, is which classes it takes. It follows from the node's kind, value, mode and j
 // (demand.rt).
@@ -11,84 +11,85 @@
 // The rest is tested apart: a record's own numbers (sound.rt), and what no class says: the token that a tree begins with, and whether it ends
 // in a tuple of one member (legal.rt).
 ghost use mathlib.Core.Path.{_≡_};
-ghost use Rattle.writer.specs.Class.{binary-class as binary-class-def, keyword-class as keyword-class-def, named-class as named-class-def, assignment-class as assignment-class-def, body-class as body-class-def, later-class as later-class-def, class as class-def, default-list as default-list-def, plain-list as plain-list-def, argument-list as argument-list-def, list-class as list-class-def};
+ghost use Rattle.tables.specs.Class.{binary-class as binary-class-def, keyword-class as keyword-class-def, named-class as named-class-def, assignment-class as assignment-class-def, body-class as body-class-def, later-class as later-class-def, class as class-def, default-list as default-list-def, plain-list as plain-list-def, argument-list as argument-list-def, list-class as list-class-def};
 use crate::choice::where_is;
 use crate::choice::where_zero;
+use crate::operators::LEVELS;
 use crate::operators::level;
 use tree::node;
 
 // `...` alone.
-const LONE: u64 = 1;
+pub const LONE: u64 = 1;
 
 // A primary with a path.
-const PRIMARY: u64 = 2;
+pub const PRIMARY: u64 = 2;
 
-const ATOM: u64 = 3;
+pub const ATOM: u64 = 3;
 
 // What else binds tighter than operators, `fun` with a target included.
-const TIGHT: u64 = 4;
+pub const TIGHT: u64 = 4;
 
-// A unary operator; a binary one is 5 + its level, up to 15.
-const UNARY: u64 = 5;
+// A unary operator; a binary one is that + its level.
+pub const UNARY: u64 = 5;
 
-const LAST_OPERATOR: u64 = 15;
+pub const LAST_OPERATOR: u64 = UNARY + LEVELS;
 
-const TUPLE: u64 = 16;
+pub const TUPLE: u64 = LAST_OPERATOR + 1;
 
 // An assignment without a keyword, and one with a keyword.
-const LOCAL: u64 = 17;
+pub const LOCAL: u64 = LAST_OPERATOR + 2;
 
-const KEYWORD: u64 = 18;
+pub const KEYWORD: u64 = LAST_OPERATOR + 3;
 
 // An assignment that `fun` gives only under a group's modifier.
-const GIVEN: u64 = 19;
+pub const GIVEN: u64 = LAST_OPERATOR + 4;
 
 // A primary without a path.
-const BARE: u64 = 20;
+pub const BARE: u64 = LAST_OPERATOR + 5;
 
 // A function with a name in its signature.
-const NAMED: u64 = 21;
+pub const NAMED: u64 = LAST_OPERATOR + 6;
 
-const ABSENT: u64 = 22;
+pub const ABSENT: u64 = LAST_OPERATOR + 7;
 
-const PATTERN: u64 = 23;
+pub const PATTERN: u64 = LAST_OPERATOR + 8;
 
-pub const STATEMENT: u64 = 24;
+pub const STATEMENT: u64 = LAST_OPERATOR + 9;
 
-const CONTROL: u64 = 25;
+pub const CONTROL: u64 = LAST_OPERATOR + 10;
 
 // An access item.
-const ITEM: u64 = 26;
+pub const ITEM: u64 = LAST_OPERATOR + 11;
 
-const FIELD: u64 = 27;
+pub const FIELD: u64 = LAST_OPERATOR + 12;
 
-const TABLE_ITEM: u64 = 28;
+pub const TABLE_ITEM: u64 = LAST_OPERATOR + 13;
 
-const PARAM: u64 = 29;
+pub const PARAM: u64 = LAST_OPERATOR + 14;
 
-const DEFAULT: u64 = 30;
+pub const DEFAULT: u64 = LAST_OPERATOR + 15;
 
-const SIGNATURE: u64 = 31;
+pub const SIGNATURE: u64 = LAST_OPERATOR + 16;
 
-const BRANCH: u64 = 32;
+pub const BRANCH: u64 = LAST_OPERATOR + 17;
 
 // An `ExprBlock`.
-const BLOCK: u64 = 33;
+pub const BLOCK: u64 = LAST_OPERATOR + 18;
 
 // A `StmtList` without control whose last statement is an expression; any other without control; one with control.
-const OPEN_BODY: u64 = 34;
+pub const OPEN_BODY: u64 = LAST_OPERATOR + 19;
 
-const PLAIN_BODY: u64 = 35;
+pub const PLAIN_BODY: u64 = LAST_OPERATOR + 20;
 
-const ENDED_BODY: u64 = 36;
+pub const ENDED_BODY: u64 = LAST_OPERATOR + 21;
 
-// A list of members of a class from 23 to 39, which is added.
+// A list of members of a class from PATTERN on, which is added.
 pub const LISTS: u64 = 40;
 
 // A list of nothing.
-const EMPTY: u64 = 50;
+pub const EMPTY: u64 = 50;
 
-// A list of operands, up to 15.
+// A list of operands.
 pub const OPERANDS: u64 = 51;
 
 // A list of one assignment that is no operand.

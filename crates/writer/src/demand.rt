@@ -1,121 +1,121 @@
 // Which classes a place takes. A demand is least + 100 × most + 10,000 × other: it takes the classes from least to most, and the class
 // «other» where that is not 0 (Absent, the empty list, or another that stands apart).
 ghost use mathlib.Core.Path.{_≡_};
-ghost use Rattle.writer.specs.Demand.{of-members as of-members-def, left-side as left-side-def, right-side as right-side-def, assigned as assigned-def, inside as inside-def, defaults as defaults-def, first-demand as first-demand-def, second-demand as second-demand-def, third-demand as third-demand-def, demand as demand-def, fits as fits-def};
+ghost use Rattle.tables.specs.Demand.{of-members as of-members-def, left-side as left-side-def, right-side as right-side-def, assigned as assigned-def, inside as inside-def, defaults as defaults-def, first-demand as first-demand-def, second-demand as second-demand-def, third-demand as third-demand-def, demand as demand-def, fits as fits-def};
 use crate::choice::where_zero;
-use crate::class::ARGUMENT;
-use crate::class::LISTS;
-use crate::class::NOTHING;
-use crate::class::OPERANDS;
+use crate::class;
 use crate::operators::level;
 use tree::node;
 
 // Any expression, or Absent; the same but for `...` alone, as in a statement.
-const EXPR: u64 = 1801;
+const EXPR: u64 = class::LONE + 100 * class::KEYWORD;
 
-const EXPR_OR_ABSENT: u64 = 221801;
+const EXPR_OR_ABSENT: u64 = EXPR + 10000 * class::ABSENT;
 
-const STATED: u64 = 1802;
+const STATED: u64 = class::PRIMARY + 100 * class::KEYWORD;
 
-const STATED_OR_ABSENT: u64 = 221802;
+const STATED_OR_ABSENT: u64 = STATED + 10000 * class::ABSENT;
 
 // A member of a tuple, an argument of several, a table's value.
-const OPERAND: u64 = 1501;
+const OPERAND: u64 = class::LONE + 100 * class::LAST_OPERATOR;
 
 // Under a unary operator.
-const UNARY: u64 = 501;
+const UNARY: u64 = class::LONE + 100 * class::UNARY;
+
+// What binds tighter than operators.
+const TIGHT: u64 = class::LONE + 100 * class::TIGHT;
 
 // An atom, alone or with a path, or Absent; an atom; a primary with or without a path.
-const PRIMARY_OR_ABSENT: u64 = 220302;
+const PRIMARY_OR_ABSENT: u64 = class::PRIMARY + 100 * class::ATOM + 10000 * class::ABSENT;
 
-const ATOM: u64 = 303;
+const ATOM: u64 = 101 * class::ATOM;
 
-const RECEIVER: u64 = 200202;
+const RECEIVER: u64 = 101 * class::PRIMARY + 10000 * class::BARE;
 
 // Inside a group without modifier; under a modifier what is no assignment, and what is one of its action.
-const GROUPED: u64 = 1701;
+const GROUPED: u64 = class::LONE + 100 * class::LOCAL;
 
-const UNASSIGNED: u64 = 1601;
+const UNASSIGNED: u64 = class::LONE + 100 * class::TUPLE;
 
-const GIVEN: u64 = 1901;
+const GIVEN: u64 = class::LONE + 100 * class::GIVEN;
 
 // Any expression, or a function with a name; a plain assignment, as the only argument.
-const EXPR_OR_NAMED: u64 = 211801;
+const EXPR_OR_NAMED: u64 = EXPR + 10000 * class::NAMED;
 
-const ASSIGNMENT: u64 = 1817;
+const ASSIGNMENT: u64 = class::LOCAL + 100 * class::KEYWORD;
 
-const PATTERN: u64 = 2323;
+const PATTERN: u64 = 101 * class::PATTERN;
 
-const PATTERN_OR_ABSENT: u64 = 222323;
+const PATTERN_OR_ABSENT: u64 = PATTERN + 10000 * class::ABSENT;
 
-const CONTROL_OR_ABSENT: u64 = 222525;
+const CONTROL_OR_ABSENT: u64 = 101 * class::CONTROL + 10000 * class::ABSENT;
 
-const FIELD: u64 = 2727;
+const FIELD: u64 = 101 * class::FIELD;
 
-const PARAM_OR_ABSENT: u64 = 222929;
+const PARAM_OR_ABSENT: u64 = 101 * class::PARAM + 10000 * class::ABSENT;
 
-const SIGNATURE: u64 = 3131;
+const SIGNATURE: u64 = 101 * class::SIGNATURE;
 
-const BLOCK: u64 = 3333;
+const BLOCK: u64 = 101 * class::BLOCK;
 
-const BLOCK_OR_ABSENT: u64 = 223333;
+const BLOCK_OR_ABSENT: u64 = BLOCK + 10000 * class::ABSENT;
 
 // A statement list: any; before a result, which wants no control; without a result, which wants no expression last.
-const BODY: u64 = 3634;
+const BODY: u64 = class::OPEN_BODY + 100 * class::ENDED_BODY;
 
-const BODY_BEFORE: u64 = 3534;
+const BODY_BEFORE: u64 = class::OPEN_BODY + 100 * class::PLAIN_BODY;
 
-const BODY_ALONE: u64 = 3635;
+const BODY_ALONE: u64 = class::PLAIN_BODY + 100 * class::ENDED_BODY;
 
 // Lists. Only those of members, branches and patterns may not be empty.
-const MEMBERS: u64 = 5151;
+const MEMBERS: u64 = 101 * class::OPERANDS;
 
-const ARGUMENTS: u64 = 505251;
+const ARGUMENTS: u64 = class::OPERANDS + 100 * class::ARGUMENT + 10000 * class::EMPTY;
 
-const STATEMENTS: u64 = 506464;
+const STATEMENTS: u64 = 101 * (class::LISTS + class::STATEMENT) + 10000 * class::EMPTY;
 
-const ITEMS: u64 = 506666;
+const ITEMS: u64 = 101 * (class::LISTS + class::ITEM) + 10000 * class::EMPTY;
 
-const TABLE_ITEMS: u64 = 506868;
+const TABLE_ITEMS: u64 = 101 * (class::LISTS + class::TABLE_ITEM) + 10000 * class::EMPTY;
 
-const PARAMS: u64 = 506969;
+const PARAMS: u64 = 101 * (class::LISTS + class::PARAM) + 10000 * class::EMPTY;
 
-const DEFAULTS: u64 = 507070;
+const DEFAULTS: u64 = 101 * (class::LISTS + class::DEFAULT) + 10000 * class::EMPTY;
 
-const BRANCHES: u64 = 7272;
+const BRANCHES: u64 = 101 * (class::LISTS + class::BRANCH);
 
-const PATTERNS: u64 = 6363;
+const PATTERNS: u64 = 101 * (class::LISTS + class::PATTERN);
 
 // What a list of a class demands of its members: their class.
 fn of_members(list: u64) -> u64
     ensures { λ r. ⌜ r ≡ of-members-def list ⌝ }
 {
-    if list == OPERANDS {
+    if list == class::OPERANDS {
         return OPERAND;
     }
-    if list == ARGUMENT {
+    if list == class::ARGUMENT {
         return ASSIGNMENT;
     }
-    if list <= ARGUMENT {
-        return NOTHING;
+    if list <= class::ARGUMENT {
+        return class::NOTHING;
     }
-    if NOTHING <= list {
-        return NOTHING;
+    if class::NOTHING <= list {
+        return class::NOTHING;
     }
-    101 * (list - LISTS)
+    101 * (list - class::LISTS)
 }
 
 // An operator's left side is of its own level or tighter, its right side tighter.
 fn left_side(value: u64) -> u64
     ensures { λ r. ⌜ r ≡ left-side-def value ⌝ }
 {
-    100 * level(value) + 501
+    100 * level(value) + UNARY
 }
 
 fn right_side(value: u64) -> u64
     ensures { λ r. ⌜ r ≡ right-side-def value ⌝ }
 {
-    100 * level(value) + 401
+    100 * level(value) + TIGHT
 }
 
 // An assignment's right side has a name where `fun` with the target can give it.
@@ -144,7 +144,7 @@ fn inside(value: u64, mode: u64) -> u64
     if mode == value {
         return GIVEN;
     }
-    NOTHING
+    class::NOTHING
 }
 
 // A default and a variadic parameter, mode 3, don't stand together.
@@ -152,7 +152,7 @@ fn defaults(mode: u64) -> u64
     ensures { λ r. ⌜ r ≡ defaults-def mode ⌝ }
 {
     if mode == 3 {
-        return NOTHING;
+        return class::NOTHING;
     }
     DEFAULTS
 }
@@ -194,7 +194,7 @@ fn first_demand(kind: u64, value: u64, mode: u64) -> u64
         node::TUPLE_PATTERN => PATTERNS,
         node::PACK => PATTERN_OR_ABSENT,
         node::MODIFIER => PATTERN,
-        _ => NOTHING,
+        _ => class::NOTHING,
     }
 }
 
@@ -215,7 +215,7 @@ fn second_demand(kind: u64, value: u64, mode: u64) -> u64
         node::CONDITIONAL_BRANCH => BLOCK,
         node::SIGNATURE_DEF => defaults(mode),
         node::INDEX_PATTERN => EXPR,
-        _ => NOTHING,
+        _ => class::NOTHING,
     }
 }
 
@@ -225,7 +225,7 @@ fn third_demand(kind: u64) -> u64
     match kind {
         node::FOR_LOOP => BODY,
         node::SIGNATURE_DEF => PARAM_OR_ABSENT,
-        _ => NOTHING,
+        _ => class::NOTHING,
     }
 }
 

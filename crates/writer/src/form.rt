@@ -8,7 +8,7 @@
 // THE FORM of a node is its place and what its children say of how it is written: for an assignment 9, where `fun` with the target gives it;
 // for IfExpr, ExprBlock and Pack the kind of the last child; for a signature its mode; for all others the place.
 ghost use mathlib.Core.Path.{_≡_};
-ghost use Rattle.writer.specs.Form.{fun-gives as fun-gives-def, first-place as first-place-def, second-place as second-place-def, place-of as place-of-def, base as base-def, first-deeper as first-deeper-def, second-deeper as second-deeper-def, deeper as deeper-def};
+ghost use Rattle.tables.specs.Form.{fun-gives as fun-gives-def, first-place as first-place-def, second-place as second-place-def, place-of as place-of-def, base as base-def, first-deeper as first-deeper-def, second-deeper as second-deeper-def, deeper as deeper-def};
 use crate::choice::where_is;
 use crate::choice::where_zero;
 use tree::node;

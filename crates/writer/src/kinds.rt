@@ -1,7 +1,7 @@
 // What the kinds of nodes say of targets, labels and closing parentheses.
 ghost use mathlib.Core.Path.{_≡_};
 ghost use Rattle.grammar.specs.Canonical.Write.{target-atom as target-atom-def};
-ghost use Rattle.writer.specs.Kinds.{target-item as target-item-def, name-is as name-is-def, gives-name as gives-name-def, passes as passes-def, unlabelled as unlabelled-def, closed as closed-def};
+ghost use Rattle.tables.specs.Kinds.{target-item as target-item-def, name-is as name-is-def, gives-name as gives-name-def, passes as passes-def, unlabelled as unlabelled-def, closed as closed-def};
 use tree::node;
 
 // An atom that is no group can begin a target.

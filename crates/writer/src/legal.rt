@@ -3,8 +3,8 @@
 ghost use mathlib.Core.Bool.{false, not, _&&_};
 ghost use Rattle.writer.specs.Stack.{Somewhere, Says, maybe};
 ghost use Rattle.writer.specs.Memory.{Known, Reach};
-ghost use Rattle.writer.specs.Kinds.{unlabelled as unlabelled-def, closed as closed-def};
-ghost use Rattle.writer.specs.Check.{begins-labelled as begins-labelled-def, ends-single as ends-single-def, node-fits};
+ghost use Rattle.tables.specs.Kinds.{unlabelled as unlabelled-def, closed as closed-def};
+ghost use Rattle.tables.specs.Check.{begins-labelled as begins-labelled-def, ends-single as ends-single-def, node-fits};
 ghost use Rattle.writer.specs.Verdict.{Kid-fits, Fit, Whole, Legal};
 use crate::class::STATEMENT;
 use crate::demand::demand;

@@ -1,7 +1,8 @@
 // The writer of canonical tokens: a statement's records in, its tokens' words out.
 ghost use lib.ListN.{length};
 ghost use Rattle.grammar.specs.Contract.{Writes};
-ghost use Rattle.writer.specs.Post.{Held, Wrote-tree, Fronted, Ran-out};
+ghost use Rattle.output.specs.Text.{Held};
+ghost use Rattle.writer.specs.Post.{Wrote-tree, Ran-out};
 ghost use Rattle.writer.specs.Memory.{Known};
 
 mod choice;
@@ -33,10 +34,10 @@ use crate::records::shape;
 use crate::text::closing;
 use crate::text::opening;
 use crate::text::put;
-use crate::text::shift;
 use crate::tokens::after_token;
 use grammar::Written;
 use grammar::limit;
+use output::written;
 use token::kind;
 use tree::clear;
 use tree::word::BINARY_OP;
@@ -120,21 +121,6 @@ fn write_node(
         j -= 1;
     }
     Step::Done(q, opening(output, a, kind, value, form))
-}
-
-// What was written up to the output's end, from the word b - 2 on, goes to its front.
-fn written(output: &mut [u64], b: usize) -> Written
-    requires { ⌜ Held b (now output) ⌝ }
-    ensures { λ r. ⌜ Fronted b (now (output .entry)) (now (output .exit)) r ⌝ }
-{
-    if b < 2 {
-        clear(output, 0);
-        return Written::Refused(limit::SHORT_OUTPUT);
-    }
-    let m = output.len();
-    let by = b - 2;
-    shift(output, by);
-    Written::Tokens((m - by) / 2)
 }
 
 // The tree whose records these are and its semicolon, at the output's front, and zeros behind them.

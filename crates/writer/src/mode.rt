@@ -1,9 +1,10 @@
 // What of a node's children its own record does not say, as one number: the mode. Most are read off records near the node's end; that of an
 // assignment may be remembered (noted.rt).
-ghost use Rattle.writer.specs.Stack.{Somewhere, Says, kind-in, value-in, children-in};
+ghost use Rattle.writer.specs.Stack.{Somewhere, Says};
+ghost use Rattle.tables.specs.Children.{kind-in, value-in, children-in};
 ghost use Rattle.writer.specs.Memory.{Reach};
-ghost use Rattle.writer.specs.Check.{body-mode as body-mode-def, signature-mode as signature-mode-def, group-mode as group-mode-def, inner-mode as inner-mode-def, inner-class as inner-class-def, mode-of, class-in};
-ghost use Rattle.writer.specs.Layout.{assignment-form as assignment-form-def, form-of};
+ghost use Rattle.tables.specs.Check.{body-mode as body-mode-def, signature-mode as signature-mode-def, group-mode as group-mode-def, inner-mode as inner-mode-def, inner-class as inner-class-def, mode-of, class-in};
+ghost use Rattle.tables.specs.Layout.{assignment-form as assignment-form-def, form-of};
 use crate::class::NOTHING;
 use crate::class::class;
 use crate::class::list_class;

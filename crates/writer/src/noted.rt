@@ -1,9 +1,10 @@
 // What is remembered of assignments of functions, so that the records of a target are gone over once, and not again for the assignment's
 // class and when it is written. The table has room for those that end last: a slot is used again when all were used. No answer depends on
 // of_function and slot_of: what they miss is sought again.
-ghost use Rattle.writer.specs.Stack.{Here, Somewhere, Says, children-in};
+ghost use Rattle.writer.specs.Stack.{Here, Somewhere, Says};
+ghost use Rattle.tables.specs.Children.{children-in};
 ghost use Rattle.writer.specs.Memory.{Reach, Table, Slot};
-ghost use Rattle.writer.specs.Check.{function-form as function-form-def};
+ghost use Rattle.tables.specs.Check.{function-form as function-form-def};
 use crate::records::ALL;
 use crate::records::Places;
 use crate::records::TREES;

@@ -1,6 +1,6 @@
 // The operators by the numbers that records hold: their levels and their tokens.
 ghost use mathlib.Core.Path.{_≡_};
-ghost use Rattle.writer.specs.Operators.{binary-of as binary-of-def, level as level-def};
+ghost use Rattle.tables.specs.Operators.{binary-of as binary-of-def, level as level-def};
 ghost use Rattle.operator.specs.Operator.{op-token as op-token-def, unary-token as unary-token-def, assign-token as assign-token-def};
 ghost use Rattle.grammar.specs.Canonical.Write.{keyword-of as keyword-of-def};
 use operator::BinaryOp;
@@ -9,6 +9,11 @@ use token::kind;
 
 // No token: one more than the lexer error's kind.
 pub const NO_TOKEN: u64 = 77;
+
+// How many levels there are, and the last operator's number: classes and demands are computed from them.
+pub const LEVELS: u64 = 10;
+
+pub const LAST_BINARY: u64 = 17;
 
 fn binary_of(number: u64) -> BinaryOp
     ensures { λ r. ⌜ r ≡ binary-of-def number ⌝ }
@@ -35,7 +40,7 @@ fn binary_of(number: u64) -> BinaryOp
     }
 }
 
-// From 1, the tightest, to 10.
+// From 1, the tightest, to LEVELS.
 pub fn level(number: u64) -> u64
     ensures { λ r. ⌜ r ≡ level-def number ⌝ }
 {

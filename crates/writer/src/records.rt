@@ -3,7 +3,8 @@
 // stands for a child that is not there: its kind, the count of its children and its value are 0. What is found out about trees is remembered,
 // since going back over records takes time.
 ghost use Prim.Native.Nat.{_≤_};
-ghost use Rattle.writer.specs.Stack.{Here, Somewhere, Shape, Skipped, Says, Last-of, Kid-of, kind-in, count-in, value-in};
+ghost use Rattle.writer.specs.Stack.{Here, Somewhere, Shape, Skipped, Says, Last-of, Kid-of};
+ghost use Rattle.tables.specs.Children.{kind-in, count-in, value-in};
 ghost use Rattle.writer.specs.Memory.{Known, Reach};
 use tree::word::CHILD;
 

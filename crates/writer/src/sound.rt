@@ -1,6 +1,7 @@
 // Whether a record's own numbers are in the range of its kind.
 ghost use mathlib.Core.Path.{_≡_};
-ghost use Rattle.writer.specs.Sound.{top as top-def, exceeds as exceeds-def, arity as arity-def, sound as sound-def};
+ghost use Rattle.tables.specs.Sound.{top as top-def, exceeds as exceeds-def, arity as arity-def, sound as sound-def};
+use crate::operators::LAST_BINARY;
 use tree::node;
 
 // Names are numbered up to this.
@@ -23,7 +24,7 @@ fn top(kind: u64) -> u64
         node::CONTINUE => LABEL,
         node::BREAK => LABEL,
         node::UNARY_OP => 3,
-        node::BINARY_OP => 17,
+        node::BINARY_OP => LAST_BINARY,
         node::ASSIGNMENT => 43,
         node::BLOCK => LABEL,
         node::PARAM_DEF => NAMED,

@@ -1,8 +1,6 @@
-// The text, right-aligned in the output: a token before it, the tokens around a node's children, and its move to the front.
-ghost use mathlib.Core.Path.{_≡_};
-ghost use mathlib.Core.List.{_++_};
+// The text, right-aligned in the output: a token before it, and the tokens around a node's children.
 ghost use Prim.Native.Nat.{_+_, _≤_};
-ghost use lib.ListN.{length, drop, replicate, getD};
+ghost use lib.ListN.{length};
 ghost use Rattle.writer.specs.Text.{Put, Opened, Closed};
 use crate::operators::NO_TOKEN;
 use crate::tokens::behind_token;
@@ -48,26 +46,4 @@ pub fn opening(output: &mut [u64], a: usize, kind: u64, value: u64, form: u64) -
     let c = put(output, b, second, carried(kind, value, second));
     let first = first_token(kind, value, form);
     put(output, c, first, carried(kind, value, first))
-}
-
-// A word of a slice, 0 past its end.
-fn word_at(s: &[u64], i: usize) -> u64
-    ensures { λ r. ⌜ r ≡ getD (now (s .entry)) i 0 ⌝ }
-{
-    if i < s.len() {
-        return s[i];
-    }
-    0
-}
-
-// The output moved to its front by some words, zero behind.
-pub fn shift(output: &mut [u64], by: usize)
-    requires { ⌜ by ≤ length (now output) ⌝ }
-    ensures { λ _. ⌜ now (output .exit) ≡ drop by (now (output .entry)) ++ replicate by 0 ⌝ }
-{
-    let mut i = 0;
-    while i < output.len() {
-        output[i] = word_at(output, i + by);
-        i += 1;
-    }
 }

@@ -1,6 +1,6 @@
 // The tokens of a node: before its children, behind each and behind all. A token is named by its kind, and 77 is none.
 ghost use mathlib.Core.Path.{_≡_};
-ghost use Rattle.writer.specs.Tokens.{label-token as label-token-def, access-token as access-token-def, modifier-token as modifier-token-def, assignment-token as assignment-token-def, later-first-token as later-first-token-def, first-token as first-token-def, second-token as second-token-def, third-token as third-token-def, between as between-def, assigns as assigns-def, first-after as first-after-def, after-token as after-token-def, behind-token as behind-token-def, last-token as last-token-def, name-in as name-in-def, label-in as label-in-def, carried as carried-def};
+ghost use Rattle.tables.specs.Tokens.{label-token as label-token-def, access-token as access-token-def, modifier-token as modifier-token-def, assignment-token as assignment-token-def, later-first-token as later-first-token-def, first-token as first-token-def, second-token as second-token-def, third-token as third-token-def, between as between-def, assigns as assigns-def, first-after as first-after-def, after-token as after-token-def, behind-token as behind-token-def, last-token as last-token-def, name-in as name-in-def, label-in as label-in-def, carried as carried-def};
 use crate::choice::where_is;
 use crate::choice::where_zero;
 use crate::form::BRANCHES;

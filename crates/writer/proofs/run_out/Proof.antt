@@ -1,12 +1,31 @@
 -- `writer::run_out` meets its contract. Assumes nothing.
-use mathlib.Core.List.{[]}
+use mathlib.Core.Path.{_≡_}
+use mathlib.Core.List.{[], _∷_}
 use native.Mathlib.Omega.{arith}
 use lib.ListN.{length}
 use borrow.Author.Needs.{needs}
-use Rattle.writer.proofs.Writing.{not-done, stopped}
-use Rattle.writer.proofs.Ending.{cleared, semicolon, run-deep, run-done}
+use Rattle.token.specs.Kind
+use Rattle.output.specs.Text.{Holds}
+use Rattle.writer.proofs.Writing.{not-done, wrote-at}
+use Rattle.writer.proofs.Ending.{semicolon, run-deep, run-done}
+use Rattle.tables.specs.Answer.{cleared}
 use Rattle.writer.proofs.run_out.Statement.{statement}
 use Rattle.writer.proofs.run_out.Tie as tie
+use Rattle.writer.proofs.Known.{known}
+
+-- the text begins with the semicolon
+module _ (c : tie.After-write-tree) where
+  abbrev start : tie.Start
+  start = search
+
+  abbrev first-put : tie.After-put
+  first-put = search
+
+  ends : Holds (first-put .put .result) (first-put .put .last .0) (Kind.Semicolon ∷ 0 ∷ [])
+  ends = semicolon (first-put .put .ensures)
+
+  kept : length (c .write-tree .last .1 .1 .1 .0) ≡ length (start .args .output .now)
+  kept = let k = c .write-tree .kept .1 .1 .1 .0 in let l = first-put .put .kept .0 in omega arith
 
 add-put : tie.Need-add-put
 add-put c = search needs
@@ -15,18 +34,15 @@ put-requires : tie.Need-put-requires
 put-requires c κs = search needs
 
 write-tree-requires : tie.Need-write-tree-requires
-write-tree-requires c κs = let y = c .before .before .before .before .before .before .before .pre in
-    let h = semicolon (c .before .before .before .put .ensures) in
-    (y, record { words = _; holds = h })
+write-tree-requires c κs = (known tie.Start (search) .pre, record { words = _; holds = semicolon (known tie.After-put (search) .put .ensures) })
 
 enum-known-r : tie.Need-enum-known-r
 enum-known-r c = search needs
 
 written-requires : tie.Need-written-requires
-written-requires c κs = let y = c .before .before .before .before .before .before .before .before .before .before .before .before .before .before .pre in
-    let h = semicolon (c .before .before .before .before .before .before .before .before .before .before .put .ensures) in
-    let d = rw (c .before .before .r .given .1) at (c .before .before .before .before .before .before .write-tree .ensures .how (y .top) (y .rest) _ (y .here) h) in
-    record { words = _; holds = d .2 }
+written-requires c κs = let w = known tie.After-write-tree (search) in
+    let y = start w .pre in
+    record { words = _; holds = wrote-at (w .write-tree .ensures) (known tie.After-r (search) .r .given .1) (y .top) (y .rest) _ (y .here) (ends w) .2 }
 
 enum-told : tie.Need-enum-told
 enum-told c = search needs
@@ -38,23 +54,19 @@ same-length : tie.Need-same-length
 same-length c = search needs
 
 returns : tie.Need-returns
-returns c = let h = semicolon (c .before .before .before .before .before .before .before .before .before .before .before .before .before .put .ensures) in
-    let k = c .before .before .before .before .before .before .before .before .before .write-tree .kept .1 .1 .1 .0 in
-    let l = c .before .before .before .before .before .before .before .before .before .before .before .before .before .put .kept .0 in
+returns c = let w : tie.After-write-tree = search (known tie.After-r (search)) in
     record {
       how = λ t a.
-          let d = rw (c .before .before .before .before .before .r .given .1) at (c .before .before .before .before .before .before .before .before .before .write-tree .ensures .how t [] _ a h) in
-          run-done t _ (d .0) (c .before .before .written .ensures) (d .2) (omega arith);
+          let d = wrote-at (w .write-tree .ensures) (known tie.After-r (search) .r .given .1) t [] _ a (ends w) in
+          run-done t _ (d .0) (known tie.After-written (search) .written .ensures) (d .2) (kept w);
     }
 
 same-length-2 : tie.Need-same-length-2
 same-length-2 c = search needs
 
 returns-2 : tie.Need-returns-2
-returns-2 c = let h = semicolon (c .before .before .before .before .before .before .before .before .before .before .before .before .put .ensures) in
-    let k = c .before .before .before .before .before .before .before .before .write-tree .kept .1 .1 .1 .0 in
-    let l = c .before .before .before .before .before .before .before .before .before .before .before .before .put .kept .0 in
-    record { how = λ t a. cleared (c .before .before .before .before .before .before .before .before .write-tree .last .1 .1 .1 .0) _ (length (c .before .before .before .before .before .before .before .before .before .before .before .before .before .before .before .before .args .output .now)) (c .before .before .clear .ensures) (omega arith) (run-deep t _ (stopped (c .before .before .before .before .before .before .before .before .write-tree .ensures) (not-done _ (c .before .before .before .before .before .match .keys2)) t [] _ a h)) }
+returns-2 c = let w : tie.After-write-tree = search in
+    record { how = λ t a. cleared (w .write-tree .last .1 .1 .1 .0) _ (length (start w .args .output .now)) (known tie.After-clear (search) .clear .ensures) (kept w) (run-deep t _ (wrote-at (w .write-tree .ensures) (not-done _ (known tie.At-match-keys2 (search) .match .keys2)) t [] _ a (ends w))) }
 
 pub run-out-spec : {M : Type 1} → statement M
 run-out-spec =

@@ -1,13 +1,32 @@
 -- `writer::write_stmt` meets its contract. Assumes nothing.
-use mathlib.Core.Path.{refl, sym, _∙_}
-use mathlib.Core.List.{[]}
+use mathlib.Core.Path.{_≡_, refl, sym, _∙_}
+use mathlib.Core.List.{[], _∷_}
+use lib.ListN.{length}
 use borrow.Author.Needs.{needs}
 use borrow.Author.Tests.{not-true, not-false}
+use Rattle.tree.specs.Tree.{Tree}
+use Rattle.tree.specs.Maybe.{just}
+use Rattle.tree.specs.Decode.{decode}
+use Rattle.writer.specs.Stack.{At}
 use Rattle.writer.proofs.Memory.{table-start}
-use Rattle.writer.proofs.Ending.{cleared}
-use Rattle.writer.proofs.Entry.{no-shape, a-shape, no-tree, illegal, legal}
+use Rattle.tables.specs.Answer.{cleared}
+use Rattle.writer.proofs.Entry.{shape-at, no-tree, illegal, legal}
 use Rattle.writer.proofs.write_stmt.Statement.{statement}
 use Rattle.writer.proofs.write_stmt.Tie as tie
+use Rattle.writer.proofs.Known.{known}
+
+-- the words are those of one tree
+module _ (c : tie.Else1) where
+  abbrev start : tie.Start
+  start = search
+
+  one-tree : (t : Tree) × (decode (start .args .records .now) ≡ just t) × At (start .args .records .now) (length (start .args .records .now)) (t ∷ [])
+  one-tree = shape-at (known tie.After-shape (search) .shape .ensures) (not-false _ (c .if1 .left))
+
+-- it was asked whether the tree is legal
+module _ (c : tie.After-legal) where
+  abbrev told : tie.Else1
+  told = search
 
 shape-requires : tie.Need-shape-requires
 shape-requires c κs = search needs
@@ -19,10 +38,10 @@ same-length : tie.Need-same-length
 same-length c = search needs
 
 returns : tie.Need-returns
-returns c = cleared (c .before .before .before .before .before .before .before .before .args .output .now) _ _ (c .before .before .clear .ensures) refl (no-tree _ _ (no-shape (c .before .before .before .before .before .shape .ensures) (not-true _ (c .before .before .before .before .if1 .taken))))
+returns c = cleared (known tie.Start (search) .args .output .now) _ _ (known tie.After-clear (search) .clear .ensures) refl (no-tree _ _ (shape-at (known tie.After-shape (search) .shape .ensures) (not-true _ (known tie.Then1 (search) .if1 .taken))))
 
 legal-requires : tie.Need-legal-requires
-legal-requires c κs = let z = a-shape (c .before .before .before .shape .ensures) (not-false _ (c .before .before .if1 .left)) in
+legal-requires c κs = let z = one-tree (search) in
     record { top = z .0; here = z .2; table = table-start _ }
 
 clear-requires-2 : tie.Need-clear-requires-2
@@ -32,19 +51,22 @@ same-length-2 : tie.Need-same-length-2
 same-length-2 c = search needs
 
 returns-2 : tie.Need-returns-2
-returns-2 c = let z = a-shape (c .before .before .before .before .before .before .before .before .before .shape .ensures) (not-false _ (c .before .before .before .before .before .before .before .before .if1 .left)) in
-    cleared (c .before .before .before .before .before .before .before .before .before .before .before .before .args .output .now) _ _ (c .before .before .clear2 .ensures) refl (illegal (z .1) (z .2) _ (sym (c .before .before .before .before .before .legal .ensures .how (z .0) (z .2)) ∙ not-true _ (c .before .before .before .before .if2 .taken)))
+returns-2 c = let l = known tie.After-legal (search) in
+    let z = one-tree (told l) in
+    cleared (start (told l) .args .output .now) _ _ (known tie.After-clear2 (search) .clear2 .ensures) refl (illegal (z .1) (z .2) _ (sym (l .legal .ensures .how (z .0) (z .2)) ∙ not-true _ (known tie.Then2 (search) .if2 .taken)))
 
 run-out-requires : tie.Need-run-out-requires
-run-out-requires c κs = let z = a-shape (c .before .before .before .before .before .before .before .before .shape .ensures) (not-false _ (c .before .before .before .before .before .before .before .if1 .left)) in
-    record { top = z .0; rest = []; here = z .2; memo = c .before .before .before .before .legal .ensures .memo }
+run-out-requires c κs = let l = known tie.After-legal (search) in
+    let z = one-tree (told l) in
+    record { top = z .0; rest = []; here = z .2; memo = l .legal .ensures .memo }
 
 same-length-3 : tie.Need-same-length-3
 same-length-3 c = search needs
 
 returns-3 : tie.Need-returns-3
-returns-3 c = let z = a-shape (c .before .before .before .before .before .before .before .before .before .before .before .shape .ensures) (not-false _ (c .before .before .before .before .before .before .before .before .before .before .if1 .left)) in
-    c .before .before .run-out .ensures .how (z .0) (z .2) ∙ sym (legal (z .1) (z .2) _ (sym (c .before .before .before .before .before .before .before .legal .ensures .how (z .0) (z .2)) ∙ not-false _ (c .before .before .before .before .before .before .if2 .left)))
+returns-3 c = let l = known tie.After-legal (search) in
+    let z = one-tree (told l) in
+    known tie.After-run-out (search) .run-out .ensures .how (z .0) (z .2) ∙ sym (legal (z .1) (z .2) _ (sym (l .legal .ensures .how (z .0) (z .2)) ∙ not-false _ (known tie.Else2 (search) .if2 .left)))
 
 pub write-stmt-spec : {M : Type 1} → statement M
 write-stmt-spec =

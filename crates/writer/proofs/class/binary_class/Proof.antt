@@ -1,8 +1,8 @@
 -- `writer::class::binary_class` meets its contract: each arm is the definition there. Assumes nothing.
 use native.Mathlib.Omega.{arith}
 use borrow.Author.Needs.{needs}
-use Rattle.writer.specs.Class.{binary-class}
-use Rattle.writer.proofs.Numbers.{level-most}
+use Rattle.tables.specs.Class.{binary-class}
+use Rattle.tables.specs.Operators.{level-range}
 use Rattle.writer.proofs.class.binary_class.Statement.{statement}
 use Rattle.writer.proofs.class.binary_class.Tie as tie
 
@@ -10,7 +10,7 @@ level-requires : tie.Need-level-requires
 level-requires c κs = search needs
 
 add-result : tie.Need-add-result
-add-result c = omega (arith, level-most (c .before .args .value))
+add-result c = omega (arith, level-range (c .before .args .value))
 
 returns : tie.Need-returns
 unfolding binary-class

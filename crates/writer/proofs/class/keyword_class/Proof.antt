@@ -1,6 +1,6 @@
 -- `writer::class::keyword_class` meets its contract: each arm is the definition there. Assumes nothing.
 use borrow.Author.Needs.{needs}
-use Rattle.writer.specs.Class.{keyword-class}
+use Rattle.tables.specs.Class.{keyword-class}
 use Rattle.writer.proofs.class.keyword_class.Statement.{statement}
 use Rattle.writer.proofs.class.keyword_class.Tie as tie
 

@@ -1,24 +1,16 @@
 -- `writer::class::named_class` meets its contract: each arm is the definition there. Assumes nothing.
 use borrow.Author.Needs.{needs}
-use borrow.Author.Tests.{eq-eqb, le-ltb, lt-ltb, ne-eqb}
-use Rattle.writer.specs.Class.{named-class}
+use Rattle.tables.specs.Class.{named-class}
+use Rattle.writer.proofs.Numbers.{tests}
 use Rattle.writer.proofs.class.named_class.Statement.{statement}
 use Rattle.writer.proofs.class.named_class.Tie as tie
 
-returns : tie.Need-returns
-unfolding named-class
-returns c = rw (eq-eqb _ _ (c .if1 .taken))
-
-returns-2 : tie.Need-returns-2
-unfolding named-class
-returns-2 c = simp (ne-eqb _ _ (c .before .if1 .left), lt-ltb _ _ (c .if2 .taken))
-
-keyword-class-requires : tie.Need-keyword-class-requires
-keyword-class-requires c κs = search needs
-
-returns-3 : tie.Need-returns-3
-unfolding named-class
-returns-3 c = simp (c .keyword-class .ensures, ne-eqb _ _ (c .before .before .if1 .left), le-ltb _ _ (c .before .if2 .left))
-
 pub named-class-spec : {M : Type 1} → statement M
-named-class-spec = tie.close (tie.spec returns returns-2 keyword-class-requires returns-3)
+unfolding named-class
+named-class-spec =
+    tie.close
+    (tie.spec
+    (λ c. search tests)
+    (λ c. search tests)
+    (λ c κs. search needs)
+    (λ c. search (c .keyword-class .ensures, tests)))

@@ -1,52 +1,20 @@
 -- `writer::form::second_deeper` meets its contract: each arm is the definition there. Assumes nothing.
 use borrow.Author.Needs.{needs}
-use borrow.Author.Tests.{ne-eqb}
-use Rattle.writer.specs.Form.{second-deeper}
+use Rattle.tables.specs.Form.{second-deeper}
+use Rattle.writer.proofs.Numbers.{tests}
 use Rattle.writer.proofs.form.second_deeper.Statement.{statement}
 use Rattle.writer.proofs.form.second_deeper.Tie as tie
 
-where-is-requires : tie.Need-where-is-requires
-where-is-requires c κs = search needs
-
-returns : tie.Need-returns
-unfolding second-deeper
-returns c = rw (c .match .keys1)
-
-returns-2 : tie.Need-returns-2
-unfolding second-deeper
-returns-2 c = simp (c .where-is .ensures, c .before .match .keys2)
-
-returns-3 : tie.Need-returns-3
-unfolding second-deeper
-returns-3 c = rw (c .match .keys3)
-
-returns-4 : tie.Need-returns-4
-unfolding second-deeper
-returns-4 c = rw (c .match .keys4)
-
-returns-5 : tie.Need-returns-5
-unfolding second-deeper
-returns-5 c = rw (c .match .keys5)
-
-returns-6 : tie.Need-returns-6
-unfolding second-deeper
-returns-6 c = rw (c .match .keys6)
-
-returns-7 : tie.Need-returns-7
-unfolding second-deeper
-returns-7 c =
-    let r = c .match .rest in
-    simp (ne-eqb _ _ (r .1), ne-eqb _ _ (r .0 .1), ne-eqb _ _ (r .0 .0 .1), ne-eqb _ _ (r .0 .0 .0 .1), ne-eqb _ _ (r .0 .0 .0 .0 .1), ne-eqb _ _ (r .0 .0 .0 .0 .0 .1))
-
 pub second-deeper-spec : {M : Type 1} → statement M
+unfolding second-deeper
 second-deeper-spec =
     tie.close
     (tie.spec
-    where-is-requires
-    returns
-    returns-2
-    returns-3
-    returns-4
-    returns-5
-    returns-6
-    returns-7)
+    (λ c κs. search needs)
+    (λ c. rw (c .match .keys1))
+    (λ c. simp (c .where-is .ensures, c .before .match .keys2))
+    (λ c. rw (c .match .keys3))
+    (λ c. rw (c .match .keys4))
+    (λ c. rw (c .match .keys5))
+    (λ c. rw (c .match .keys6))
+    (λ c. search tests))

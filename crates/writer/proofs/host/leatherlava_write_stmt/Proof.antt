@@ -7,6 +7,7 @@ use Rattle.grammar.specs.declared.Flat.{Flat}
 use Rattle.grammar.specs.Flat.{FlatWrote, flat-wrote}
 use Rattle.writer.proofs.host.leatherlava_write_stmt.Statement.{statement}
 use Rattle.writer.proofs.host.leatherlava_write_stmt.Tie as tie
+use Rattle.writer.proofs.Known.{known}
 
 abbrev left-with : List ℕ → Flat → FlatWrote
 left-with m x = record { answer = x; output = m }
@@ -21,7 +22,7 @@ same-length : tie.Need-same-length
 same-length c = search needs
 
 returns : tie.Need-returns
-returns c = ap (left-with _) (c .flatten .ensures) ∙ ap flat-wrote (c .before .before .before .write-stmt .ensures)
+returns c = ap (left-with _) (c .flatten .ensures) ∙ ap flat-wrote (known tie.After-write-stmt (search) .write-stmt .ensures)
 
 pub leatherlava-write-stmt-spec : {M : Type 1} → statement M
 leatherlava-write-stmt-spec =

@@ -1,14 +1,22 @@
 -- `writer::legal::begins_labelled` meets its contract. Assumes nothing.
-use mathlib.Core.Path.{sym, _∙_}
-use mathlib.Core.Bool.{false}
+use mathlib.Core.Path.{_≡_, sym, _∙_}
+use mathlib.Core.Bool.{Bool, true, false, _&&_}
+use mathlib.Core.List.{List}
 use native.Mathlib.Omega.{arith}
+use lib.Dec.{eqb, ltb}
 use borrow.Author.Needs.{needs}
 use borrow.Author.Tests.{eq-eqb, ne-eqb}
-use Rattle.writer.specs.Stack.{maybe}
-use Rattle.writer.specs.Check.{begins-labelled}
+use Rattle.tree.specs.NodeKind
+use Rattle.tree.specs.Tree.{Tree}
+use Rattle.tree.specs.Maybe.{Maybe}
+use Rattle.tables.specs.Kinds.{passes}
+use Rattle.tables.specs.Children.{kind-in, value-in}
+use Rattle.writer.specs.Stack.{Spot, Somewhere, Says, maybe}
+use Rattle.tables.specs.Check.{begins-labelled}
 use Rattle.writer.proofs.Chains.{Down, down-start, down-place, down-kid, down-end, some-words, passes-some, labelled-down, labelled-here}
 use Rattle.writer.proofs.legal.begins_labelled.Statement.{statement}
 use Rattle.writer.proofs.legal.begins_labelled.Tie as tie
+use Rattle.writer.proofs.Known.{known}
 
 abbrev Inv-loop : tie.InvT-loop
 Inv-loop records keys facts p q₀ q = Down records p q (maybe false begins-labelled)
@@ -16,58 +24,86 @@ Inv-loop records keys facts p q₀ q = Down records p q (maybe false begins-labe
 abbrev μ-loop : tie.MeasureT-loop
 μ-loop records keys facts p q₀ q = q
 
+abbrev Start : Type 0
+Start = tie.Start Inv-loop μ-loop
+
+abbrev At-loop : Type 0
+At-loop = tie.At-loop Inv-loop μ-loop
+
+abbrev After-kind-at : Type 0
+After-kind-at = tie.After-kind-at Inv-loop μ-loop
+
+abbrev After-passes : Type 0
+After-passes = tie.After-passes Inv-loop μ-loop
+
+abbrev Then1 : Type 0
+Then1 = tie.Then1 Inv-loop μ-loop
+
+abbrev After-kind-at2 : Type 0
+After-kind-at2 = tie.After-kind-at2 Inv-loop μ-loop
+
+abbrev Else1 : Type 0
+Else1 = tie.Else1 Inv-loop μ-loop
+
+abbrev Then2 : Type 0
+Then2 = tie.Then2 Inv-loop μ-loop
+
+-- the tree at which the loop stands
+module _ (c : At-loop) where
+  abbrev start : Start
+  start = search
+
+  standing : Somewhere (start .args .records .now) (c .loop .q)
+  standing = down-place (c .loop .inv) (start .pre .place)
+
+-- it begins with its first child
+module _ (c : Then1) where
+  first-begins : passes (known After-kind-at (search) .kind-at .result) ≡ true
+  first-begins = sym (known After-passes (search) .passes .ensures) ∙ c .if1 .taken
+
+-- it begins by itself
+module _ (c : Else1) where
+  abbrev loop : At-loop
+  loop = search
+
+  by-itself : {b : Bool} → ((m : Maybe Tree) (s : List Tree) → Spot (start loop .args .records .now) (loop .loop .q) m s → b ≡ eqb (kind-in m) NodeKind.Block && ltb 0 (value-in m)) → Says (start loop .args .records .now) (start loop .args .p) (maybe false begins-labelled) b
+  by-itself f =
+      let k = known After-kind-at (search) .kind-at .ensures in
+      down-end (loop .loop .inv) (record { how = λ m s h. f m s h ∙ sym (labelled-here m (rw (← k .how m s h) (sym (known After-passes (search) .passes .ensures) ∙ c .if1 .left))) })
+
 loop-holds : tie.Need-loop-holds Inv-loop μ-loop
 loop-holds c = down-start
 
 kind-at-requires : tie.Need-kind-at-requires Inv-loop μ-loop
-kind-at-requires c κs = let y = down-place (c .loop .inv) (c .before .before .pre .place) in
-    y
+kind-at-requires c κs = standing c
 
 passes-requires : tie.Need-passes-requires Inv-loop μ-loop
 passes-requires c κs = search needs
 
 kid-of-requires : tie.Need-kid-of-requires Inv-loop μ-loop
-kid-of-requires c κs = let y = down-place (c .before .before .before .loop .inv) (c .before .before .before .before .before .pre .place) in
-    (record { place = y; memo = c .before .before .before .before .before .pre .memo }, omega arith)
+kid-of-requires c κs = (record { place = standing (search); memo = known Start (search) .pre .memo }, omega arith)
 
 loop-less : tie.Need-loop-less Inv-loop μ-loop
-loop-less c = let y = down-place (c .before .before .before .before .loop .inv) (c .before .before .before .before .before .before .pre .place) in
-    let k = c .before .before .before .kind-at .ensures in
-    omega (arith, c .kid-of .ensures .below, some-words y k (passes-some (sym (c .before .before .passes .ensures) ∙ c .before .if1 .taken)))
+loop-less c = omega (arith, c .kid-of .ensures .below, some-words (standing (search)) (known After-kind-at (search) .kind-at .ensures) (passes-some (first-begins (search))))
 
 loop-again : tie.Need-loop-again Inv-loop μ-loop
-loop-again c = let w = c .before .before .before .before .loop .inv in
-    let k = c .before .before .before .kind-at .ensures in
-    down-kid w (c .kid-of .ensures) (λ n u h. labelled-down n (rw (← k .how n u h) (sym (c .before .before .passes .ensures) ∙ c .before .if1 .taken)))
+loop-again c = let k = known After-kind-at (search) .kind-at .ensures in
+    down-kid (known At-loop (search) .loop .inv) (c .kid-of .ensures) (λ m s h. labelled-down m (rw (← k .how m s h) (first-begins (search))))
 
 kind-at-requires-2 : tie.Need-kind-at-requires-2 Inv-loop μ-loop
-kind-at-requires-2 c κs = let y = down-place (c .before .before .before .loop .inv) (c .before .before .before .before .before .pre .place) in
-    y
+kind-at-requires-2 c κs = standing (search)
 
 value-at-requires : tie.Need-value-at-requires Inv-loop μ-loop
-value-at-requires c κs = let y = down-place (c .before .before .before .before .before .loop .inv) (c .before .before .before .before .before .before .before .pre .place) in
-    y
+value-at-requires c κs = standing (search)
 
 returns : tie.Need-returns Inv-loop μ-loop
-returns c = let w = c .before .before .before .before .before .before .loop .inv in
-    let k2 = c .before .before .kind-at2 .ensures in
+returns c = let k = known After-kind-at2 (search) .kind-at2 .ensures in
     let v = c .value-at .ensures in
-    let k = c .before .before .before .before .before .kind-at .ensures in
-    down-end w (record {
-      how = λ n u h.
-          let e = labelled-here n (rw (← k .how n u h) (sym (c .before .before .before .before .passes .ensures) ∙ c .before .before .before .if1 .left)) in
-          rw (e, ← k2 .how n u h, eq-eqb _ _ (c .before .if2 .taken), ← v .how n u h);
-    })
+    by-itself (search) λ m s h. rw (← k .how m s h, eq-eqb _ _ (known Then2 (search) .if2 .taken), ← v .how m s h)
 
 returns-2 : tie.Need-returns-2 Inv-loop μ-loop
-returns-2 c = let w = c .before .before .before .before .before .loop .inv in
-    let k2 = c .before .kind-at2 .ensures in
-    let k = c .before .before .before .before .kind-at .ensures in
-    down-end w (record {
-      how = λ n u h.
-          let e = labelled-here n (rw (← k .how n u h) (sym (c .before .before .before .passes .ensures) ∙ c .before .before .if1 .left)) in
-          rw (e, ← k2 .how n u h, ne-eqb _ _ (c .if2 .left));
-    })
+returns-2 c = let k = known After-kind-at2 (search) .kind-at2 .ensures in
+    by-itself (search) λ m s h. rw (← k .how m s h, ne-eqb _ _ (c .if2 .left))
 
 pub begins-labelled-spec : {M : Type 1} → statement M
 begins-labelled-spec =

@@ -1,9 +1,10 @@
 -- `writer::legal::ends_wrong` meets its contract. Assumes nothing.
 use mathlib.Core.Path.{sym, _∙_}
 use borrow.Author.Needs.{needs}
-use Rattle.writer.specs.Check.{ends-single}
+use Rattle.tables.specs.Check.{ends-single}
 use Rattle.writer.proofs.legal.ends_wrong.Statement.{statement}
 use Rattle.writer.proofs.legal.ends_wrong.Tie as tie
+use Rattle.writer.proofs.Known.{known}
 
 closed-requires : tie.Need-closed-requires
 closed-requires c κs = search needs
@@ -16,7 +17,7 @@ ends-single-requires : tie.Need-ends-single-requires
 ends-single-requires c κs = search needs
 
 returns-2 : tie.Need-returns-2
-returns-2 c = let e = sym (c .before .before .closed .ensures) ∙ c .before .if1 .left in
+returns-2 c = let e = sym (known tie.After-closed (search) .closed .ensures) ∙ known tie.Else1 (search) .if1 .left in
     let x = c .ends-single .ensures in
     record { how = λ m s h. rw e (x .how m s h) }
 

@@ -2,10 +2,11 @@
 use mathlib.Core.Path.{_∙_}
 use borrow.Author.Needs.{needs}
 use borrow.Author.Tests.{eq-eqb, ne-eqb}
-use Rattle.writer.specs.Check.{inner-mode, inner-class, mode-of}
+use Rattle.tables.specs.Check.{inner-mode, inner-class, mode-of}
 use Rattle.writer.proofs.Places.{of-last, reach-last, count-kids}
 use Rattle.writer.proofs.mode.mode.Statement.{statement}
 use Rattle.writer.proofs.mode.mode.Tie as tie
+use Rattle.writer.proofs.Known.{known}
 
 kind-at-requires : tie.Need-kind-at-requires
 kind-at-requires c κs = search needs
@@ -14,7 +15,7 @@ last-of-requires : tie.Need-last-of-requires
 last-of-requires c κs = search needs
 
 inner-class-requires : tie.Need-inner-class-requires
-inner-class-requires c κs = reach-last (c .last-of .ensures) (c .before .before .before .before .pre)
+inner-class-requires c κs = search reach-last
 
 count-at-requires : tie.Need-count-at-requires
 count-at-requires c κs = search needs
@@ -24,19 +25,19 @@ list-class-requires c κs = search needs
 
 returns : tie.Need-returns
 unfolding mode-of
-returns c = let k = c .before .before .before .before .before .kind-at .ensures in
-    let n = c .before .count-at .ensures in
-    let x = of-last (c .before .before .before .last-of .ensures) (c .before .before .inner-class .ensures) in
-    record { how = λ m s h. rw (← k .how m s h, eq-eqb _ _ (c .before .before .before .before .if1 .taken), ← count-kids m, ← n .how m s h, ← x .how m s h) (c .list-class .ensures) }
+returns c = let k = known tie.After-kind-at (search) .kind-at .ensures in
+    let n = known tie.After-count-at (search) .count-at .ensures in
+    let x = of-last (known tie.After-last-of (search) .last-of .ensures) (known tie.After-inner-class (search) .inner-class .ensures) in
+    record { how = λ m s h. rw (← k .how m s h, eq-eqb _ _ (known tie.Then1 (search) .if1 .taken), ← count-kids m, ← n .how m s h, ← x .how m s h) (c .list-class .ensures) }
 
 inner-mode-requires : tie.Need-inner-mode-requires
 inner-mode-requires c κs = search needs
 
 returns-2 : tie.Need-returns-2
 unfolding mode-of
-returns-2 c = let k = c .before .before .kind-at .ensures in
+returns-2 c = let k = known tie.After-kind-at (search) .kind-at .ensures in
     let x = c .inner-mode .ensures in
-    record { how = λ m s h. x .how m s h ∙ rw (← k .how m s h, ne-eqb _ _ (c .before .if1 .left)) }
+    record { how = λ m s h. x .how m s h ∙ rw (← k .how m s h, ne-eqb _ _ (known tie.Else1 (search) .if1 .left)) }
 
 pub mode-spec : {M : Type 1} → statement M
 mode-spec =

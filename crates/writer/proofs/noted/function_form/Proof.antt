@@ -1,8 +1,9 @@
 -- `writer::noted::function_form` meets its contract. Assumes nothing.
 use borrow.Author.Needs.{needs}
-use Rattle.writer.proofs.Memory.{form-hit}
+use Rattle.writer.proofs.Memory.{form-looked-up}
 use Rattle.writer.proofs.noted.function_form.Statement.{statement}
 use Rattle.writer.proofs.noted.function_form.Tie as tie
+use Rattle.writer.proofs.Known.{known}
 
 of-function-requires : tie.Need-of-function-requires
 of-function-requires c κs = search needs
@@ -23,7 +24,7 @@ element-copy-out-result : tie.Need-element-copy-out-result
 element-copy-out-result c = search needs
 
 returns : tie.Need-returns
-returns c = form-hit (c .before .before .before .slot-of .result) (c .before .before .before .slot-of .ensures) (c .before .before .before .before .before .before .before .pre .memo) (c .before .if2 .taken)
+returns c = form-looked-up (known tie.After-slot-of (search) .slot-of .result) (known tie.After-slot-of (search) .slot-of .ensures) (known tie.Start (search) .pre .memo) (known tie.Then2 (search) .if2 .taken)
 
 seek-form-requires : tie.Need-seek-form-requires
 seek-form-requires c κs = search needs

@@ -2,20 +2,21 @@
 use native.Mathlib.Omega.{arith}
 use borrow.Author.Needs.{needs}
 use Rattle.writer.proofs.Memory.{form-set}
-use Rattle.writer.proofs.Places.{some-place, known}
+use Rattle.writer.proofs.Places.{some-place, reach-of}
 use Rattle.writer.proofs.noted.note_form.Statement.{statement}
 use Rattle.writer.proofs.noted.note_form.Tie as tie
+use Rattle.writer.proofs.Known.{known}
 
 of-function-requires : tie.Need-of-function-requires
-of-function-requires c κs = let y = c .before .pre .0 in
-    some-place (record { top = y .top; rest = y .rest; here = y .here; memo = c .before .pre .1 .memo })
+of-function-requires c κs = let y = known tie.Start (search) .pre .0 in
+    some-place (record { top = y .top; rest = y .rest; here = y .here; memo = known tie.Start (search) .pre .1 .memo })
 
 returns : tie.Need-returns
 returns c = search needs
 
 seek-form-requires : tie.Need-seek-form-requires
-seek-form-requires c κs = let y = c .before .before .before .before .before .pre .0 in
-    known (record { top = y .top; rest = y .rest; here = y .here; memo = c .before .before .before .before .before .pre .1 .memo })
+seek-form-requires c κs = let y = known tie.Start (search) .pre .0 in
+    reach-of (record { top = y .top; rest = y .rest; here = y .here; memo = known tie.Start (search) .pre .1 .memo })
 
 mul-keys : tie.Need-mul-keys
 mul-keys c = search needs
@@ -33,14 +34,14 @@ add-next : tie.Need-add-next
 add-next c = search needs
 
 returns-2 : tie.Need-returns-2
-returns-2 c = let y = c .before .before .before .before .before .before .before .pre in
+returns-2 c = let y = known tie.Start (search) .pre in
     let slot = y .2 in
-    (form-set slot (y .1) (c .before .seek-form .ensures), omega arith)
+    (form-set slot (y .1) (known tie.After-seek-form (search) .seek-form .ensures), omega arith)
 
 returns-3 : tie.Need-returns-3
-returns-3 c = let y = c .before .before .before .before .before .before .before .pre in
+returns-3 c = let y = known tie.Start (search) .pre in
     let slot = y .2 in
-    (form-set slot (y .1) (c .before .seek-form .ensures), omega arith)
+    (form-set slot (y .1) (known tie.After-seek-form (search) .seek-form .ensures), omega arith)
 
 pub note-form-spec : {M : Type 1} → statement M
 note-form-spec =

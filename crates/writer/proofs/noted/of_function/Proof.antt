@@ -14,7 +14,7 @@ last-of-requires : tie.Need-last-of-requires
 last-of-requires c κs = search needs
 
 kind-at-requires-2 : tie.Need-kind-at-requires-2
-kind-at-requires-2 c κs = last-place (c .last-of .ensures) (c .before .before .before .before .pre)
+kind-at-requires-2 c κs = search last-place
 
 returns-2 : tie.Need-returns-2
 returns-2 c = search needs

@@ -1,5 +1,4 @@
 -- `writer::records::kid_of` meets its contract. Assumes nothing.
-use mathlib.Core.Path.{_≡_}
 use Prim.Native.Nat.{_≤_}
 use native.Mathlib.Omega.{arith}
 use borrow.Author.Needs.{needs}
@@ -7,6 +6,7 @@ use Rattle.writer.proofs.Memory.{two-before}
 use Rattle.writer.proofs.Kids.{Kids, no-kid, kids-start, kids-known, kids-next, kids-end}
 use Rattle.writer.proofs.records.kid_of.Statement.{statement}
 use Rattle.writer.proofs.records.kid_of.Tie as tie
+use Rattle.writer.proofs.Known.{known}
 
 abbrev Inv-loop : tie.InvT-loop
 Inv-loop records keys facts p j n i₀ q₀ i q = Kids records p q i × (j ≤ i)
@@ -14,24 +14,33 @@ Inv-loop records keys facts p j n i₀ q₀ i q = Kids records p q i × (j ≤ i
 abbrev μ-loop : tie.MeasureT-loop
 μ-loop records keys facts p j n i₀ q₀ i q = i
 
+abbrev Start : Type 0
+Start = tie.Start Inv-loop μ-loop
+
+abbrev After-count-at : Type 0
+After-count-at = tie.After-count-at Inv-loop μ-loop
+
+abbrev At-loop : Type 0
+At-loop = tie.At-loop Inv-loop μ-loop
+
 count-at-requires : tie.Need-count-at-requires Inv-loop μ-loop
-count-at-requires c κs = c .before .pre .0 .place
+count-at-requires c κs = known Start (search) .pre .0 .place
 
 returns : tie.Need-returns Inv-loop μ-loop
-returns c = let n = c .before .count-at .ensures in
-    record { how = λ m s h. no-kid (c .before .before .before .args .j) m _ (omega (arith, n .how m s h)); below = omega arith }
+returns c = let n = known After-count-at (search) .count-at .ensures in
+    record { how = λ m s h. no-kid (known Start (search) .args .j) m _ (omega (arith, n .how m s h)); below = omega arith }
 
 sub-q : tie.Need-sub-q Inv-loop μ-loop
-sub-q c = let y = c .before .before .before .pre .0 .place in
-    let n = c .before .count-at .ensures .how (y .tree) (y .rest) (y .spot) in
+sub-q c = let y = known Start (search) .pre .0 .place in
+    let n = known After-count-at (search) .count-at .ensures .how (y .tree) (y .rest) (y .spot) in
     let b = two-before (y .tree) (y .rest) (λ e. omega arith) (y .spot) in
     omega arith
 
 loop-holds : tie.Need-loop-holds Inv-loop μ-loop
-loop-holds c = (kids-start (omega arith) (c .before .count-at .ensures), omega arith)
+loop-holds c = (kids-start (omega arith) (known After-count-at (search) .count-at .ensures), omega arith)
 
 begin-requires : tie.Need-begin-requires Inv-loop μ-loop
-begin-requires c κs = kids-known (c .before .loop .inv .0) (omega arith) (c .before .before .before .before .before .pre .0)
+begin-requires c κs = kids-known (known At-loop (search) .loop .inv .0) (omega arith) (known Start (search) .pre .0)
 
 sub-i : tie.Need-sub-i Inv-loop μ-loop
 sub-i c = search needs
@@ -40,11 +49,10 @@ loop-less : tie.Need-loop-less Inv-loop μ-loop
 loop-less c = search needs
 
 loop-again : tie.Need-loop-again Inv-loop μ-loop
-loop-again c = (kids-next (c .before .before .loop .inv .0) (omega arith) (c .before .before .before .before .before .before .pre .0 .place) (c .begin .ensures), omega arith)
+loop-again c = (kids-next (known At-loop (search) .loop .inv .0) (omega arith) (known Start (search) .pre .0 .place) (c .begin .ensures), omega arith)
 
 returns-2 : tie.Need-returns-2 Inv-loop μ-loop
-returns-2 c = let e : c .before .loop .i ≡ c .before .before .before .before .before .args .j = omega arith in
-    rw e at (kids-end (c .before .loop .inv .0) (omega arith))
+returns-2 c = kids-end (known At-loop (search) .loop .inv .0) (omega arith) (omega arith)
 
 pub kid-of-spec : {M : Type 1} → statement M
 kid-of-spec =

@@ -4,6 +4,7 @@ use native.Mathlib.Omega.{arith}
 use Rattle.writer.proofs.Memory.{no-last, a-last, two-before}
 use Rattle.writer.proofs.records.last_of.Statement.{statement}
 use Rattle.writer.proofs.records.last_of.Tie as tie
+use Rattle.writer.proofs.Known.{known}
 
 count-at-requires : tie.Need-count-at-requires
 count-at-requires c κs = c .before .pre
@@ -15,7 +16,7 @@ returns c =
 
 sub-result : tie.Need-sub-result
 sub-result c =
-    let y = c .before .before .before .pre in
+    let y = known tie.Start (search) .pre in
     let n = c .before .count-at .ensures in
     let b = two-before (y .tree) (y .rest) (λ e. c .if1 .left (n .how (y .tree) (y .rest) (y .spot) ∙ e)) (y .spot) in
     omega arith

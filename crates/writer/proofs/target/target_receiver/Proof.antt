@@ -5,22 +5,24 @@ use native.Mathlib.Omega.{arith}
 use borrow.Author.Needs.{needs}
 use Rattle.tree.specs.Tree.{head-kind}
 use Rattle.grammar.specs.Canonical.Write.{tail-of, target-atom}
-use Rattle.writer.specs.Stack.{children-in, kid-in}
+use Rattle.writer.specs.Stack.{kid-in}
+use Rattle.tables.specs.Children.{children-in}
 use Rattle.writer.proofs.Places.{reach-kid, a-tree}
 use Rattle.writer.proofs.Memory.{spot-none}
 use Rattle.writer.proofs.Fitted.{not-from}
 use Rattle.writer.proofs.Targets.{head-is, no-path, bad-path, good-path}
 use Rattle.writer.proofs.target.target_receiver.Statement.{statement}
 use Rattle.writer.proofs.target.target_receiver.Tie as tie
+use Rattle.writer.proofs.Known.{known}
 
 kid-of-requires : tie.Need-kid-of-requires
 kid-of-requires c κs = search needs
 
 returns : tie.Need-returns
-returns c = record { how = λ m s h. rw (no-path (tail-of (children-in m)) (spot-none _ _ (omega arith) (c .before .kid-of .ensures .how m s h))) (sym (and-false (target-atom (head-kind (children-in m))))) }
+returns c = record { how = λ m s h. rw (no-path (tail-of (children-in m)) (spot-none _ _ (omega arith) (known tie.After-kid-of (search) .kid-of .ensures .how m s h))) (sym (and-false (target-atom (head-kind (children-in m))))) }
 
 target-items-requires : tie.Need-target-items-requires
-target-items-requires c κs = a-tree (reach-kid (c .before .kid-of .ensures) (c .before .before .before .pre)) (c .if1 .left)
+target-items-requires c κs = a-tree (reach-kid (known tie.After-kid-of (search) .kid-of .ensures) (known tie.Start (search) .pre)) (c .if1 .left)
 
 enum-known-r : tie.Need-enum-known-r
 enum-known-r c = search needs
@@ -30,12 +32,12 @@ enum-told c = search needs
 
 returns-2 : tie.Need-returns-2
 returns-2 c = record {
-  how = λ m s h. rw (bad-path (c .before .before .before .before .kid-of .ensures) (c .before .before .before .if1 .left) (c .before .before .target-items .ensures) (not-from _ (c .before .match .keys2)) m s h) (sym (and-false (target-atom (head-kind (children-in m)))));
+  how = λ m s h. rw (bad-path (known tie.After-kid-of (search) .kid-of .ensures) (known tie.Else1 (search) .if1 .left) (known tie.After-target-items (search) .target-items .ensures) (not-from _ (known tie.At-match-keys2 (search) .match .keys2)) m s h) (sym (and-false (target-atom (head-kind (children-in m)))));
 }
 
 kind-at-requires : tie.Need-kind-at-requires
-kind-at-requires c κs = let y = c .before .before .before .before .before .before .before .pre .place in
-    let x = good-path (c .before .before .before .before .before .kid-of .ensures) (c .before .before .before .before .if1 .left) (c .before .before .before .target-items .ensures) (c .before .r .given .1) (y .tree) (y .rest) (y .spot) in
+kind-at-requires c κs = let y = known tie.Start (search) .pre .place in
+    let x = good-path (known tie.After-kid-of (search) .kid-of .ensures) (known tie.Else1 (search) .if1 .left) (known tie.After-target-items (search) .target-items .ensures) (known tie.After-r (search) .r .given .1) (y .tree) (y .rest) (y .spot) in
     record { tree = kid-in 1 (y .tree); rest = y .rest; spot = x .1 }
 
 target-atom-requires : tie.Need-target-atom-requires
@@ -44,8 +46,8 @@ target-atom-requires c κs = search needs
 returns-3 : tie.Need-returns-3
 returns-3 c = record {
   how = λ m s h.
-      let x = good-path (c .before .before .before .before .before .before .before .kid-of .ensures) (c .before .before .before .before .before .before .if1 .left) (c .before .before .before .before .before .target-items .ensures) (c .before .before .before .r .given .1) m s h in
-      let k = c .before .kind-at .ensures .how _ _ (x .1) in
+      let x = good-path (known tie.After-kid-of (search) .kid-of .ensures) (known tie.Else1 (search) .if1 .left) (known tie.After-target-items (search) .target-items .ensures) (known tie.After-r (search) .r .given .1) m s h in
+      let k = known tie.After-kind-at (search) .kind-at .ensures .how _ _ (x .1) in
       rw (x .0, ← head-is (children-in m), ← k) (c .target-atom .ensures ∙ sym (and-true _));
 }
 

@@ -3,6 +3,7 @@ use borrow.Author.Needs.{needs}
 use Rattle.writer.proofs.Texts.{closed-puts}
 use Rattle.writer.proofs.text.closing.Statement.{statement}
 use Rattle.writer.proofs.text.closing.Tie as tie
+use Rattle.writer.proofs.Known.{known}
 
 last-token-requires : tie.Need-last-token-requires
 last-token-requires c κs = search needs
@@ -23,7 +24,7 @@ same-length : tie.Need-same-length
 same-length c = search needs
 
 returns : tie.Need-returns
-returns c = closed-puts (c .before .before .before .before .before .before .before .before .before .before .last-token .ensures) (c .before .before .before .before .before .before .before .before .carried .ensures) (c .before .before .before .behind-token .ensures) (c .before .before .before .before .before .before .before .put .ensures) (c .before .before .put2 .ensures)
+returns c = closed-puts (known tie.After-last-token (search (known tie.After-put-arg2 (search))) .last-token .ensures) (known tie.After-carried (search) .carried .ensures) (known tie.After-behind-token (search) .behind-token .ensures) (known tie.After-put (search) .put .ensures) (known tie.After-put2 (search) .put2 .ensures)
 
 pub closing-spec : {M : Type 1} → statement M
 closing-spec =

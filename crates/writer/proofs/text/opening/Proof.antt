@@ -3,6 +3,7 @@ use borrow.Author.Needs.{needs}
 use Rattle.writer.proofs.Texts.{opened-puts}
 use Rattle.writer.proofs.text.opening.Statement.{statement}
 use Rattle.writer.proofs.text.opening.Tie as tie
+use Rattle.writer.proofs.Known.{known}
 
 third-token-requires : tie.Need-third-token-requires
 third-token-requires c κs = search needs
@@ -32,7 +33,8 @@ same-length : tie.Need-same-length
 same-length c = search needs
 
 returns : tie.Need-returns
-returns c = opened-puts (c .before .before .before .before .before .before .before .before .before .before .before .before .before .before .before .third-token .ensures) (c .before .before .before .before .before .before .before .before .before .before .before .second-token .ensures) (c .before .before .before .before .before .before .before .before .before .carried .ensures) (c .before .before .before .before .before .first-token .ensures) (c .before .before .before .carried2 .ensures) (c .before .before .before .before .before .before .before .before .before .before .before .before .before .before .put .ensures) (c .before .before .before .before .before .before .before .before .put2 .ensures) (c .before .before .put3 .ensures)
+returns c = let w : tie.After-put-arg2 = search (known tie.After-put3 (search)) in
+    opened-puts (known tie.After-third-token (search) .third-token .ensures) (known tie.After-second-token (search) .second-token .ensures) (known tie.After-carried (search) .carried .ensures) (known tie.After-first-token (search) .first-token .ensures) (known tie.After-carried2 (search) .carried2 .ensures) (known tie.After-put (search) .put .ensures) (known tie.After-put2 (search) .put2 .ensures) (known tie.After-put3 (search) .put3 .ensures)
 
 pub opening-spec : {M : Type 1} → statement M
 opening-spec =

@@ -5,12 +5,13 @@ use lib.ListN.{length-set}
 use Rattle.writer.proofs.Texts.{put-none, put-short, put-full}
 use Rattle.writer.proofs.text.put.Statement.{statement}
 use Rattle.writer.proofs.text.put.Tie as tie
+use Rattle.writer.proofs.Known.{known}
 
 returns : tie.Need-returns
-returns c = put-none (c .if1 .taken) (c .before .pre)
+returns c = put-none (c .if1 .taken) (known tie.Start (search) .pre)
 
 returns-2 : tie.Need-returns-2
-returns-2 c = put-short (c .before .if1 .left) (c .if2 .taken)
+returns-2 c = put-short (known tie.Else1 (search) .if1 .left) (c .if2 .taken)
 
 mul-output : tie.Need-mul-output
 mul-output c = search needs
@@ -34,7 +35,7 @@ same-length : tie.Need-same-length
 same-length c = search needs
 
 returns-3 : tie.Need-returns-3
-returns-3 c = put-full (c .before .if1 .left) (c .if2 .left) (c .before .before .pre)
+returns-3 c = put-full (known tie.Else1 (search) .if1 .left) (c .if2 .left) (known tie.Start (search) .pre)
 
 pub put-spec : {M : Type 1} → statement M
 put-spec =

@@ -1,6 +1,6 @@
 -- `writer::tokens::access_token` meets its contract: each arm is the definition there. Assumes nothing.
 use borrow.Author.Needs.{needs}
-use Rattle.writer.specs.Tokens.{access-token}
+use Rattle.tables.specs.Tokens.{access-token}
 use Rattle.writer.proofs.tokens.access_token.Statement.{statement}
 use Rattle.writer.proofs.tokens.access_token.Tie as tie
 

@@ -1,6 +1,6 @@
 -- `writer::tokens::label_token` meets its contract: each arm is the definition there. Assumes nothing.
 use borrow.Author.Needs.{needs}
-use Rattle.writer.specs.Tokens.{label-token}
+use Rattle.tables.specs.Tokens.{label-token}
 use Rattle.writer.proofs.tokens.label_token.Statement.{statement}
 use Rattle.writer.proofs.tokens.label_token.Tie as tie
 

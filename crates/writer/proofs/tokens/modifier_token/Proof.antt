@@ -1,23 +1,16 @@
 -- `writer::tokens::modifier_token` meets its contract: each arm is the definition there. Assumes nothing.
 use borrow.Author.Needs.{needs}
-use borrow.Author.Tests.{eq-eqb, ne-eqb}
-use Rattle.writer.specs.Tokens.{modifier-token}
+use Rattle.tables.specs.Tokens.{modifier-token}
+use Rattle.writer.proofs.Numbers.{tests}
 use Rattle.writer.proofs.tokens.modifier_token.Statement.{statement}
 use Rattle.writer.proofs.tokens.modifier_token.Tie as tie
 
-returns : tie.Need-returns
-unfolding modifier-token
-returns c = rw (eq-eqb _ _ (c .if1 .taken))
-
-sub-keyword-of : tie.Need-sub-keyword-of
-sub-keyword-of c = search needs
-
-keyword-of-requires : tie.Need-keyword-of-requires
-keyword-of-requires c κs = search needs
-
-returns-2 : tie.Need-returns-2
-unfolding modifier-token
-returns-2 c = simp (c .keyword-of .ensures, ne-eqb _ _ (c .before .if1 .left))
-
 pub modifier-token-spec : {M : Type 1} → statement M
-modifier-token-spec = tie.close (tie.spec returns sub-keyword-of keyword-of-requires returns-2)
+unfolding modifier-token
+modifier-token-spec =
+    tie.close
+    (tie.spec
+    (λ c. search tests)
+    (λ c. search needs)
+    (λ c κs. search needs)
+    (λ c. search (c .keyword-of .ensures, tests)))

@@ -1,6 +1,6 @@
 -- `writer::tokens::third_token` meets its contract: each arm is the definition there. Assumes nothing.
 use borrow.Author.Needs.{needs}
-use Rattle.writer.specs.Tokens.{third-token}
+use Rattle.tables.specs.Tokens.{third-token}
 use Rattle.writer.proofs.tokens.third_token.Statement.{statement}
 use Rattle.writer.proofs.tokens.third_token.Tie as tie
 

@@ -1,0 +1,15 @@
+pub mod Choice
+pub mod Operators
+pub mod Class
+pub mod Demand
+pub mod Form
+pub mod Kinds
+pub mod Sound
+pub mod Tokens
+pub mod Children
+pub mod Check
+pub mod Valid
+pub mod Layout
+pub mod Same
+pub mod Answer
+pub mod Examples
