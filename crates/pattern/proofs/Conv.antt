@@ -1,6 +1,5 @@
 -- What the definition makes of a node, told from the first word of its record. Assumes nothing.
 use mathlib.Core.Path.{_≡_, refl, sym, ap, _∙_}
-use mathlib.Core.Bool.{Bool, true, false}
 use mathlib.Core.List.{List, _∷_, _++_, append-assoc, append-nil}
 use Prim.Native.Nat.{ℕ, suc, _+_, _*_, _%_, _≤_, _<_}
 use native.Mathlib.Omega.{arith}
@@ -12,11 +11,8 @@ use Rattle.tree.specs.Records.{Small, Smalls}
 use Rattle.tree.specs.Rows.{Row, end, on, rows, push, rows-push}
 use Rattle.tree.specs.Maybe.{Maybe, nothing, just, bindM, both}
 use Rattle.grammar.specs.Reading.Pattern.{Role, pattern, members, maybe, over, grouped, listed, last-of, front-of, receiver, by-item, by-path, conv, all-conv}
+use Rattle.grammar.specs.Laws.Facts.{by-test}
 use Rattle.pattern.specs.Word
-
-pub by-test : {P : Type 0} (b : Bool) → (b ≡ true → P) → (b ≡ false → P) → P
-by-test true f g = f refl
-by-test false f g = g refl
 
 -- the children that are patterns are as many as the children
 abbrev Counted : Maybe Forest → ℕ → Type 0

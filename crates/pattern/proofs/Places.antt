@@ -14,9 +14,11 @@ use Rattle.tree.specs.Tree.{Tree, Forest, node, one, two, count, records}
 use Rattle.tree.specs.Rows.{end, on, rows, push, Starts, rows-push}
 use Rattle.tree.specs.Maybe.{Maybe, nothing, just}
 use Rattle.grammar.specs.Reading.Pattern.{pattern, receiver, conv, to-pattern}
+use Rattle.grammar.specs.Laws.Facts.{by-test}
 use Rattle.pattern.specs.Word
 use Rattle.pattern.specs.Contract.{Is, Put, Right, Left, Fit, Stands, Access, Placed, Over, over-as, over-words, has-members}
-use Rattle.pattern.proofs.Conv.{by-test, wordsM}
+use Rattle.pattern.proofs.Lists.{keep}
+use Rattle.pattern.proofs.Conv.{wordsM}
 use Rattle.pattern.proofs.Steps.{Ahead, View, all-read, no-pattern, some-members, unpack-room, unpack-absent, unpack-other, tuple-room, tuple-step, tuple-none}
 use Rattle.pattern.proofs.Access.{top-text, top-pat, off-top, Receives, prim, Shape, shape-of, path-none, no-item-step, attribute-pat, attribute-text, index-of, index-pat, index-text}
 
@@ -26,10 +28,6 @@ drop-take S w to h l =
     let e : to ≡ w + (to - w) = omega arith in
     let parts : take to S ≡ take w S ++ take (to - w) (drop w S) = ap (λ (n : ℕ). take n S) e ∙ take-add w (to - w) S in
     ap (drop w) parts ∙ drop-at (take w S) (take (to - w) (drop w S)) w (length-take-le w S (omega arith))
-
--- what stands before a place that was written
-keep : (n at : ℕ) (S S′ : List ℕ) → n ≤ at → take at S′ ≡ take at S → take n S′ ≡ take n S
-keep n at S S′ h e = sym (take-take n at S′ h) ∙ ap (take n) e ∙ take-take n at S h
 
 module _ {at word value : ℕ} {S S′ : List ℕ} (p : Put at word value S S′) where
   before-put : (n : ℕ) → n ≤ at → take n S′ ≡ take n S

@@ -14,9 +14,10 @@ use Rattle.tree.specs.Records.{Small, Smalls}
 use Rattle.tree.specs.Rows.{Row, end, on, rows, width, SmallRow, push, rows-push, small-push, rows-long, top}
 use Rattle.tree.specs.Maybe.{Maybe, nothing, just, bindM, both}
 use Rattle.grammar.specs.Reading.Pattern.{pattern, maybe, members, over, modified, grouped, listed, conv, all-conv, to-pattern}
+use Rattle.grammar.specs.Laws.Facts.{by-test}
 use Rattle.pattern.specs.Word
 use Rattle.pattern.specs.Contract.{Is, Whole, has-members}
-use Rattle.pattern.proofs.Conv.{by-test, ident, Over, group, unpack, absent, present, tuple, list-is, not-list, no-members, other, convR, wordsR, wordsM, took, lost, same-as, wrapped, tupled}
+use Rattle.pattern.proofs.Conv.{ident, Over, group, unpack, absent, present, tuple, list-is, not-list, no-members, other, convR, wordsR, wordsM, took, lost, same-as, wrapped, tupled}
 
 -- the words T are B and trees that are to be patterns, Y is what follows them, and all of that is the pattern m
 pub record Ahead (m : Maybe Tree) (B T Y : List ℕ) : Type 0 where

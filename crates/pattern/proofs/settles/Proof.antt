@@ -12,8 +12,8 @@ use Rattle.tree.specs.Tree.{Tree}
 use Rattle.tree.specs.Rows.{rows}
 use Rattle.tree.specs.Maybe.{Maybe}
 use Rattle.grammar.specs.Reading.Pattern.{to-pattern}
+use Rattle.grammar.specs.Laws.Facts.{by-test}
 use Rattle.pattern.specs.Contract.{Whole}
-use Rattle.pattern.proofs.Conv.{by-test}
 use Rattle.pattern.proofs.Steps.{Ahead, View, view, shorter, whole-ahead, all-read, settled, ident-step, group-bare, group-modified, unpack-room, unpack-absent, unpack-other, tuple-room, tuple-step, tuple-none, some-members, no-pattern}
 use Rattle.pattern.proofs.Access.{Receives, top-prim, prim-room, path-none, Shape, shape-of, no-item-step, attribute-pat, attribute-trees, index-pat, index-trees, no-top, off-top}
 use Rattle.pattern.proofs.settles.Statement.{statement}
