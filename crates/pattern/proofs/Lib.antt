@@ -1,4 +1,5 @@
 -- What the proofs of several functions use.
+mod Known
 mod Lists
 mod Conv
 mod Steps
