@@ -8,6 +8,7 @@ use native.Mathlib.Nat.{add-zero}
 use borrow.Author.Needs.{needs}
 use lib.ListN.{length, take, drop, set, getD, length-set, length-take}
 use lib.Seq.{drop-set-lt, drop-drop, getD-drop, take-suc, take-suc-set, drop-append-le, slice-empty}
+use Rattle.pattern.proofs.Known.{known}
 use Rattle.pattern.proofs.move_left.Statement.{statement}
 use Rattle.pattern.proofs.move_left.Tie as tie
 
@@ -70,18 +71,22 @@ add-k : tie.Need-add-k Inv-loop μ-loop
 add-k c = search needs
 
 loop-less : tie.Need-loop-less Inv-loop μ-loop
-loop-less c = let i = c .before .before .loop .inv in
-    omega arith
+loop-less c = omega arith
 
 loop-again : tie.Need-loop-again Inv-loop μ-loop
-loop-again c = step _ _ _ _ (c .before .before .loop .store) (c .before .before .loop .k) (c .before .before .before .pre .0) (c .before .before .before .pre .2) (c .before .before .loop .inv) (c .before .loop-test .taken)
+loop-again c =
+    let s = known (tie.Start Inv-loop μ-loop) (search) in
+    let l = known (tie.At-loop Inv-loop μ-loop) (search) .loop in
+    step _ _ _ _ (l .store) (l .k) (s .pre .0) (s .pre .2) (l .inv) (known (tie.In-loop Inv-loop μ-loop) (search) .loop-test .taken)
 
 same-length : tie.Need-same-length Inv-loop μ-loop
-same-length c = c .before .loop .inv .kept
+same-length c = known (tie.At-loop Inv-loop μ-loop) (search) .loop .inv .kept
 
 returns : tie.Need-returns Inv-loop μ-loop
-returns c = let i = c .before .loop .inv in
-    let e : c .before .loop .k ≡ c .before .before .args .to = omega arith in
+returns c =
+    let l = known (tie.At-loop Inv-loop μ-loop) (search) .loop in
+    let i = l .inv in
+    let e : l .k ≡ known (tie.Start Inv-loop μ-loop) (search) .args .to = omega arith in
     rw (← e) (record { text = i .head })
 
 pub move-left-spec : {M : Type 1} → statement M

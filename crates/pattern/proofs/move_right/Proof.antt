@@ -6,6 +6,7 @@ use native.Mathlib.Omega.{arith}
 use borrow.Author.Needs.{needs}
 use lib.ListN.{length, take, drop, set, getD, length-set}
 use lib.Seq.{take-set-le, getD-take, slice, slice-empty, slice-cons}
+use Rattle.pattern.proofs.Known.{known}
 use Rattle.pattern.proofs.Lists.{keep, stored}
 use Rattle.pattern.proofs.move_right.Statement.{statement}
 use Rattle.pattern.proofs.move_right.Tie as tie
@@ -63,21 +64,25 @@ mul-store-2 : tie.Need-mul-store-2 Inv-loop μ-loop
 mul-store-2 c = search needs
 
 slice-write-store : tie.Need-slice-write-store Inv-loop μ-loop
-slice-write-store c = let i = c .before .before .loop .inv in
-    omega arith
+slice-write-store c = omega arith
 
 loop-less : tie.Need-loop-less Inv-loop μ-loop
 loop-less c = search needs
 
 loop-again : tie.Need-loop-again Inv-loop μ-loop
-loop-again c = step _ _ _ _ (c .before .before .loop .store) (c .before .before .loop .k) (c .before .before .before .pre .1) (c .before .before .loop .inv) (c .before .loop-test .taken)
+loop-again c =
+    let s = known (tie.Start Inv-loop μ-loop) (search) in
+    let l = known (tie.At-loop Inv-loop μ-loop) (search) .loop in
+    step _ _ _ _ (l .store) (l .k) (s .pre .1) (l .inv) (known (tie.In-loop Inv-loop μ-loop) (search) .loop-test .taken)
 
 same-length : tie.Need-same-length Inv-loop μ-loop
-same-length c = c .before .loop .inv .kept
+same-length c = known (tie.At-loop Inv-loop μ-loop) (search) .loop .inv .kept
 
 returns : tie.Need-returns Inv-loop μ-loop
-returns c = let i = c .before .loop .inv in
-    let e : c .before .loop .k ≡ c .before .before .args .from = omega arith in
+returns c =
+    let l = known (tie.At-loop Inv-loop μ-loop) (search) .loop in
+    let i = l .inv in
+    let e : l .k ≡ known (tie.Start Inv-loop μ-loop) (search) .args .from = omega arith in
     rw (← e) (record { head = i .head; tail = i .tail })
 
 pub move-right-spec : {M : Type 1} → statement M
