@@ -20,7 +20,7 @@ use Rattle.pattern.specs.Contract.{Is, Put, Right, Left, Fit, Stands, Ac
 use Rattle.pattern.proofs.Lists.{keep}
 use Rattle.pattern.proofs.Conv.{wordsM}
 use Rattle.pattern.proofs.Steps.{Ahead, View, all-read, no-pattern, some-members, unpack-room, unpack-absent, unpack-other, tuple-room, tuple-step, tuple-none}
-use Rattle.pattern.proofs.Access.{top-text, top-pat, off-top, Receives, prim, Shape, shape-of, path-none, no-item-step, attribute-pat, attribute-text, index-of, index-pat, index-text}
+use Rattle.pattern.proofs.Access.{top-text, top-pat, off-top, Receives, prim, Shape, shape-of, path-none, before-last, no-item-step, attribute-pat, attribute-text, index-of, index-pat, index-text}
 
 -- a part of a list, told from its front and from its end
 drop-take : (S : List ℕ) (w to : ℕ) → w ≤ to → to ≤ length S → drop w (take to S) ≡ take (to - w) (drop w S)
@@ -91,11 +91,11 @@ module _ {B : List ℕ} {p : Tree} {S : List ℕ} {i w : ℕ} (a : Access B p S 
       let sh = sure-shape a in
       let at = s .at in
       let same : take (i - 6) S₃ ≡ take (i - 6) S = before-put p₃ (i - 6) (omega arith) ∙ before-put p₂ (i - 6) (omega arith) ∙ before-put p₁ (i - 6) (omega arith) in
-      let text : drop r (take (i - 6) S₃) ≡ rows (push (on end (sh .atom)) (sh .front)) = ap (drop r) (same ∙ attribute-text sh e) ∙ drop-at B (rows (push (on end (sh .atom)) (sh .front))) r (sym at) in
-      let words : drop (r + (w - i)) S₄ ≡ rows (push (on end (sh .atom)) (sh .front)) ++ (NodeKind.List + 256 * count (sh .front)) ∷ sh .w ∷ Word.Primary ∷ sh .v ∷ Word.AttributePattern ∷ getD S (i - 5) 0 ∷ drop w S
+      let text : drop r (take (i - 6) S₃) ≡ rows (before-last sh) = ap (drop r) (same ∙ attribute-text sh e) ∙ drop-at B (rows (before-last sh)) r (sym at) in
+      let words : drop (r + (w - i)) S₄ ≡ rows (before-last sh) ++ (NodeKind.List + 256 * count (sh .front)) ∷ sh .w ∷ Word.Primary ∷ sh .v ∷ Word.AttributePattern ∷ getD S (i - 5) 0 ∷ drop w S
       = right-then m (r + (w - i)) (w - 6) refl (omega arith)
       ∙ ap (λ (l : List ℕ). l ++ drop (w - 6) S₃) text
-      ∙ ap (λ (l : List ℕ). rows (push (on end (sh .atom)) (sh .front)) ++ l)
+      ∙ ap (λ (l : List ℕ). rows (before-last sh) ++ l)
       (put-then p₃ (w - 4) (omega arith)
       ∙ ap (λ (l : List ℕ). (getD S (i - 4) 0 - 256) ∷ getD S (i - 3) 0 ∷ l)
       (put-then p₂ (w - 2) (omega arith) ∙ ap (λ (l : List ℕ). Word.Primary ∷ getD S (i - 1) 0 ∷ l) (put-then p₁ w (omega arith)))
@@ -108,14 +108,14 @@ module _ {B : List ℕ} {p : Tree} {S : List ℕ} {i w : ℕ} (a : Access B p S 
             ∙ ap (λ (t : Tree). records t ++ drop w S) (same-pat (conv (a .tree) pattern) (a .same) (attribute-pat sh e));
       }
 
-  pub index-placed : {S₁ S₂ S₃ S₄ S₅ : List ℕ} {r q : ℕ} → (e : getD S (i - 6) 0 ≡ Word.Index) → Starts B S r → Starts (B ++ rows (push (on end (sure-shape a .atom)) (sure-shape a .front))) S q
+  pub index-placed : {S₁ S₂ S₃ S₄ S₅ : List ℕ} {r q : ℕ} → (e : getD S (i - 6) 0 ≡ Word.Index) → Starts B S r → Starts (B ++ rows (before-last (sure-shape a))) S q
       → Put (w - 2) Word.IndexPattern 0 S S₁ → Right q (i - 6) (w - i + 4) S₁ S₂ → Put (q + (w - i) + 2) Word.Primary (getD S (i - 1) 0) S₂ S₃ → Put (q + (w - i)) (getD S (i - 4) 0 - 256) (getD S (i - 3) 0) S₃ S₄ → Right r q (w - i) S₄ S₅
       → q ≤ i - 6
       → Placed B p S i w r S₅
   unfolding rows
   index-placed {S₁ = S₁} {S₂ = S₂} {S₃ = S₃} {S₄ = S₄} {S₅ = S₅} {r = r} {q = q} e s t p₁ m₁ p₂ p₃ m₂ le₆ =
       let sh = sure-shape a in
-      let X = rows (push (on end (sh .atom)) (sh .front)) in
+      let X = rows (before-last sh) in
       let u = index-of sh e .expr in
       let at = s .at in
       let at′ = t .at in

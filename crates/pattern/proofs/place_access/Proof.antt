@@ -6,11 +6,11 @@ use native.Mathlib.Omega.{arith}
 use native.Mathlib.Nat.{le-trans, sub-le}
 use lib.ListN.{length, getD, length-append}
 use Rattle.tree.specs.Tree.{Tree}
-use Rattle.tree.specs.Rows.{rows, push, on, end, Starts, enough}
+use Rattle.tree.specs.Rows.{rows, Starts, enough}
 use Rattle.pattern.specs.Word
 use Rattle.pattern.specs.Contract.{Access}
 use Rattle.pattern.proofs.Known.{known}
-use Rattle.pattern.proofs.Access.{attribute-trees, index-first, index-second}
+use Rattle.pattern.proofs.Access.{before-last, front-trees, attribute-trees, index-first}
 use Rattle.pattern.proofs.Places.{reach, sure-shape, sure-index, attribute-placed, index-placed}
 use Rattle.pattern.proofs.place_access.Statement.{statement}
 use Rattle.pattern.proofs.place_access.Tie as tie
@@ -80,7 +80,7 @@ module _ (c : tie.After-skip2) where
   abbrev other : tie.Else1
   other = search
 
-  abbrev middle : {B : List ℕ} {p : Tree} (a : Holds (start₂ other) B p) → Starts (B ++ rows (push (on end (sure-shape a .atom)) (sure-shape a .front))) (S (start₂ other)) (c .skip2 .result)
+  abbrev middle : {B : List ℕ} {p : Tree} (a : Holds (start₂ other) B p) → Starts (B ++ rows (before-last (sure-shape a))) (S (start₂ other)) (c .skip2 .result)
   middle a = c .skip2 .ensures _ (index-first (sure-shape a) (index other a))
 
   middle-room : c .skip2 .result + 8 ≤ i (start₂ other)
@@ -97,12 +97,12 @@ module _ (c : tie.After-skip3) where
   start₃ = start₂ (other half)
 
   abbrev starts₂ : {B : List ℕ} {p : Tree} → Holds start₃ B p → Starts B (S start₃) (c .skip3 .result)
-  starts₂ a = c .skip3 .ensures _ (index-second (sure-shape a) (half .skip2 .result) (middle half a .text))
+  starts₂ a = c .skip3 .ensures _ (front-trees (sure-shape a) (half .skip2 .result) (middle half a .text))
 
   ordered : c .skip3 .result ≤ half .skip2 .result
   ordered =
       let a = held start₃ in
-      omega (arith, starts₂ a .at, middle half a .at, length-append (start₃ .pre .base) (rows (push (on end (sure-shape a .atom)) (sure-shape a .front))))
+      omega (arith, starts₂ a .at, middle half a .at, length-append (start₃ .pre .base) (rows (before-last (sure-shape a))))
 
   -- what the calls after that ask for
   fit : (half .skip2 .result + 8 ≤ i start₃) × (i start₃ ≤ w start₃) × (w start₃ ≤ length (S start₃))
@@ -221,7 +221,7 @@ skip-requires-3 c κs =
     let k = known tie.After-skip2 (search) in
     let a = held (start₂ (other k)) in
     let h = reach a in
-    (omega (arith, middle-room k), record { base = _; trees = index-second (sure-shape a) (k .skip2 .result) (middle k a .text) })
+    (omega (arith, middle-room k), record { base = _; trees = front-trees (sure-shape a) (k .skip2 .result) (middle k a .text) })
 
 sub-put-5 : tie.Need-sub-put-5
 sub-put-5 c = omega (arith, fit (search))
