@@ -26,7 +26,8 @@ pub fn at_line(at: u64) -> Line {
     }
 }
 
-fn spoiled(line: Line) -> Line {
+// A line that is malformed.
+fn malformed(line: Line) -> Line {
     let mut l = line;
     l.malformed = true;
     l
@@ -36,17 +37,17 @@ fn spoiled(line: Line) -> Line {
 fn digit(line: Line, byte: u8) -> Line {
     let value = line.value;
     if byte < b'0' {
-        return spoiled(line);
+        return malformed(line);
     }
     if b'9' < byte {
-        return spoiled(line);
+        return malformed(line);
     }
     let d = (byte - b'0') as u64;
     if 1844674407370955161 < value {
-        return spoiled(line);
+        return malformed(line);
     }
     if 18446744073709551615 - d < 10 * value {
-        return spoiled(line);
+        return malformed(line);
     }
     let mut l = line;
     l.value = 10 * value + d;
@@ -61,7 +62,7 @@ pub fn number_end(line: Line, numbers: &mut [u64]) -> Line {
         return line;
     }
     if numbers.len() <= count {
-        return spoiled(line);
+        return malformed(line);
     }
     numbers[count] = line.value;
     let mut l = line;

@@ -1,4 +1,5 @@
 -- What several proofs share.
+mod Known
 mod Scans
 mod Inputs
 mod Texts
