@@ -13,7 +13,7 @@ use Rattle.tree.specs.Maybe.{Maybe, nothing, just}
 use Rattle.grammar.specs.Reading.Pattern.{pattern, receiver, by-item, by-path, conv}
 use Rattle.pattern.specs.Word
 use Rattle.pattern.specs.Contract.{Is, has-members}
-use Rattle.pattern.proofs.Conv.{primary, not-path, no-path, some-path, attribute-is, Index, index-is, no-item, took, lost}
+use Rattle.pattern.proofs.Conv.{primary, not-path, no-path, some-path, attribute-is, Index, index-is, no-item, pattern-on-top, none-on-top}
 use Rattle.pattern.proofs.Steps.{Ahead, Node, at-node, View, none-of, kid-small, no-member}
 
 -- a Primary: the receiver and the path
@@ -32,9 +32,9 @@ two-small f a l e s =
     let z = rw e at s in
     (z .0, z .1 .0)
 
-pub prim : (C S : List ℕ) (i : ℕ) (t : Tree) → i ≤ length S → Small t → take i S ≡ C ++ rows (on end t) → getD S (i - 2) 0 ≡ Word.Primary → Receives C S i t
+pub primary-at : (C S : List ℕ) (i : ℕ) (t : Tree) → i ≤ length S → Small t → take i S ≡ C ++ rows (on end t) → getD S (i - 2) 0 ≡ Word.Primary → Receives C S i t
 unfolding push
-prim C S i t h s e w =
+primary-at C S i t h s e w =
     let n = at-node C S i (i - 2) (i - 1) end t refl refl h s e in
     let p = primary (n .kind) (n .val) (n .kids) (n .less) (sym (n .word) ∙ w) in
     let z = two-small (n .kids) (p .atom) (p .list) (p .both-kids) (n .smalls) in
@@ -65,9 +65,9 @@ pub record Shape (C S : List ℕ) (i : ℕ) (t : Tree) : Type 0 where
   pub is : conv t pattern ≡ by-item (receiver v atom w front) last
 
 module _ {C S : List ℕ} {i : ℕ} {t : Tree} (p : Receives C S i t) where
-  pub prim-room : length C + 6 ≤ i
+  pub primary-room : length C + 6 ≤ i
   unfolding width
-  prim-room =
+  primary-room =
       let n = p .node-of in
       let o = rows-long (on end (p .atom)) in
       omega arith
@@ -117,11 +117,11 @@ module _ {C S : List ℕ} {i : ℕ} {t : Tree} (s : Shape C S i t) where
   abbrev pub before-last : Row
   before-last = push (on end (s .atom)) (s .front)
 
-  abbrev to : Tree
-  to = receiver (s .v) (s .atom) (s .w) (s .front)
+  abbrev receiver-of : Tree
+  receiver-of = receiver (s .v) (s .atom) (s .w) (s .front)
 
-  last-is : {m : Maybe Tree} → by-item to (node (s .node-of .kind) (s .node-of .val) (s .node-of .kids)) ≡ m → conv t pattern ≡ m
-  last-is e = s .is ∙ ap (by-item to) (s .node-of .shape) ∙ e
+  last-is : {m : Maybe Tree} → by-item receiver-of (node (s .node-of .kind) (s .node-of .val) (s .node-of .kids)) ≡ m → conv t pattern ≡ m
+  last-is e = s .is ∙ ap (by-item receiver-of) (s .node-of .shape) ∙ e
 
   wide : width before-last ≡ getD S (i - 4) 0 / 256
   unfolding width
@@ -138,13 +138,13 @@ module _ {C S : List ℕ} {i : ℕ} {t : Tree} (s : Shape C S i t) where
   pub no-item-step : (getD S (i - 6) 0 ≡ Word.Attribute → ⊥) → (getD S (i - 6) 0 ≡ Word.Index → ⊥) → conv t pattern ≡ nothing
   no-item-step a b =
       let n = s .node-of in
-      last-is (no-item to (n .kind) (n .val) (n .kids) (λ q. a (n .word ∙ q)) (λ q. b (n .word ∙ q)))
+      last-is (no-item receiver-of (n .kind) (n .val) (n .kids) (λ q. a (n .word ∙ q)) (λ q. b (n .word ∙ q)))
 
   -- an attribute last: the rest of the path and the atom stand before it
-  attribute-of : getD S (i - 6) 0 ≡ Word.Attribute → (s .node-of .kids ≡ none) × (by-item to (node (s .node-of .kind) (s .node-of .val) (s .node-of .kids)) ≡ just (node NodeKind.AttributePattern (s .node-of .val) (one to)))
-  attribute-of e = let n = s .node-of in attribute-is to (n .kind) (n .val) (n .kids) (sym (n .word) ∙ e)
+  attribute-of : getD S (i - 6) 0 ≡ Word.Attribute → (s .node-of .kids ≡ none) × (by-item receiver-of (node (s .node-of .kind) (s .node-of .val) (s .node-of .kids)) ≡ just (node NodeKind.AttributePattern (s .node-of .val) (one receiver-of)))
+  attribute-of e = let n = s .node-of in attribute-is receiver-of (n .kind) (n .val) (n .kids) (sym (n .word) ∙ e)
 
-  pub attribute-pat : getD S (i - 6) 0 ≡ Word.Attribute → conv t pattern ≡ just (node NodeKind.AttributePattern (getD S (i - 5) 0) (one to))
+  pub attribute-pat : getD S (i - 6) 0 ≡ Word.Attribute → conv t pattern ≡ just (node NodeKind.AttributePattern (getD S (i - 5) 0) (one receiver-of))
   attribute-pat e = last-is (attribute-of e .1 ∙ rw (s .node-of .value))
 
   pub attribute-text : getD S (i - 6) 0 ≡ Word.Attribute → take (i - 6) S ≡ C ++ rows before-last
@@ -155,12 +155,12 @@ module _ {C S : List ℕ} {i : ℕ} {t : Tree} (s : Shape C S i t) where
   attribute-trees e = front-trees (i - 6) (attribute-text e)
 
   -- an index last: its expression stands before it
-  pub index-of : getD S (i - 6) 0 ≡ Word.Index → Index to (s .node-of .kind) (s .node-of .val) (s .node-of .kids)
+  pub index-of : getD S (i - 6) 0 ≡ Word.Index → Index receiver-of (s .node-of .kind) (s .node-of .val) (s .node-of .kids)
   index-of e =
       let n = s .node-of in
-      index-is to (n .kind) (n .val) (n .kids) (n .less) (sym (n .word) ∙ e)
+      index-is receiver-of (n .kind) (n .val) (n .kids) (n .less) (sym (n .word) ∙ e)
 
-  pub index-pat : (e : getD S (i - 6) 0 ≡ Word.Index) → conv t pattern ≡ just (node NodeKind.IndexPattern 0 (two to (index-of e .expr)))
+  pub index-pat : (e : getD S (i - 6) 0 ≡ Word.Index) → conv t pattern ≡ just (node NodeKind.IndexPattern 0 (two receiver-of (index-of e .expr)))
   index-pat e = last-is (index-of e .is)
 
   pub index-text : (e : getD S (i - 6) 0 ≡ Word.Index) → take (i - 6) S ≡ C ++ rows (on before-last (index-of e .expr))
@@ -189,10 +189,10 @@ module _ {m : Maybe Tree} {B S : List ℕ} {i : ℕ} {Y : List ℕ} (x : View m 
   top-text = x .whole ∙ rw append-assoc
 
   pub no-top : conv (x .tree) pattern ≡ nothing → m ≡ nothing
-  no-top e = none-of m (x .same ∙ lost (x .under) (x .tree) Y e)
+  no-top e = none-of m (x .same ∙ none-on-top (x .under) (x .tree) Y e)
 
-  pub off-top : {T : List ℕ} (p : Tree) → conv (x .tree) pattern ≡ just p → T ≡ B ++ rows (x .under) → Ahead m B T (records p ++ Y)
-  off-top p e t = record { row = x .under; small = x .rest; text = t; same = x .same ∙ took (x .under) (x .tree) Y p e }
+  pub top-passed : {T : List ℕ} (p : Tree) → conv (x .tree) pattern ≡ just p → T ≡ B ++ rows (x .under) → Ahead m B T (records p ++ Y)
+  top-passed p e t = record { row = x .under; small = x .rest; text = t; same = x .same ∙ pattern-on-top (x .under) (x .tree) Y p e }
 
   pub top-pat : (m ≡ nothing → ⊥) → Is (conv (x .tree) pattern)
   top-pat d = go (conv (x .tree) pattern) refl
@@ -201,6 +201,6 @@ module _ {m : Maybe Tree} {B S : List ℕ} {i : ℕ} {Y : List ℕ} (x : View m 
       go nothing e = absurd (d (no-top e))
       go (just p) e = record { what = p; same = e }
 
-pub top-prim : {m : Maybe Tree} {B S : List ℕ} {i : ℕ} {Y : List ℕ} → i ≤ length S → (x : View m B S i Y) → getD S (i - 2) 0 ≡ Word.Primary → Receives (B ++ rows (x .under)) S i (x .tree)
+pub top-primary : {m : Maybe Tree} {B S : List ℕ} {i : ℕ} {Y : List ℕ} → i ≤ length S → (x : View m B S i Y) → getD S (i - 2) 0 ≡ Word.Primary → Receives (B ++ rows (x .under)) S i (x .tree)
 unfolding rows
-top-prim {B = B} {S = S} {i = i} h x e = prim (B ++ rows (x .under)) S i (x .tree) h (x .small) (top-text x) e
+top-primary {B = B} {S = S} {i = i} h x e = primary-at (B ++ rows (x .under)) S i (x .tree) h (x .small) (top-text x) e

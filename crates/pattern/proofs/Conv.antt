@@ -261,17 +261,17 @@ abbrev pub wordsM : Maybe Tree → Maybe (List ℕ)
 wordsM nothing = nothing
 wordsM (just p) = just (records p)
 
-pub took : (r : Row) (t : Tree) (Y : List ℕ) (p : Tree) → conv t pattern ≡ just p → wordsR (convR (on r t)) Y ≡ wordsR (convR r) (records p ++ Y)
+pub pattern-on-top : (r : Row) (t : Tree) (Y : List ℕ) (p : Tree) → conv t pattern ≡ just p → wordsR (convR (on r t)) Y ≡ wordsR (convR r) (records p ++ Y)
 unfolding convR rows
-took r t Y p e = rw e (go (convR r))
+pattern-on-top r t Y p e = rw e (go (convR r))
   where
     go : (m : Maybe Row) → wordsR (both on m (just p)) Y ≡ wordsR m (records p ++ Y)
     go nothing = refl
     go (just q) = ap just (append-assoc (rows q) (records p) Y)
 
-pub lost : (r : Row) (t : Tree) (Y : List ℕ) → conv t pattern ≡ nothing → wordsR (convR (on r t)) Y ≡ nothing
+pub none-on-top : (r : Row) (t : Tree) (Y : List ℕ) → conv t pattern ≡ nothing → wordsR (convR (on r t)) Y ≡ nothing
 unfolding convR
-lost r t Y e = rw e (go (convR r))
+none-on-top r t Y e = rw e (go (convR r))
   where
     go : (m : Maybe Row) → wordsR (both on m nothing) Y ≡ nothing
     go nothing = refl

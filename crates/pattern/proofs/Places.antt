@@ -20,7 +20,7 @@ use Rattle.pattern.specs.Contract.{Is, Put, Right, Left, Fit, Stands, Ac
 use Rattle.pattern.proofs.Lists.{keep}
 use Rattle.pattern.proofs.Conv.{wordsM}
 use Rattle.pattern.proofs.Steps.{Ahead, View, all-read, no-pattern, some-members, unpack-room, unpack-absent, unpack-other, tuple-room, tuple-step, tuple-none}
-use Rattle.pattern.proofs.Access.{top-text, top-pat, off-top, Receives, prim, Shape, shape-of, path-none, before-last, no-item-step, attribute-pat, attribute-text, index-of, index-pat, index-text}
+use Rattle.pattern.proofs.Access.{top-text, top-pat, top-passed, Receives, primary-at, Shape, shape-of, path-none, before-last, no-item-step, attribute-pat, attribute-text, index-of, index-pat, index-text}
 
 -- a part of a list, told from its front and from its end
 drop-take : (S : List ℕ) (w to : ℕ) → w ≤ to → to ≤ length S → drop w (take to S) ≡ take (to - w) (drop w S)
@@ -59,7 +59,7 @@ module _ {B : List ℕ} {p : Tree} {S : List ℕ} {i w : ℕ} (a : Access B p S 
 
   pub sure-shape : Shape B S i (a .tree)
   unfolding rows
-  sure-shape = shape-from reach (prim B S i (a .tree) reach (a .small) (a .text) (a .kind)) (a .same)
+  sure-shape = shape-from reach (primary-at B S i (a .tree) reach (a .small) (a .text) (a .kind)) (a .same)
 
   pub sure-index : (getD S (i - 6) 0 ≡ Word.Attribute → ⊥) → getD S (i - 6) 0 ≡ Word.Index
   sure-index n =
@@ -161,7 +161,7 @@ pub go-access : {m : Maybe Tree} {B S S′ Y : List ℕ} (Z : List ℕ) {i w r :
 go-access {S′ = S′} {Y = Y} Z {r = r} {p = p} x e d q =
     record {
       ahead = records p ++ Y;
-      left = off-top x p e (q .head);
+      left = top-passed x p e (q .head);
       done = q .tail ∙ ap (λ (l : List ℕ). records p ++ l) d ∙ sym (append-assoc (records p) Y Z);
     }
 

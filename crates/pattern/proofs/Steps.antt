@@ -17,7 +17,7 @@ use Rattle.grammar.specs.Reading.Pattern.{pattern, maybe, members, over, modifi
 use Rattle.grammar.specs.Laws.Facts.{by-test}
 use Rattle.pattern.specs.Word
 use Rattle.pattern.specs.Contract.{Is, Whole, has-members}
-use Rattle.pattern.proofs.Conv.{ident, Over, group, unpack, absent, present, tuple, list-is, not-list, no-members, other, convR, wordsR, wordsM, took, lost, same-as, wrapped, tupled}
+use Rattle.pattern.proofs.Conv.{ident, Over, group, unpack, absent, present, tuple, list-is, not-list, no-members, other, convR, wordsR, wordsM, pattern-on-top, none-on-top, same-as, wrapped, tupled}
 
 -- the words T are B and trees that are to be patterns, Y is what follows them, and all of that is the pattern m
 pub record Ahead (m : Maybe Tree) (B T Y : List ℕ) : Type 0 where
@@ -90,7 +90,7 @@ none-of nothing e = refl
 none-of (just p) e = absurd (let z : _≡_ {A = ℕ} 0 1 = cc in omega arith)
 
 failed : {m : Maybe Tree} {B S : List ℕ} {i : ℕ} {Y : List ℕ} → (x : View m B S i Y) → conv (node (x .here .kind) (x .here .val) (x .here .kids)) pattern ≡ nothing → m ≡ nothing
-failed {m = m} {Y = Y} x e = none-of m (x .same ∙ lost (x .under) (x .tree) Y (ap (λ (t : Tree). conv t pattern) (x .here .shape) ∙ e))
+failed {m = m} {Y = Y} x e = none-of m (x .same ∙ none-on-top (x .under) (x .tree) Y (ap (λ (t : Tree). conv t pattern) (x .here .shape) ∙ e))
 
 -- where the row has ended
 row-end : (m : Maybe Tree) (B S : List ℕ) (i : ℕ) (Y : List ℕ) (row : Row) → i ≤ length S → i ≤ length B → take i S ≡ B ++ rows row → wordsM m ≡ wordsR (convR row) Y → wordsM m ≡ just Y
@@ -141,7 +141,7 @@ module _ {m : Maybe Tree} {B S : List ℕ} {i : ℕ} {Y : List ℕ} (x : View m 
         row = x .under;
         small = x .rest;
         text = n .text ∙ rw (j .bare);
-        same = same-here ∙ took (x .under) (node (n .kind) (n .val) (n .kids)) Y (node NodeKind.IdentifierPattern (n .val) none) (j .is) ∙ rw (n .value);
+        same = same-here ∙ pattern-on-top (x .under) (node (n .kind) (n .val) (n .kids)) Y (node NodeKind.IdentifierPattern (n .val) none) (j .is) ∙ rw (n .value);
       }
 
   -- the top's only child takes its place
@@ -224,7 +224,7 @@ module _ {m : Maybe Tree} {B S : List ℕ} {i : ℕ} {Y : List ℕ} (h : i ≤ l
         row = x .under;
         small = x .rest;
         text = k .text ∙ rw (a .0);
-        same = same-here x ∙ took (x .under) (node (n .kind) (n .val) (n .kids)) Y (node NodeKind.Pack 0 (one (node NodeKind.Absent (k .val) none))) c ∙ rw (k .value);
+        same = same-here x ∙ pattern-on-top (x .under) (node (n .kind) (n .val) (n .kids)) Y (node NodeKind.Pack 0 (one (node NodeKind.Absent (k .val) none))) c ∙ rw (k .value);
       }
 
   pub unpack-other : getD S (i - 2) 0 ≡ Word.Unpack → (getD S (i - 4) 0 ≡ Word.Absent → ⊥) → Ahead m B (take (i - 2) S) (Word.Pack ∷ 0 ∷ Y)

@@ -49,14 +49,14 @@ module _ (c : tie.Start) where
 
 -- an attribute: where the access starts
 module _ (c : tie.After-skip) where
-  abbrev start : tie.Start
-  start = search
+  abbrev attribute-start : tie.Start
+  attribute-start = search
 
-  abbrev starts : {B : List ℕ} {p : Tree} → Holds start B p → Starts B (S start) (c .skip .result)
-  starts a = c .skip .ensures _ (attribute-trees (sure-shape a) (known tie.Then1 (search) .if1 .taken))
+  abbrev attribute-starts : {B : List ℕ} {p : Tree} → Holds attribute-start B p → Starts B (S attribute-start) (c .skip .result)
+  attribute-starts a = c .skip .ensures _ (attribute-trees (sure-shape a) (known tie.Then1 (search) .if1 .taken))
 
-  start-room : c .skip .result + 8 ≤ i start
-  start-room = omega (arith, starts (held start) .at, sure-shape (held start) .room)
+  start-room : c .skip .result + 8 ≤ i attribute-start
+  start-room = omega (arith, attribute-starts (held attribute-start) .at, sure-shape (held attribute-start) .room)
 
 -- the calls after that, each found from the next one
 abbrev after-skip : tie.After-put → tie.After-skip
@@ -70,43 +70,43 @@ after-put2 c = search
 
 -- an index: where its expression starts, and where the access does
 module _ (c : tie.Else1) where
-  abbrev start₂ : tie.Start
-  start₂ = search
+  abbrev index-start : tie.Start
+  index-start = search
 
-  abbrev index : {B : List ℕ} {p : Tree} → Holds start₂ B p → getD (S start₂) (i start₂ - 6) 0 ≡ Word.Index
+  abbrev index : {B : List ℕ} {p : Tree} → Holds index-start B p → getD (S index-start) (i index-start - 6) 0 ≡ Word.Index
   index a = sure-index a (c .if1 .left)
 
 module _ (c : tie.After-skip2) where
-  abbrev other : tie.Else1
-  other = search
+  abbrev at-index : tie.Else1
+  at-index = search
 
-  abbrev middle : {B : List ℕ} {p : Tree} (a : Holds (start₂ other) B p) → Starts (B ++ rows (before-last (sure-shape a))) (S (start₂ other)) (c .skip2 .result)
-  middle a = c .skip2 .ensures _ (index-first (sure-shape a) (index other a))
+  abbrev middle : {B : List ℕ} {p : Tree} (a : Holds (index-start at-index) B p) → Starts (B ++ rows (before-last (sure-shape a))) (S (index-start at-index)) (c .skip2 .result)
+  middle a = c .skip2 .ensures _ (index-first (sure-shape a) (index at-index a))
 
-  middle-room : c .skip2 .result + 8 ≤ i (start₂ other)
+  middle-room : c .skip2 .result + 8 ≤ i (index-start at-index)
   middle-room =
-      let s = start₂ other in
+      let s = index-start at-index in
       let a = held s in
-      omega (arith, middle a .at, enough _ (S s) (i s - 6) 1 (le-trans (sub-le _ 6) (reach a)) (index-first (sure-shape a) (index other a)))
+      omega (arith, middle a .at, enough _ (S s) (i s - 6) 1 (le-trans (sub-le _ 6) (reach a)) (index-first (sure-shape a) (index at-index a)))
 
 module _ (c : tie.After-skip3) where
-  abbrev half : tie.After-skip2
-  half = search
+  abbrev after-skip2 : tie.After-skip2
+  after-skip2 = search
 
-  abbrev start₃ : tie.Start
-  start₃ = start₂ (other half)
+  abbrev whole-start : tie.Start
+  whole-start = index-start (at-index after-skip2)
 
-  abbrev starts₂ : {B : List ℕ} {p : Tree} → Holds start₃ B p → Starts B (S start₃) (c .skip3 .result)
-  starts₂ a = c .skip3 .ensures _ (front-trees (sure-shape a) (half .skip2 .result) (middle half a .text))
+  abbrev index-starts : {B : List ℕ} {p : Tree} → Holds whole-start B p → Starts B (S whole-start) (c .skip3 .result)
+  index-starts a = c .skip3 .ensures _ (front-trees (sure-shape a) (after-skip2 .skip2 .result) (middle after-skip2 a .text))
 
-  ordered : c .skip3 .result ≤ half .skip2 .result
+  ordered : c .skip3 .result ≤ after-skip2 .skip2 .result
   ordered =
-      let a = held start₃ in
-      omega (arith, starts₂ a .at, middle half a .at, length-append (start₃ .pre .base) (rows (before-last (sure-shape a))))
+      let a = held whole-start in
+      omega (arith, index-starts a .at, middle after-skip2 a .at, length-append (whole-start .pre .base) (rows (before-last (sure-shape a))))
 
   -- what the calls after that ask for
-  fit : (half .skip2 .result + 8 ≤ i start₃) × (i start₃ ≤ w start₃) × (w start₃ ≤ length (S start₃))
-  fit = (middle-room half, behind start₃, within start₃)
+  fit : (after-skip2 .skip2 .result + 8 ≤ i whole-start) × (i whole-start ≤ w whole-start) × (w whole-start ≤ length (S whole-start))
+  fit = (middle-room after-skip2, behind whole-start, within whole-start)
 
 -- the calls after that, each found from the next one
 abbrev after-skip3 : tie.After-put4 → tie.After-skip3
@@ -179,47 +179,47 @@ skip-requires c κs =
     (omega arith, record { base = _; trees = attribute-trees (sure-shape a) (known tie.Then1 (search) .if1 .taken) })
 
 sub-put : tie.Need-sub-put
-sub-put c = omega (arith, room (start (search)))
+sub-put c = omega (arith, room (attribute-start (search)))
 
 put-requires : tie.Need-put-requires
-put-requires c κs = omega (arith, room (start (search)))
+put-requires c κs = omega (arith, room (attribute-start (search)))
 
 sub-put-2 : tie.Need-sub-put-2
-sub-put-2 c = omega (arith, room (start (search)))
+sub-put-2 c = omega (arith, room (attribute-start (search)))
 
 put-requires-2 : tie.Need-put-requires-2
-put-requires-2 c κs = omega (arith, room (start (search)))
+put-requires-2 c κs = omega (arith, room (attribute-start (search)))
 
 sub-put-3 : tie.Need-sub-put-3
-sub-put-3 c = omega (arith, room (start (after-skip (search))))
+sub-put-3 c = omega (arith, room (attribute-start (after-skip (search))))
 
 sub-put-4 : tie.Need-sub-put-4
-sub-put-4 c = one-more (start (after-skip (search)))
+sub-put-4 c = one-more (attribute-start (after-skip (search)))
 
 put-requires-3 : tie.Need-put-requires-3
-put-requires-3 c κs = omega (arith, room (start (after-skip (search))))
+put-requires-3 c κs = omega (arith, room (attribute-start (after-skip (search))))
 
 sub-move-right : tie.Need-sub-move-right
-sub-move-right c = omega (arith, room (start (after-skip (after-put (search)))))
+sub-move-right c = omega (arith, room (attribute-start (after-skip (after-put (search)))))
 
 move-right-requires : tie.Need-move-right-requires
 move-right-requires c κs =
     let k = after-skip (after-put (search)) in
-    omega (arith, start-room k, behind (start k), within (start k))
+    omega (arith, start-room k, behind (attribute-start k), within (attribute-start k))
 
 sub-skip-2 : tie.Need-sub-skip-2
 sub-skip-2 c = omega (arith, room (search))
 
 skip-requires-2 : tie.Need-skip-requires-2
 skip-requires-2 c κs =
-    let a = held (start₂ (search)) in
+    let a = held (index-start (search)) in
     let h = reach a in
     (omega arith, record { base = _; trees = index-first (sure-shape a) (index (search) a) })
 
 skip-requires-3 : tie.Need-skip-requires-3
 skip-requires-3 c κs =
     let k = known tie.After-skip2 (search) in
-    let a = held (start₂ (other k)) in
+    let a = held (index-start (at-index k)) in
     let h = reach a in
     (omega (arith, middle-room k), record { base = _; trees = front-trees (sure-shape a) (k .skip2 .result) (middle k a .text) })
 
@@ -250,10 +250,10 @@ put-requires-5 c κs = omega (arith, fit (after-skip3 (search)))
 add-put-3 : tie.Need-add-put-3
 add-put-3 c =
     let k = after-skip3 (after-put4 (search)) in
-    omega (arith, fit k, fits (start₃ k))
+    omega (arith, fit k, fits (whole-start k))
 
 sub-put-6 : tie.Need-sub-put-6
-sub-put-6 c = one-more (start₃ (after-skip3 (after-put4 (search))))
+sub-put-6 c = one-more (whole-start (after-skip3 (after-put4 (search))))
 
 put-requires-6 : tie.Need-put-requires-6
 put-requires-6 c κs = omega (arith, fit (after-skip3 (after-put4 (search))))
@@ -272,7 +272,7 @@ returns c =
     let p₂ = after-put2 p₃ in
     let p₁ = after-put p₂ in
     let k = after-skip p₁ in
-    λ B p a. attribute-placed a (known tie.Then1 (search) .if1 .taken) (starts k a) (p₁ .put .ensures) (p₂ .put2 .ensures) (p₃ .put3 .ensures) (known tie.After-move-right (search) .move-right .ensures)
+    λ B p a. attribute-placed a (known tie.Then1 (search) .if1 .taken) (attribute-starts k a) (p₁ .put .ensures) (p₂ .put2 .ensures) (p₃ .put3 .ensures) (known tie.After-move-right (search) .move-right .ensures)
 
 same-length-2 : tie.Need-same-length-2
 same-length-2 c = omega arith
@@ -284,8 +284,8 @@ returns-2 c =
     let m₂ = after-move-right2 p₅ in
     let p₄ = after-put4 m₂ in
     let k = after-skip3 p₄ in
-    let l = middle-room (half k) in
-    λ B p a. index-placed a (index (other (half k)) a) (starts₂ k a) (middle (half k) a) (p₄ .put4 .ensures) (m₂ .move-right2 .ensures) (p₅ .put5 .ensures) (p₆ .put6 .ensures) (known tie.After-move-right3 (search) .move-right3 .ensures) (omega arith)
+    let l = middle-room (after-skip2 k) in
+    λ B p a. index-placed a (index (at-index (after-skip2 k)) a) (index-starts k a) (middle (after-skip2 k) a) (p₄ .put4 .ensures) (m₂ .move-right2 .ensures) (p₅ .put5 .ensures) (p₆ .put6 .ensures) (known tie.After-move-right3 (search) .move-right3 .ensures) (omega arith)
 
 pub place-access-spec : {M : Type 1} → statement M
 place-access-spec =

@@ -16,7 +16,7 @@ use Rattle.grammar.specs.Laws.Facts.{by-test}
 use Rattle.pattern.specs.Contract.{Is, Whole}
 use Rattle.pattern.proofs.Known.{known}
 use Rattle.pattern.proofs.Steps.{Ahead, View, view, shorter, whole-ahead, all-read, settled, ident-step, group-bare, group-modified, unpack-room, unpack-absent, unpack-other, tuple-room, tuple-step, tuple-none, some-members, no-pattern}
-use Rattle.pattern.proofs.Access.{Receives, top-prim, prim-room, path-none, Shape, shape-of, no-item-step, attribute-pat, attribute-trees, index-pat, index-trees, no-top, off-top}
+use Rattle.pattern.proofs.Access.{Receives, top-primary, primary-room, path-none, Shape, shape-of, no-item-step, attribute-pat, attribute-trees, index-pat, index-trees, no-top, top-passed}
 use Rattle.pattern.proofs.settles.Statement.{statement}
 use Rattle.pattern.proofs.settles.Tie as tie
 
@@ -93,10 +93,10 @@ module _ (c : tie.At-match-keys4 Inv-loop μ-loop) where
   base g = take (from access-turn) (S access-turn) ++ rows (seen access-turn g .under)
 
   abbrev receives : {t : Tree} (g : Holds access-turn t) → Receives (base g) (S access-turn) (i access-turn) (seen access-turn g .tree)
-  receives g = top-prim (reach access-turn) (seen access-turn g) (c .match .keys4)
+  receives g = top-primary (reach access-turn) (seen access-turn g) (c .match .keys4)
 
   access-room : 6 ≤ i access-turn
-  access-room = omega (arith, prim-room (receives (held access-turn)))
+  access-room = omega (arith, primary-room (receives (held access-turn)))
 
 module _ (c : tie.Else3 Inv-loop μ-loop) where
   abbrev access : tie.At-match-keys4 Inv-loop μ-loop
@@ -122,7 +122,7 @@ module _ (c : tie.Else3 Inv-loop μ-loop) where
     passed-again : ((t : Tree) (g : Holds path-turn t) → Is (conv (seen path-turn g .tree) pattern)) → (r ≤ length (S path-turn)) × ((t : Tree) → Holds path-turn t → Seeing (to-pattern t) (S path-turn) (from path-turn) r)
     passed-again pats =
         let h = reach path-turn in
-        (omega (arith, passed-less), λ t g. record { ahead = _; left = off-top (seen path-turn g) (pats t g .what) (pats t g .same) (skips _ (trees t g) .text) })
+        (omega (arith, passed-less), λ t g. record { ahead = _; left = top-passed (seen path-turn g) (pats t g .what) (pats t g .same) (skips _ (trees t g) .text) })
 
 -- where the last item is an attribute, and where it is an index
 module _ (c : tie.Then4 Inv-loop μ-loop) where
