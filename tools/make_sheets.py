@@ -1,7 +1,7 @@
 #!/usr/bin/env python3
-"""Makes the input of the program `sheets`: fixed sheets with the answers of the published parser, and what the writer makes of their trees.
+"""Makes the input of the program `replay`: fixed sheets with the answers of the published parser, and what the writer makes of their trees.
 
-    make_sheets.py --build DIR [--oracle DIR] [--seeds 1,2] > crates/sheets/stdin
+    make_sheets.py --build DIR [--oracle DIR] [--seeds 1,2] > crates/replay/stdin
 
 DIR of --build holds oracle and oracle01, as `compare/oracle/build.sh SOURCES DIR` makes them; DIR of --oracle holds gen.py, tokens.py and
 canonical.txt, by default compare/oracle. The same seeds give the same file. Needs Python 3.

@@ -6,14 +6,14 @@ use Prim.Native.Nat.{ℕ, suc, _+_, _*_, _-_, _/_, _%_, _≤_, _<_}
 use native.Mathlib.Omega.{arith}
 use lib.ListN.{length, take, getD}
 use Rattle.tree.specs.NodeKind
-use Rattle.tree.specs.Tree.{Tree, Forest, node, one, two, count, records}
+use Rattle.tree.specs.Tree.{Tree, Forest, node, none, one, two, count, records}
 use Rattle.tree.specs.Records.{Small, Smalls}
 use Rattle.tree.specs.Rows.{Row, end, on, rows, width, SmallRow, push, Trees, width-push, small-push, rows-long}
 use Rattle.tree.specs.Maybe.{Maybe, nothing, just}
 use Rattle.grammar.specs.Reading.Pattern.{pattern, receiver, by-item, by-path, conv}
 use Rattle.pattern.specs.Word
 use Rattle.pattern.specs.Contract.{Is, has-members}
-use Rattle.pattern.proofs.Conv.{primary, not-path, no-path, some-path, attribute-is, Index, index-is, no-item, took, lost}
+use Rattle.pattern.proofs.Conv.{primary, not-path, no-path, some-path, attribute-is, Index, index-is, no-item, pattern-on-top, none-on-top}
 use Rattle.pattern.proofs.Steps.{Ahead, Node, at-node, View, none-of, kid-small, no-member}
 
 -- a Primary: the receiver and the path
@@ -32,9 +32,9 @@ two-small f a l e s =
     let z = rw e at s in
     (z .0, z .1 .0)
 
-pub prim : (C S : List ℕ) (i : ℕ) (t : Tree) → i ≤ length S → Small t → take i S ≡ C ++ rows (on end t) → getD S (i - 2) 0 ≡ Word.Primary → Receives C S i t
+pub primary-at : (C S : List ℕ) (i : ℕ) (t : Tree) → i ≤ length S → Small t → take i S ≡ C ++ rows (on end t) → getD S (i - 2) 0 ≡ Word.Primary → Receives C S i t
 unfolding push
-prim C S i t h s e w =
+primary-at C S i t h s e w =
     let n = at-node C S i (i - 2) (i - 1) end t refl refl h s e in
     let p = primary (n .kind) (n .val) (n .kids) (n .less) (sym (n .word) ∙ w) in
     let z = two-small (n .kids) (p .atom) (p .list) (p .both-kids) (n .smalls) in
@@ -65,9 +65,9 @@ pub record Shape (C S : List ℕ) (i : ℕ) (t : Tree) : Type 0 where
   pub is : conv t pattern ≡ by-item (receiver v atom w front) last
 
 module _ {C S : List ℕ} {i : ℕ} {t : Tree} (p : Receives C S i t) where
-  pub prim-room : length C + 6 ≤ i
+  pub primary-room : length C + 6 ≤ i
   unfolding width
-  prim-room =
+  primary-room =
       let n = p .node-of in
       let o = rows-long (on end (p .atom)) in
       omega arith
@@ -113,75 +113,74 @@ module _ {C S : List ℕ} {i : ℕ} {t : Tree} (h : i ≤ length S) (p : Receive
       }
 
 module _ {C S : List ℕ} {i : ℕ} {t : Tree} (s : Shape C S i t) where
-  start-row : Row
-  start-row = push (on end (s .atom)) (s .front)
+  -- the atom and the items before the last one, and the receiver that they are
+  abbrev pub before-last : Row
+  before-last = push (on end (s .atom)) (s .front)
 
-  start-width : width start-row ≡ suc (count (s .front))
-  unfolding start-row width
-  start-width = width-push (on end (s .atom)) (s .front) ∙ omega arith
+  abbrev receiver-of : Tree
+  receiver-of = receiver (s .v) (s .atom) (s .w) (s .front)
 
-  start-small : SmallRow start-row
-  unfolding start-row SmallRow
-  start-small = small-push (on end (s .atom)) (s .front) (tt, s .small) (s .smalls)
+  last-is : {m : Maybe Tree} → by-item receiver-of (node (s .node-of .kind) (s .node-of .val) (s .node-of .kids)) ≡ m → conv t pattern ≡ m
+  last-is e = s .is ∙ ap (by-item receiver-of) (s .node-of .shape) ∙ e
 
-  how-many : getD S (i - 4) 0 / 256 ≡ suc (count (s .front))
-  how-many =
-      omega arith
+  wide : width before-last ≡ getD S (i - 4) 0 / 256
+  unfolding width
+  wide = width-push (on end (s .atom)) (s .front) ∙ omega arith
+
+  all-small : SmallRow before-last
+  unfolding SmallRow
+  all-small = small-push (on end (s .atom)) (s .front) (tt, s .small) (s .smalls)
+
+  -- they stand up to j
+  pub front-trees : (j : ℕ) → take j S ≡ C ++ rows before-last → Trees C (take j S) (getD S (i - 4) 0 / 256)
+  front-trees j e = record { row = before-last; many = wide; small = all-small; text = e }
 
   pub no-item-step : (getD S (i - 6) 0 ≡ Word.Attribute → ⊥) → (getD S (i - 6) 0 ≡ Word.Index → ⊥) → conv t pattern ≡ nothing
   no-item-step a b =
       let n = s .node-of in
-      s .is ∙ ap (by-item (receiver (s .v) (s .atom) (s .w) (s .front))) (n .shape) ∙ no-item (receiver (s .v) (s .atom) (s .w) (s .front)) (n .kind) (n .val) (n .kids) (λ q. a (n .word ∙ q)) (λ q. b (n .word ∙ q))
+      last-is (no-item receiver-of (n .kind) (n .val) (n .kids) (λ q. a (n .word ∙ q)) (λ q. b (n .word ∙ q)))
 
   -- an attribute last: the rest of the path and the atom stand before it
-  pub attribute-pat : getD S (i - 6) 0 ≡ Word.Attribute → conv t pattern ≡ just (node NodeKind.AttributePattern (getD S (i - 5) 0) (one (receiver (s .v) (s .atom) (s .w) (s .front))))
-  attribute-pat e =
-      let n = s .node-of in
-      let a = attribute-is (receiver (s .v) (s .atom) (s .w) (s .front)) (n .kind) (n .val) (n .kids) (n .less) (sym (n .word) ∙ e) in
-      s .is ∙ ap (by-item (receiver (s .v) (s .atom) (s .w) (s .front))) (n .shape) ∙ a .1 ∙ rw (n .value)
+  attribute-of : getD S (i - 6) 0 ≡ Word.Attribute → (s .node-of .kids ≡ none) × (by-item receiver-of (node (s .node-of .kind) (s .node-of .val) (s .node-of .kids)) ≡ just (node NodeKind.AttributePattern (s .node-of .val) (one receiver-of)))
+  attribute-of e = let n = s .node-of in attribute-is receiver-of (n .kind) (n .val) (n .kids) (sym (n .word) ∙ e)
 
-  pub attribute-text : getD S (i - 6) 0 ≡ Word.Attribute → take (i - 6) S ≡ C ++ rows (push (on end (s .atom)) (s .front))
+  pub attribute-pat : getD S (i - 6) 0 ≡ Word.Attribute → conv t pattern ≡ just (node NodeKind.AttributePattern (getD S (i - 5) 0) (one receiver-of))
+  attribute-pat e = last-is (attribute-of e .1 ∙ rw (s .node-of .value))
+
+  pub attribute-text : getD S (i - 6) 0 ≡ Word.Attribute → take (i - 6) S ≡ C ++ rows before-last
   unfolding push
-  attribute-text e =
-      let n = s .node-of in
-      let a = attribute-is (receiver (s .v) (s .atom) (s .w) (s .front)) (n .kind) (n .val) (n .kids) (n .less) (sym (n .word) ∙ e) in
-      n .text ∙ rw (a .0)
+  attribute-text e = s .node-of .text ∙ rw (attribute-of e .0)
 
   pub attribute-trees : getD S (i - 6) 0 ≡ Word.Attribute → Trees C (take (i - 6) S) (getD S (i - 4) 0 / 256)
-  unfolding start-row
-  attribute-trees e = record { row = start-row; many = start-width ∙ sym how-many; small = start-small; text = attribute-text e }
+  attribute-trees e = front-trees (i - 6) (attribute-text e)
 
   -- an index last: its expression stands before it
-  pub index-of : getD S (i - 6) 0 ≡ Word.Index → Index (receiver (s .v) (s .atom) (s .w) (s .front)) (s .node-of .kind) (s .node-of .val) (s .node-of .kids)
+  pub index-of : getD S (i - 6) 0 ≡ Word.Index → Index receiver-of (s .node-of .kind) (s .node-of .val) (s .node-of .kids)
   index-of e =
       let n = s .node-of in
-      index-is (receiver (s .v) (s .atom) (s .w) (s .front)) (n .kind) (n .val) (n .kids) (n .less) (sym (n .word) ∙ e)
+      index-is receiver-of (n .kind) (n .val) (n .kids) (n .less) (sym (n .word) ∙ e)
 
-  pub index-pat : (e : getD S (i - 6) 0 ≡ Word.Index) → conv t pattern ≡ just (node NodeKind.IndexPattern 0 (two (receiver (s .v) (s .atom) (s .w) (s .front)) (index-of e .expr)))
-  index-pat e = s .is ∙ ap (by-item (receiver (s .v) (s .atom) (s .w) (s .front))) (s .node-of .shape) ∙ index-of e .is
+  pub index-pat : (e : getD S (i - 6) 0 ≡ Word.Index) → conv t pattern ≡ just (node NodeKind.IndexPattern 0 (two receiver-of (index-of e .expr)))
+  index-pat e = last-is (index-of e .is)
 
-  pub index-text : (e : getD S (i - 6) 0 ≡ Word.Index) → take (i - 6) S ≡ C ++ rows (on (push (on end (s .atom)) (s .front)) (index-of e .expr))
+  pub index-text : (e : getD S (i - 6) 0 ≡ Word.Index) → take (i - 6) S ≡ C ++ rows (on before-last (index-of e .expr))
   unfolding push
-  index-text e = s .node-of .text ∙ ap (λ (f : Forest). C ++ rows (push (push (on end (s .atom)) (s .front)) f)) (index-of e .only)
+  index-text e = s .node-of .text ∙ ap (λ (f : Forest). C ++ rows (push before-last f)) (index-of e .only)
 
   index-small : (e : getD S (i - 6) 0 ≡ Word.Index) → Small (index-of e .expr)
   index-small e = kid-small (s .node-of .kids) (index-of e .expr) (index-of e .only) (s .node-of .smalls)
 
+  -- with the expression, and the expression alone
   pub index-trees : getD S (i - 6) 0 ≡ Word.Index → Trees C (take (i - 6) S) (getD S (i - 4) 0 / 256 + 1)
-  unfolding start-row width SmallRow
+  unfolding width SmallRow
   index-trees e =
-      let a = start-width in
-      record { row = on start-row (index-of e .expr); many = omega arith; small = (start-small, index-small e); text = index-text e }
+      let a = wide in
+      record { row = on before-last (index-of e .expr); many = omega arith; small = (all-small, index-small e); text = index-text e }
 
-  -- the expression alone, and then the rest
-  pub index-first : (e : getD S (i - 6) 0 ≡ Word.Index) → Trees (C ++ rows (push (on end (s .atom)) (s .front))) (take (i - 6) S) 1
+  pub index-first : (e : getD S (i - 6) 0 ≡ Word.Index) → Trees (C ++ rows before-last) (take (i - 6) S) 1
   unfolding width SmallRow rows
   index-first e =
       record { row = on end (index-of e .expr); many = refl; small = (tt, index-small e); text = index-text e ∙ rw append-assoc }
-
-  pub index-second : (j : ℕ) → take j S ≡ C ++ rows (push (on end (s .atom)) (s .front)) → Trees C (take j S) (getD S (i - 4) 0 / 256)
-  unfolding start-row
-  index-second j e = record { row = start-row; many = start-width ∙ sym how-many; small = start-small; text = e }
 
 -- the top of a row is an access
 module _ {m : Maybe Tree} {B S : List ℕ} {i : ℕ} {Y : List ℕ} (x : View m B S i Y) where
@@ -190,10 +189,10 @@ module _ {m : Maybe Tree} {B S : List ℕ} {i : ℕ} {Y : List ℕ} (x : View m 
   top-text = x .whole ∙ rw append-assoc
 
   pub no-top : conv (x .tree) pattern ≡ nothing → m ≡ nothing
-  no-top e = none-of m (x .same ∙ lost (x .under) (x .tree) Y e)
+  no-top e = none-of m (x .same ∙ none-on-top (x .under) (x .tree) Y e)
 
-  pub off-top : {T : List ℕ} (p : Tree) → conv (x .tree) pattern ≡ just p → T ≡ B ++ rows (x .under) → Ahead m B T (records p ++ Y)
-  off-top p e t = record { row = x .under; small = x .rest; text = t; same = x .same ∙ took (x .under) (x .tree) Y p e }
+  pub top-passed : {T : List ℕ} (p : Tree) → conv (x .tree) pattern ≡ just p → T ≡ B ++ rows (x .under) → Ahead m B T (records p ++ Y)
+  top-passed p e t = record { row = x .under; small = x .rest; text = t; same = x .same ∙ pattern-on-top (x .under) (x .tree) Y p e }
 
   pub top-pat : (m ≡ nothing → ⊥) → Is (conv (x .tree) pattern)
   top-pat d = go (conv (x .tree) pattern) refl
@@ -202,6 +201,6 @@ module _ {m : Maybe Tree} {B S : List ℕ} {i : ℕ} {Y : List ℕ} (x : View m 
       go nothing e = absurd (d (no-top e))
       go (just p) e = record { what = p; same = e }
 
-pub top-prim : {m : Maybe Tree} {B S : List ℕ} {i : ℕ} {Y : List ℕ} → i ≤ length S → (x : View m B S i Y) → getD S (i - 2) 0 ≡ Word.Primary → Receives (B ++ rows (x .under)) S i (x .tree)
+pub top-primary : {m : Maybe Tree} {B S : List ℕ} {i : ℕ} {Y : List ℕ} → i ≤ length S → (x : View m B S i Y) → getD S (i - 2) 0 ≡ Word.Primary → Receives (B ++ rows (x .under)) S i (x .tree)
 unfolding rows
-top-prim {B = B} {S = S} {i = i} h x e = prim (B ++ rows (x .under)) S i (x .tree) h (x .small) (top-text x) e
+top-primary {B = B} {S = S} {i = i} h x e = primary-at (B ++ rows (x .under)) S i (x .tree) h (x .small) (top-text x) e

@@ -1,6 +1,5 @@
 -- What the definition makes of a node, told from the first word of its record. Assumes nothing.
 use mathlib.Core.Path.{_≡_, refl, sym, ap, _∙_}
-use mathlib.Core.Bool.{Bool, true, false}
 use mathlib.Core.List.{List, _∷_, _++_, append-assoc, append-nil}
 use Prim.Native.Nat.{ℕ, suc, _+_, _*_, _%_, _≤_, _<_}
 use native.Mathlib.Omega.{arith}
@@ -12,11 +11,8 @@ use Rattle.tree.specs.Records.{Small, Smalls}
 use Rattle.tree.specs.Rows.{Row, end, on, rows, push, rows-push}
 use Rattle.tree.specs.Maybe.{Maybe, nothing, just, bindM, both}
 use Rattle.grammar.specs.Reading.Pattern.{Role, pattern, members, maybe, over, grouped, listed, last-of, front-of, receiver, by-item, by-path, conv, all-conv}
+use Rattle.grammar.specs.Laws.Facts.{by-test}
 use Rattle.pattern.specs.Word
-
-pub by-test : {P : Type 0} (b : Bool) → (b ≡ true → P) → (b ≡ false → P) → P
-by-test true f g = f refl
-by-test false f g = g refl
 
 -- the children that are patterns are as many as the children
 abbrev Counted : Maybe Forest → ℕ → Type 0
@@ -45,17 +41,33 @@ only-one : (h : Forest → Maybe Tree) (m : Maybe Tree) → bindM (both more m (
 only-one h nothing = refl
 only-one h (just p) = refl
 
+-- what a first word tells: of no children, and of one
+childless : (n k : ℕ) (f : Forest) → n < 256 → k + 256 * count f ≡ n → (f ≡ none) × (k ≡ n)
+unfolding count
+childless n k none l e = (refl, omega arith)
+childless n k (more t f) l e = absurd (omega arith)
+
+record Single (n k : ℕ) (f : Forest) : Type 0 where
+  kid : Tree
+  only : f ≡ one kid
+  kind : k ≡ n
+
+single : (n k : ℕ) (f : Forest) → n < 256 → k < 256 → k + 256 * count f ≡ n + 256 → Single n k f
+unfolding count
+single n k none l m e = absurd (omega arith)
+single n k (more u none) l m e = record { kid = u; only = refl; kind = omega arith }
+single n k (more t (more u f)) l m e = absurd (omega arith)
+
 -- an Identifier
 pub record Ident (k v : ℕ) (f : Forest) : Type 0 where
   pub bare : f ≡ none
   pub is : conv (node k v f) pattern ≡ just (node NodeKind.IdentifierPattern v none)
 
-pub ident : (k v : ℕ) (f : Forest) → k < 256 → k + 256 * count f ≡ Word.Identifier → Ident k v f
-unfolding conv count
-ident k v none h e =
-    let q : k ≡ NodeKind.Identifier = omega arith in
-    record { bare = refl; is = rw q }
-ident k v (more t f) h e = absurd (omega arith)
+pub ident : (k v : ℕ) (f : Forest) → k + 256 * count f ≡ Word.Identifier → Ident k v f
+unfolding conv
+ident k v f e =
+    let c = childless Word.Identifier k f (lit< tt) e in
+    record { bare = c .0; is = rw (c .0, c .1) }
 
 -- a Group, an Unpack, a Tuple: a node over one child, in the role o, and what is made of the child's pattern
 pub record Over (o : Role) (h : Forest → Maybe Tree) (k v : ℕ) (f : Forest) : Type 0 where
@@ -64,12 +76,10 @@ pub record Over (o : Role) (h : Forest → Maybe Tree) (k v : ℕ) (f : Forest) 
   pub is : conv (node k v f) pattern ≡ bindM (conv kid o) (λ p. h (one p))
 
 over-one : (o : Role) (h : Forest → Maybe Tree) (n k v : ℕ) (f : Forest) → n < 256 → ((u : Tree) → conv (node n v (one u)) pattern ≡ bindM (both more (conv u o) (just none)) h) → k < 256 → k + 256 * count f ≡ n + 256 → Over o h k v f
-unfolding count
-over-one o h n k v none l is m e = absurd (omega arith)
-over-one o h n k v (more u none) l is m e =
-    let q : k ≡ n = omega arith in
-    record { kid = u; only = refl; is = rw q (is u ∙ only-one h (conv u o)) }
-over-one o h n k v (more t (more u f)) l is m e = absurd (omega arith)
+over-one o h n k v f l is m e = go (single n k f l m e)
+  where
+    go : Single n k f → Over o h k v f
+    go s = record { kid = s .kid; only = s .only; is = rw (s .only, s .kind) (is (s .kid) ∙ only-one h (conv (s .kid) o)) }
 
 pub group : (k v : ℕ) (f : Forest) → k < 256 → k + 256 * count f ≡ Word.Group → Over pattern (grouped v) k v f
 unfolding conv
@@ -85,11 +95,10 @@ tuple k v f = over-one members (over NodeKind.TuplePattern) NodeKind.Tuple k v f
 
 -- what an Unpack has: nothing, or an expression
 pub absent : (k v : ℕ) (f : Forest) → k + 256 * count f ≡ Word.Absent → (f ≡ none) × (conv (node k v f) maybe ≡ just (node NodeKind.Absent v none))
-unfolding conv count
-absent k v none e =
-    let q : k ≡ NodeKind.Absent = omega arith in
-    (refl, rw q)
-absent k v (more t f) e = absurd (omega arith)
+unfolding conv
+absent k v f e =
+    let c = childless Word.Absent k f (lit< tt) e in
+    (c .0, rw (c .0, c .1))
 
 pub present : (k v : ℕ) (f : Forest) → (k + 256 * count f ≡ Word.Absent → ⊥) → conv (node k v f) maybe ≡ conv (node k v f) pattern
 unfolding conv count
@@ -175,12 +184,10 @@ some-path v a k w (more t f) h m l =
     record { front = front-of t f; last = last-of t f; kind = q; many = count-front t f; split = split-of t f; small = small-split t f; is = rw q }
 
 -- the last item
-pub attribute-is : (to : Tree) (k x : ℕ) (f : Forest) → k < 256 → k + 256 * count f ≡ Word.Attribute → (f ≡ none) × (by-item to (node k x f) ≡ just (node NodeKind.AttributePattern x (one to)))
-unfolding count
-attribute-is to k x none h e =
-    let q : k ≡ NodeKind.Attribute = omega arith in
-    (refl, rw q)
-attribute-is to k x (more t f) h e = absurd (omega arith)
+pub attribute-is : (to : Tree) (k x : ℕ) (f : Forest) → k + 256 * count f ≡ Word.Attribute → (f ≡ none) × (by-item to (node k x f) ≡ just (node NodeKind.AttributePattern x (one to)))
+attribute-is to k x f e =
+    let c = childless Word.Attribute k f (lit< tt) e in
+    (c .0, rw (c .0, c .1))
 
 pub record Index (to : Tree) (k x : ℕ) (f : Forest) : Type 0 where
   pub expr : Tree
@@ -188,12 +195,10 @@ pub record Index (to : Tree) (k x : ℕ) (f : Forest) : Type 0 where
   pub is : by-item to (node k x f) ≡ just (node NodeKind.IndexPattern 0 (two to expr))
 
 pub index-is : (to : Tree) (k x : ℕ) (f : Forest) → k < 256 → k + 256 * count f ≡ Word.Index → Index to k x f
-unfolding count
-index-is to k x none h e = absurd (omega arith)
-index-is to k x (more u none) h e =
-    let q : k ≡ NodeKind.Index = omega arith in
-    record { expr = u; only = refl; is = rw q }
-index-is to k x (more t (more u f)) h e = absurd (omega arith)
+index-is to k x f h e = go (single NodeKind.Index k f (lit< tt) h e)
+  where
+    go : Single NodeKind.Index k f → Index to k x f
+    go s = record { expr = s .kid; only = s .only; is = rw (s .only, s .kind) }
 
 pub no-item : (to : Tree) (k x : ℕ) (f : Forest) → (k + 256 * count f ≡ Word.Attribute → ⊥) → (k + 256 * count f ≡ Word.Index → ⊥) → by-item to (node k x f) ≡ nothing
 unfolding count
@@ -256,17 +261,17 @@ abbrev pub wordsM : Maybe Tree → Maybe (List ℕ)
 wordsM nothing = nothing
 wordsM (just p) = just (records p)
 
-pub took : (r : Row) (t : Tree) (Y : List ℕ) (p : Tree) → conv t pattern ≡ just p → wordsR (convR (on r t)) Y ≡ wordsR (convR r) (records p ++ Y)
+pub pattern-on-top : (r : Row) (t : Tree) (Y : List ℕ) (p : Tree) → conv t pattern ≡ just p → wordsR (convR (on r t)) Y ≡ wordsR (convR r) (records p ++ Y)
 unfolding convR rows
-took r t Y p e = rw e (go (convR r))
+pattern-on-top r t Y p e = rw e (go (convR r))
   where
     go : (m : Maybe Row) → wordsR (both on m (just p)) Y ≡ wordsR m (records p ++ Y)
     go nothing = refl
     go (just q) = ap just (append-assoc (rows q) (records p) Y)
 
-pub lost : (r : Row) (t : Tree) (Y : List ℕ) → conv t pattern ≡ nothing → wordsR (convR (on r t)) Y ≡ nothing
+pub none-on-top : (r : Row) (t : Tree) (Y : List ℕ) → conv t pattern ≡ nothing → wordsR (convR (on r t)) Y ≡ nothing
 unfolding convR
-lost r t Y e = rw e (go (convR r))
+none-on-top r t Y e = rw e (go (convR r))
   where
     go : (m : Maybe Row) → wordsR (both on m nothing) Y ≡ nothing
     go nothing = refl

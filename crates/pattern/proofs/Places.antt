@@ -8,28 +8,20 @@ use native.Mathlib.Nat.{le-trans}
 use borrow.Author.Tests.{eqb-true, eqb-false}
 use lib.Dec.{eqb}
 use lib.ListN.{length, take, drop, getD, length-append, length-drop}
-use lib.Seq.{take-take, take-at, drop-at, take-add, length-take-le}
+use lib.Seq.{take-take, take-at, drop-at, length-take-le}
 use Rattle.tree.specs.NodeKind
 use Rattle.tree.specs.Tree.{Tree, Forest, node, one, two, count, records}
 use Rattle.tree.specs.Rows.{end, on, rows, push, Starts, rows-push}
 use Rattle.tree.specs.Maybe.{Maybe, nothing, just}
+use Rattle.tree.specs.Written.{drop-take}
 use Rattle.grammar.specs.Reading.Pattern.{pattern, receiver, conv, to-pattern}
+use Rattle.grammar.specs.Laws.Facts.{by-test}
 use Rattle.pattern.specs.Word
 use Rattle.pattern.specs.Contract.{Is, Put, Right, Left, Fit, Stands, Access, Placed, Over, over-as, over-words, has-members}
-use Rattle.pattern.proofs.Conv.{by-test, wordsM}
+use Rattle.pattern.proofs.Lists.{keep}
+use Rattle.pattern.proofs.Conv.{wordsM}
 use Rattle.pattern.proofs.Steps.{Ahead, View, all-read, no-pattern, some-members, unpack-room, unpack-absent, unpack-other, tuple-room, tuple-step, tuple-none}
-use Rattle.pattern.proofs.Access.{top-text, top-pat, off-top, Receives, prim, Shape, shape-of, path-none, no-item-step, attribute-pat, attribute-text, index-of, index-pat, index-text}
-
--- a part of a list, told from its front and from its end
-drop-take : (S : List ℕ) (w to : ℕ) → w ≤ to → to ≤ length S → drop w (take to S) ≡ take (to - w) (drop w S)
-drop-take S w to h l =
-    let e : to ≡ w + (to - w) = omega arith in
-    let parts : take to S ≡ take w S ++ take (to - w) (drop w S) = ap (λ (n : ℕ). take n S) e ∙ take-add w (to - w) S in
-    ap (drop w) parts ∙ drop-at (take w S) (take (to - w) (drop w S)) w (length-take-le w S (omega arith))
-
--- what stands before a place that was written
-keep : (n at : ℕ) (S S′ : List ℕ) → n ≤ at → take at S′ ≡ take at S → take n S′ ≡ take n S
-keep n at S S′ h e = sym (take-take n at S′ h) ∙ ap (take n) e ∙ take-take n at S h
+use Rattle.pattern.proofs.Access.{top-text, top-pat, top-passed, Receives, primary-at, Shape, shape-of, path-none, before-last, no-item-step, attribute-pat, attribute-text, index-of, index-pat, index-text}
 
 module _ {at word value : ℕ} {S S′ : List ℕ} (p : Put at word value S S′) where
   before-put : (n : ℕ) → n ≤ at → take n S′ ≡ take n S
@@ -61,7 +53,7 @@ module _ {B : List ℕ} {p : Tree} {S : List ℕ} {i w : ℕ} (a : Access B p S 
 
   pub sure-shape : Shape B S i (a .tree)
   unfolding rows
-  sure-shape = shape-from reach (prim B S i (a .tree) reach (a .small) (a .text) (a .kind)) (a .same)
+  sure-shape = shape-from reach (primary-at B S i (a .tree) reach (a .small) (a .text) (a .kind)) (a .same)
 
   pub sure-index : (getD S (i - 6) 0 ≡ Word.Attribute → ⊥) → getD S (i - 6) 0 ≡ Word.Index
   sure-index n =
@@ -93,11 +85,11 @@ module _ {B : List ℕ} {p : Tree} {S : List ℕ} {i w : ℕ} (a : Access B p S 
       let sh = sure-shape a in
       let at = s .at in
       let same : take (i - 6) S₃ ≡ take (i - 6) S = before-put p₃ (i - 6) (omega arith) ∙ before-put p₂ (i - 6) (omega arith) ∙ before-put p₁ (i - 6) (omega arith) in
-      let text : drop r (take (i - 6) S₃) ≡ rows (push (on end (sh .atom)) (sh .front)) = ap (drop r) (same ∙ attribute-text sh e) ∙ drop-at B (rows (push (on end (sh .atom)) (sh .front))) r (sym at) in
-      let words : drop (r + (w - i)) S₄ ≡ rows (push (on end (sh .atom)) (sh .front)) ++ (NodeKind.List + 256 * count (sh .front)) ∷ sh .w ∷ Word.Primary ∷ sh .v ∷ Word.AttributePattern ∷ getD S (i - 5) 0 ∷ drop w S
+      let text : drop r (take (i - 6) S₃) ≡ rows (before-last sh) = ap (drop r) (same ∙ attribute-text sh e) ∙ drop-at B (rows (before-last sh)) r (sym at) in
+      let words : drop (r + (w - i)) S₄ ≡ rows (before-last sh) ++ (NodeKind.List + 256 * count (sh .front)) ∷ sh .w ∷ Word.Primary ∷ sh .v ∷ Word.AttributePattern ∷ getD S (i - 5) 0 ∷ drop w S
       = right-then m (r + (w - i)) (w - 6) refl (omega arith)
       ∙ ap (λ (l : List ℕ). l ++ drop (w - 6) S₃) text
-      ∙ ap (λ (l : List ℕ). rows (push (on end (sh .atom)) (sh .front)) ++ l)
+      ∙ ap (λ (l : List ℕ). rows (before-last sh) ++ l)
       (put-then p₃ (w - 4) (omega arith)
       ∙ ap (λ (l : List ℕ). (getD S (i - 4) 0 - 256) ∷ getD S (i - 3) 0 ∷ l)
       (put-then p₂ (w - 2) (omega arith) ∙ ap (λ (l : List ℕ). Word.Primary ∷ getD S (i - 1) 0 ∷ l) (put-then p₁ w (omega arith)))
@@ -110,14 +102,14 @@ module _ {B : List ℕ} {p : Tree} {S : List ℕ} {i w : ℕ} (a : Access B p S 
             ∙ ap (λ (t : Tree). records t ++ drop w S) (same-pat (conv (a .tree) pattern) (a .same) (attribute-pat sh e));
       }
 
-  pub index-placed : {S₁ S₂ S₃ S₄ S₅ : List ℕ} {r q : ℕ} → (e : getD S (i - 6) 0 ≡ Word.Index) → Starts B S r → Starts (B ++ rows (push (on end (sure-shape a .atom)) (sure-shape a .front))) S q
+  pub index-placed : {S₁ S₂ S₃ S₄ S₅ : List ℕ} {r q : ℕ} → (e : getD S (i - 6) 0 ≡ Word.Index) → Starts B S r → Starts (B ++ rows (before-last (sure-shape a))) S q
       → Put (w - 2) Word.IndexPattern 0 S S₁ → Right q (i - 6) (w - i + 4) S₁ S₂ → Put (q + (w - i) + 2) Word.Primary (getD S (i - 1) 0) S₂ S₃ → Put (q + (w - i)) (getD S (i - 4) 0 - 256) (getD S (i - 3) 0) S₃ S₄ → Right r q (w - i) S₄ S₅
       → q ≤ i - 6
       → Placed B p S i w r S₅
   unfolding rows
   index-placed {S₁ = S₁} {S₂ = S₂} {S₃ = S₃} {S₄ = S₄} {S₅ = S₅} {r = r} {q = q} e s t p₁ m₁ p₂ p₃ m₂ le₆ =
       let sh = sure-shape a in
-      let X = rows (push (on end (sh .atom)) (sh .front)) in
+      let X = rows (before-last sh) in
       let u = index-of sh e .expr in
       let at = s .at in
       let at′ = t .at in
@@ -163,7 +155,7 @@ pub go-access : {m : Maybe Tree} {B S S′ Y : List ℕ} (Z : List ℕ) {i w r :
 go-access {S′ = S′} {Y = Y} Z {r = r} {p = p} x e d q =
     record {
       ahead = records p ++ Y;
-      left = off-top x p e (q .head);
+      left = top-passed x p e (q .head);
       done = q .tail ∙ ap (λ (l : List ℕ). records p ++ l) d ∙ sym (append-assoc (records p) Y Z);
     }
 

@@ -14,9 +14,10 @@ use Rattle.tree.specs.Records.{Small, Smalls}
 use Rattle.tree.specs.Rows.{Row, end, on, rows, width, SmallRow, push, rows-push, small-push, rows-long, top}
 use Rattle.tree.specs.Maybe.{Maybe, nothing, just, bindM, both}
 use Rattle.grammar.specs.Reading.Pattern.{pattern, maybe, members, over, modified, grouped, listed, conv, all-conv, to-pattern}
+use Rattle.grammar.specs.Laws.Facts.{by-test}
 use Rattle.pattern.specs.Word
 use Rattle.pattern.specs.Contract.{Is, Whole, has-members}
-use Rattle.pattern.proofs.Conv.{by-test, ident, Over, group, unpack, absent, present, tuple, list-is, not-list, no-members, other, convR, wordsR, wordsM, took, lost, same-as, wrapped, tupled}
+use Rattle.pattern.proofs.Conv.{ident, Over, group, unpack, absent, present, tuple, list-is, not-list, no-members, other, convR, wordsR, wordsM, pattern-on-top, none-on-top, same-as, wrapped, tupled}
 
 -- the words T are B and trees that are to be patterns, Y is what follows them, and all of that is the pattern m
 pub record Ahead (m : Maybe Tree) (B T Y : List ℕ) : Type 0 where
@@ -89,7 +90,7 @@ none-of nothing e = refl
 none-of (just p) e = absurd (let z : _≡_ {A = ℕ} 0 1 = cc in omega arith)
 
 failed : {m : Maybe Tree} {B S : List ℕ} {i : ℕ} {Y : List ℕ} → (x : View m B S i Y) → conv (node (x .here .kind) (x .here .val) (x .here .kids)) pattern ≡ nothing → m ≡ nothing
-failed {m = m} {Y = Y} x e = none-of m (x .same ∙ lost (x .under) (x .tree) Y (ap (λ (t : Tree). conv t pattern) (x .here .shape) ∙ e))
+failed {m = m} {Y = Y} x e = none-of m (x .same ∙ none-on-top (x .under) (x .tree) Y (ap (λ (t : Tree). conv t pattern) (x .here .shape) ∙ e))
 
 -- where the row has ended
 row-end : (m : Maybe Tree) (B S : List ℕ) (i : ℕ) (Y : List ℕ) (row : Row) → i ≤ length S → i ≤ length B → take i S ≡ B ++ rows row → wordsM m ≡ wordsR (convR row) Y → wordsM m ≡ just Y
@@ -135,12 +136,12 @@ module _ {m : Maybe Tree} {B S : List ℕ} {i : ℕ} {Y : List ℕ} (x : View m 
   unfolding push records count
   ident-step e =
       let n = x .here in
-      let j = ident (n .kind) (n .val) (n .kids) (n .less) (word-is e) in
+      let j = ident (n .kind) (n .val) (n .kids) (word-is e) in
       record {
         row = x .under;
         small = x .rest;
         text = n .text ∙ rw (j .bare);
-        same = same-here ∙ took (x .under) (node (n .kind) (n .val) (n .kids)) Y (node NodeKind.IdentifierPattern (n .val) none) (j .is) ∙ rw (n .value);
+        same = same-here ∙ pattern-on-top (x .under) (node (n .kind) (n .val) (n .kids)) Y (node NodeKind.IdentifierPattern (n .val) none) (j .is) ∙ rw (n .value);
       }
 
   -- the top's only child takes its place
@@ -148,9 +149,10 @@ module _ {m : Maybe Tree} {B S : List ℕ} {i : ℕ} {Y : List ℕ} (x : View m 
   unfolding push
   kid-text u e = x .here .text ∙ rw e
 
-  kid-row : (u : Tree) → x .here .kids ≡ one u → SmallRow (on (x .under) u)
+  kid-ahead : (u : Tree) (X : List ℕ) → x .here .kids ≡ one u → wordsR (convR (on (x .under) (node (x .here .kind) (x .here .val) (x .here .kids)))) Y ≡ wordsR (convR (on (x .under) u)) X → Ahead m B (take (i - 2) S) X
   unfolding SmallRow
-  kid-row u e = (x .rest, kid-small (x .here .kids) u e (x .here .smalls))
+  kid-ahead u X e w =
+      record { row = on (x .under) u; small = (x .rest, kid-small (x .here .kids) u e (x .here .smalls)); text = kid-text u e; same = same-here ∙ w }
 
   group-of : getD S (i - 2) 0 ≡ Word.Group → Over pattern (grouped (x .here .val)) (x .here .kind) (x .here .val) (x .here .kids)
   group-of e = group (x .here .kind) (x .here .val) (x .here .kids) (x .here .less) (word-is e)
@@ -166,12 +168,8 @@ module _ {m : Maybe Tree} {B S : List ℕ} {i : ℕ} {Y : List ℕ} (x : View m 
       let n = x .here in
       let g = group-of e in
       let v : n .val ≡ 0 = sym (n .value) ∙ z in
-      record {
-        row = on (x .under) (g .kid);
-        small = kid-row (g .kid) (g .only);
-        text = kid-text (g .kid) (g .only);
-        same = same-here ∙ same-as (x .under) (node (n .kind) (n .val) (n .kids)) (g .kid) Y (g .is ∙ ap (λ (v : ℕ). bindM (conv (g .kid) pattern) (λ p. just (modified v p))) v ∙ go (conv (g .kid) pattern));
-      }
+      kid-ahead (g .kid) Y (g .only)
+      (same-as (x .under) (node (n .kind) (n .val) (n .kids)) (g .kid) Y (g .is ∙ ap (λ (v : ℕ). bindM (conv (g .kid) pattern) (λ p. just (modified v p))) v ∙ go (conv (g .kid) pattern)))
     where
       go : (c : Maybe Tree) → bindM c (λ p. just p) ≡ c
       go nothing = refl
@@ -183,12 +181,8 @@ module _ {m : Maybe Tree} {B S : List ℕ} {i : ℕ} {Y : List ℕ} (x : View m 
       let g = group-of e in
       let y = n .value in
       let v : n .val ≡ suc (getD S (i - 1) 0 - 1) = omega arith in
-      record {
-        row = on (x .under) (g .kid);
-        small = kid-row (g .kid) (g .only);
-        text = kid-text (g .kid) (g .only);
-        same = same-here ∙ wrapped (x .under) (node (n .kind) (n .val) (n .kids)) (g .kid) NodeKind.Modifier (getD S (i - 1) 0 - 1) Y (g .is ∙ ap (λ (v : ℕ). bindM (conv (g .kid) pattern) (λ p. just (modified v p))) v);
-      }
+      kid-ahead (g .kid) _ (g .only)
+      (wrapped (x .under) (node (n .kind) (n .val) (n .kids)) (g .kid) NodeKind.Modifier (getD S (i - 1) 0 - 1) Y (g .is ∙ ap (λ (v : ℕ). bindM (conv (g .kid) pattern) (λ p. just (modified v p))) v))
 
   pub no-pattern : (getD S (i - 2) 0 ≡ Word.Identifier → ⊥) → (getD S (i - 2) 0 ≡ Word.Group → ⊥) → (getD S (i - 2) 0 ≡ Word.Unpack → ⊥) → (getD S (i - 2) 0 ≡ Word.Tuple → ⊥) → (getD S (i - 2) 0 ≡ Word.Primary → ⊥) → m ≡ nothing
   no-pattern a b c d e =
@@ -230,7 +224,7 @@ module _ {m : Maybe Tree} {B S : List ℕ} {i : ℕ} {Y : List ℕ} (h : i ≤ l
         row = x .under;
         small = x .rest;
         text = k .text ∙ rw (a .0);
-        same = same-here x ∙ took (x .under) (node (n .kind) (n .val) (n .kids)) Y (node NodeKind.Pack 0 (one (node NodeKind.Absent (k .val) none))) c ∙ rw (k .value);
+        same = same-here x ∙ pattern-on-top (x .under) (node (n .kind) (n .val) (n .kids)) Y (node NodeKind.Pack 0 (one (node NodeKind.Absent (k .val) none))) c ∙ rw (k .value);
       }
 
   pub unpack-other : getD S (i - 2) 0 ≡ Word.Unpack → (getD S (i - 4) 0 ≡ Word.Absent → ⊥) → Ahead m B (take (i - 2) S) (Word.Pack ∷ 0 ∷ Y)
@@ -239,12 +233,8 @@ module _ {m : Maybe Tree} {B S : List ℕ} {i : ℕ} {Y : List ℕ} (h : i ≤ l
       let g = unpack-of x e in
       let k = kid-node (g .kid) (g .only) in
       let a : conv (g .kid) maybe ≡ conv (g .kid) pattern = ap (λ (t : Tree). conv t maybe) (k .shape) ∙ present (k .kind) (k .val) (k .kids) (λ q. z (k .word ∙ q)) ∙ sym (ap (λ (t : Tree). conv t pattern) (k .shape)) in
-      record {
-        row = on (x .under) (g .kid);
-        small = kid-row x (g .kid) (g .only);
-        text = kid-text x (g .kid) (g .only);
-        same = same-here x ∙ wrapped (x .under) (node (n .kind) (n .val) (n .kids)) (g .kid) NodeKind.Pack 0 Y (g .is ∙ ap (λ (t : Maybe Tree). bindM t (λ p. just (node NodeKind.Pack 0 (one p)))) a);
-      }
+      kid-ahead x (g .kid) _ (g .only)
+      (wrapped (x .under) (node (n .kind) (n .val) (n .kids)) (g .kid) NodeKind.Pack 0 Y (g .is ∙ ap (λ (t : Maybe Tree). bindM t (λ p. just (node NodeKind.Pack 0 (one p)))) a))
 
   pub tuple-room : getD S (i - 2) 0 ≡ Word.Tuple → length B + 4 ≤ i
   tuple-room e = kid-room (tuple-of x e .kid) (tuple-of x e .only)

@@ -1,31 +1,31 @@
 -- What the proofs of the functions that read lines share: a scan stays sound, and two words more are two stores. Assumes nothing.
 use mathlib.Core.Path.{_≡_, refl, sym, ap, _∙_, subst⁻¹}
 use mathlib.Core.Bool.{Bool, true, false, cond, _&&_, false≢true}
-use mathlib.Core.List.{List, [], _∷_, _++_, append-assoc}
-use Prim.Native.Nat.{ℕ, suc, _+_, _*_, _-_, _≤_, _<_}
+use mathlib.Core.List.{List, [], _∷_, _++_}
+use Prim.Native.Nat.{ℕ, _+_, _*_, _-_, _≤_, _<_}
 use native.Mathlib.Numerals.{add-one}
 use native.Mathlib.Omega.{arith}
 use borrow.Author.Tests.{leb-true, ltb-true, eqb-false, eq-eqb, ne-eqb, lt-ltb}
 use lib.Dec.{leb, eqb}
-use lib.ListN.{length, getD, take, drop, set, length-set, drop-of-length-le}
-use lib.Seq.{take-suc-set, drop-cons}
+use lib.ListN.{length, getD, take, drop, set, length-set, length-append, drop-of-length-le}
+use lib.Seq.{sets-eq, take-at, length-take-le, drop-cons}
 use Rattle.grammar.specs.Laws.Facts.{and-l, and-r}
 use Rattle.treelist.specs.declared.lines.Scan.{Scan}
-use Rattle.treelist.specs.Lines.{text, kind-at, newline-at, value-at, most-lines, is-due, is-digit, at-line, bad, digit, past, kind-end, newline-end, letter, Progress, progress, line-end, step, read, closed, start, Sound, Ready, Comes}
+use Rattle.treelist.specs.Lines.{text, kind-at, newline-at, value-at, most-lines, most-kind, most-newline, is-due, is-digit, at-line, bad, digit, past, number-end, letter, Progress, progress, line-end, step, read, closed, start, Sound, Ready, Comes}
 
-two-more : (l : List ℕ) (i w v : ℕ) → i + 1 < length l → take (suc (i + 1)) (set (set l i w) (i + 1) v) ≡ take i l ++ w ∷ v ∷ []
+-- two words that were stored one after the other
+two-more : (l : List ℕ) (i w v : ℕ) → i + 2 ≤ length l → take (i + 2) (set (set l i w) (i + 1) v) ≡ take i l ++ w ∷ v ∷ []
 two-more l i w v h =
-    let j : i + 1 < length (set l i w) = omega (arith, length-set l i w) in
-    let k : i < length l = omega arith in
-    rw (take-suc-set (set l i w) (i + 1) v, add-one i, take-suc-set l i w, append-assoc)
+    rw add-one (ap (take (i + 2)) (sets-eq (w ∷ v ∷ []) l i h))
+    ∙ take-at (take i l ++ w ∷ v ∷ []) (drop (i + 2) l) (i + 2) (length-append (take i l) (w ∷ v ∷ []) ∙ ap (λ (n : ℕ). n + 2) (length-take-le i l (omega arith)))
 
 -- a line more
 pub added : (s : Scan) (l : List ℕ) → s .at ≡ value-at → s .begun ≡ true → s .lines < most-lines → length l ≡ 2 * most-lines
     → Comes (line-end (progress s l)) (at-line (s .lines + 1)) (set (set l (2 * s .lines) (s .kind + 256 * s .newline)) (2 * s .lines + 1) (s .number))
 unfolding line-end
 added s l e b h w =
-    let d : 2 * (s .lines + 1) ≡ suc (2 * s .lines + 1) = omega arith in
-    let k : 2 * s .lines + 1 < length l = omega arith in
+    let d : 2 * (s .lines + 1) ≡ 2 * s .lines + 2 = omega arith in
+    let k : 2 * s .lines + 2 ≤ length l = omega arith in
     record {
       reading = rw (eq-eqb _ _ e, b, lt-ltb _ _ h, d, two-more l (2 * s .lines) (s .kind + 256 * s .newline) (s .number));
       whole = simp length-set w;
@@ -61,16 +61,15 @@ module _ (s : Scan) (h : Sound s) where
       (λ t. record { lines = h .lines; at = h .at; kind = h .kind; newline = h .newline })
       (λ t. not-sound)
 
-  past-sound : (k n : ℕ) → k ≤ 76 → n ≤ 1 → s .at < value-at → Sound (past s k n)
+  past-sound : (k n : ℕ) → k ≤ most-kind → n ≤ most-newline → s .at < value-at → Sound (past s k n)
   past-sound k n a b l = record { lines = h .lines; at = omega arith; kind = a; newline = b }
 
-  kind-sound : s .at < value-at → Sound (kind-end s)
-  unfolding kind-end
-  kind-sound l = on Sound _ (λ t. past-sound _ _ (leb-true _ _ (and-r (s .begun) (leb (s .number) 76) t)) (h .newline) l) (λ t. not-sound)
-
-  newline-sound : s .at < value-at → Sound (newline-end s)
-  unfolding newline-end
-  newline-sound l = on Sound _ (λ t. past-sound _ _ (h .kind) (leb-true _ _ (and-r (s .begun) (leb (s .number) 1) t)) l) (λ t. not-sound)
+  number-sound : (most k n : ℕ) → (s .number ≤ most → k ≤ most-kind) → (s .number ≤ most → n ≤ most-newline) → s .at < value-at → Sound (number-end s most k n)
+  unfolding number-end
+  number-sound most k n a b l =
+      on Sound _
+      (λ t. let m : s .number ≤ most = leb-true _ _ (and-r (s .begun) (leb (s .number) most) t) in past-sound k n (a m) (b m) l)
+      (λ t. not-sound)
 
   within : eqb (s .at) value-at ≡ false → s .at < value-at
   within t = let n : (s .at ≡ value-at → ⊥) = eqb-false _ _ t in omega (arith, h .at)
@@ -80,8 +79,8 @@ module _ (s : Scan) (h : Sound s) where
   letter-sound byte =
       on Sound (eqb (s .at) value-at) (λ t. not-sound) λ u.
       on Sound (eqb (getD text (s .at) 0) byte)
-      (λ t. on Sound (eqb (s .at) kind-at) (λ t. kind-sound (within u)) λ t.
-      on Sound (eqb (s .at) newline-at) (λ t. newline-sound (within u)) λ t.
+      (λ t. on Sound (eqb (s .at) kind-at) (λ t. number-sound _ _ _ (λ m. m) (λ m. h .newline) (within u)) λ t.
+      on Sound (eqb (s .at) newline-at) (λ t. number-sound _ _ _ (λ m. h .kind) (λ m. m) (within u)) λ t.
       past-sound _ _ (h .kind) (h .newline) (within u))
       (λ t. not-sound)
 
@@ -94,13 +93,17 @@ module _ (s : Scan) where
   unfolding digit
   digit-lines d = on Same (leb (10 * s .number + d) 18446744073709551615) (λ t. refl) (λ t. refl)
 
+  number-lines : (most k n : ℕ) → Same (number-end s most k n)
+  unfolding number-end
+  number-lines most k n = on Same (s .begun && leb (s .number) most) (λ t. refl) (λ t. refl)
+
   letter-lines : (byte : ℕ) → Same (letter s byte)
-  unfolding letter kind-end newline-end
+  unfolding letter
   letter-lines byte =
       on Same (eqb (s .at) value-at) (λ t. refl) λ t.
       on Same (eqb (getD text (s .at) 0) byte)
-      (λ t. on Same (eqb (s .at) kind-at) (λ t. on Same (s .begun && leb (s .number) 76) (λ t. refl) (λ t. refl)) λ t.
-      on Same (eqb (s .at) newline-at) (λ t. on Same (s .begun && leb (s .number) 1) (λ t. refl) (λ t. refl)) (λ t. refl))
+      (λ t. on Same (eqb (s .at) kind-at) (λ t. number-lines _ _ _) λ t.
+      on Same (eqb (s .at) newline-at) (λ t. number-lines _ _ _) (λ t. refl))
       (λ t. refl)
 
 abbrev Sounds : Progress → Type 0
@@ -155,21 +158,15 @@ module _ (s : Scan) (sheet : List ℕ) (byte : ℕ) where
         (yes (λ q. Comes q r after) (eqb byte 10) _ _ (eq-eqb byte 10 e) c)
 
     module _ (n : byte ≡ 10 → ⊥) (w : length sheet ≡ 2 * most-lines) where
-      pub digit-step : is-digit (s .at) byte ≡ true → Comes (step (progress s sheet) byte) (digit s (byte - 48)) sheet
+      within-line : {r : Scan} → Comes (cond (is-digit (s .at) byte) (record { scan = digit s (byte - 48); words = take (2 * s .lines) sheet }) (record { scan = letter s byte; words = take (2 * s .lines) sheet })) r sheet → Comes (step (progress s sheet) byte) r sheet
       unfolding step
-      digit-step d =
-          let r : Scan = digit s (byte - 48) in
-          no (λ q. Comes q r sheet) (s .malformed) _ _ m
-          (no (λ q. Comes q r sheet) (eqb byte 10) _ _ (ne-eqb byte 10 n)
-          (yes (λ q. Comes q r sheet) (is-digit (s .at) byte) _ _ d (stays r (digit-lines s (byte - 48)) w)))
+      within-line {r} c = no (λ q. Comes q r sheet) (s .malformed) _ _ m (no (λ q. Comes q r sheet) (eqb byte 10) _ _ (ne-eqb byte 10 n) c)
+
+      pub digit-step : is-digit (s .at) byte ≡ true → Comes (step (progress s sheet) byte) (digit s (byte - 48)) sheet
+      digit-step d = within-line (yes (λ q. Comes q (digit s (byte - 48)) sheet) (is-digit (s .at) byte) _ _ d (stays (digit s (byte - 48)) (digit-lines s (byte - 48)) w))
 
       pub letter-step : is-digit (s .at) byte ≡ false → Comes (step (progress s sheet) byte) (letter s byte) sheet
-      unfolding step
-      letter-step d =
-          let r : Scan = letter s byte in
-          no (λ q. Comes q r sheet) (s .malformed) _ _ m
-          (no (λ q. Comes q r sheet) (eqb byte 10) _ _ (ne-eqb byte 10 n)
-          (no (λ q. Comes q r sheet) (is-digit (s .at) byte) _ _ d (stays r (letter-lines s byte) w)))
+      letter-step d = within-line (no (λ q. Comes q (letter s byte) sheet) (is-digit (s .at) byte) _ _ d (stays (letter s byte) (letter-lines s byte) w))
 
 -- what a function leaves is ready for the next
 

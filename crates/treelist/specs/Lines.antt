@@ -27,6 +27,12 @@ value-at = 22
 abbrev pub most-lines : ℕ
 most-lines = 500
 
+abbrev pub most-kind : ℕ
+most-kind = 76
+
+abbrev pub most-newline : ℕ
+most-newline = 1
+
 abbrev pub is-due : ℕ → Bool
 is-due at = eqb at kind-at || eqb at newline-at || eqb at value-at
 
@@ -53,20 +59,17 @@ digit s d =
 abbrev pub past : Scan → ℕ → ℕ → Scan
 past s k n = record { lines = s .lines; at = s .at + 1; begun = false; number = 0; kind = k; newline = n; malformed = s .malformed }
 
--- the kind is whole, and the newline
-unfoldable pub kind-end : Scan → Scan
-kind-end s = cond (s .begun && leb (s .number) 76) (past s (s .number) (s .newline)) (bad (s .lines))
-
-unfoldable pub newline-end : Scan → Scan
-newline-end s = cond (s .begun && leb (s .number) 1) (past s (s .kind) (s .number)) (bad (s .lines))
+-- a number is whole, of at most so much; the kind and the newline are then these
+unfoldable pub number-end : Scan → ℕ → ℕ → ℕ → Scan
+number-end s most k n = cond (s .begun && leb (s .number) most) (past s k n) (bad (s .lines))
 
 -- a byte that is no digit of a number and no line end
 unfoldable pub letter : Scan → ℕ → Scan
 letter s byte =
     cond (eqb (s .at) value-at) (bad (s .lines))
     (cond (eqb (getD text (s .at) 0) byte)
-    (cond (eqb (s .at) kind-at) (kind-end s)
-    (cond (eqb (s .at) newline-at) (newline-end s)
+    (cond (eqb (s .at) kind-at) (number-end s most-kind (s .number) (s .newline))
+    (cond (eqb (s .at) newline-at) (number-end s most-newline (s .kind) (s .number))
     (past s (s .kind) (s .newline))))
     (bad (s .lines)))
 
@@ -113,8 +116,8 @@ sheet-of input = let p : Progress = closed (read start input) in cond (p .scan .
 pub record Sound (s : Scan) : Type 0 where
   pub lines : s .lines ≤ most-lines
   pub at : s .at ≤ value-at
-  pub kind : s .kind ≤ 76
-  pub newline : s .newline ≤ 1
+  pub kind : s .kind ≤ most-kind
+  pub newline : s .newline ≤ most-newline
 
 -- what a function that goes on reading asks of the scan and of the sheet's array, which has two words for each line
 pub record Ready (s : Scan) (sheet : List ℕ) : Type 0 where
@@ -129,57 +132,57 @@ pub record Comes (p : Progress) (s : Scan) (sheet : List ℕ) : Type 0 where
 -- examples
 
 nothing : sheet-of [] ≡ some []
-unfolding digit kind-end newline-end letter line-end step read closed
+unfolding digit number-end letter line-end step read closed
 nothing = refl
 
 one-line : sheet-of (bytes "token=69 newline=1 value=7\n") ≡ some (325 ∷ 7 ∷ [])
-unfolding digit kind-end newline-end letter line-end step read closed
+unfolding digit number-end letter line-end step read closed
 one-line = refl
 
 no-line-end : sheet-of (bytes "token=11 newline=0 value=0\ntoken=75 newline=1 value=0") ≡ some (11 ∷ 0 ∷ 331 ∷ 0 ∷ [])
-unfolding digit kind-end newline-end letter line-end step read closed
+unfolding digit number-end letter line-end step read closed
 no-line-end = refl
 
 leading-zeros : sheet-of (bytes "token=0069 newline=01 value=007\n") ≡ some (325 ∷ 7 ∷ [])
-unfolding digit kind-end newline-end letter line-end step read closed
+unfolding digit number-end letter line-end step read closed
 leading-zeros = refl
 
 greatest : sheet-of (bytes "token=76 newline=0 value=18446744073709551615\n") ≡ some (76 ∷ 18446744073709551615 ∷ [])
-unfolding digit kind-end newline-end letter line-end step read closed
+unfolding digit number-end letter line-end step read closed
 greatest = refl
 
 too-great : sheet-of (bytes "token=76 newline=0 value=18446744073709551616\n") ≡ none
-unfolding digit kind-end newline-end letter line-end step read closed
+unfolding digit number-end letter line-end step read closed
 too-great = refl
 
 no-kind : sheet-of (bytes "token=77 newline=0 value=0\n") ≡ none
-unfolding digit kind-end newline-end letter line-end step read closed
+unfolding digit number-end letter line-end step read closed
 no-kind = refl
 
 no-newline : sheet-of (bytes "token=1 newline=2 value=0\n") ≡ none
-unfolding digit kind-end newline-end letter line-end step read closed
+unfolding digit number-end letter line-end step read closed
 no-newline = refl
 
 no-digit : sheet-of (bytes "token=1 newline=0 value=\n") ≡ none
-unfolding digit kind-end newline-end letter line-end step read closed
+unfolding digit number-end letter line-end step read closed
 no-digit = refl
 
 sign : sheet-of (bytes "token=1 newline=0 value=+1\n") ≡ none
-unfolding digit kind-end newline-end letter line-end step read closed
+unfolding digit number-end letter line-end step read closed
 sign = refl
 
 blank : sheet-of (bytes "token=1 newline=0 value=1 \n") ≡ none
-unfolding digit kind-end newline-end letter line-end step read closed
+unfolding digit number-end letter line-end step read closed
 blank = refl
 
 carriage-return : sheet-of (bytes "token=1 newline=0 value=1\r\n") ≡ none
-unfolding digit kind-end newline-end letter line-end step read closed
+unfolding digit number-end letter line-end step read closed
 carriage-return = refl
 
 empty-line : sheet-of (bytes "token=1 newline=0 value=1\n\n") ≡ none
-unfolding digit kind-end newline-end letter line-end step read closed
+unfolding digit number-end letter line-end step read closed
 empty-line = refl
 
 half-a-line : sheet-of (bytes "token=1 newline") ≡ none
-unfolding digit kind-end newline-end letter line-end step read closed
+unfolding digit number-end letter line-end step read closed
 half-a-line = refl

@@ -1,8 +1,8 @@
 -- The lines of the listing, as bytes. Definitions; they assume nothing.
-use mathlib.Core.Path.{_≡_, refl}
+use mathlib.Core.Path.{_≡_}
 use mathlib.Core.Bool.{cond}
 use mathlib.Core.List.{List, [], _∷_, _++_}
-use Prim.Native.Nat.{ℕ, zero, suc, _+_, _-_, _*_, _/_, _%_, _≤_}
+use Prim.Native.Nat.{ℕ, zero, suc, _+_, _-_, _/_, _%_, _≤_}
 use lib.Dec.{eqb, ltb}
 use lib.ListN.{length, take}
 use Rattle.treelist.specs.Text.{bytes}
@@ -51,9 +51,3 @@ pub record Put (at most : ℕ) (text before : List ℕ) (r : ℕ) (line : List �
   pub within : r ≤ at + most
   pub start : take r line ≡ take at before ++ text
   pub whole : length line ≡ length before
-
--- examples
-
-operation : node-line (13 + 256 * 2) 3 ≡ bytes "kind=BinaryOp kids=2 value=3\n"
-unfolding decimal-within names behind word
-operation = refl

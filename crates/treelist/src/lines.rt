@@ -1,7 +1,7 @@
 // The lines of a sheet, `token=K newline=N value=V`, read byte by byte into the words of its tokens.
 ghost use mathlib.Core.Path.{_≡_};
 ghost use Prim.Native.Nat.{_<_};
-ghost use Rattle.treelist.specs.Lines.{value-at, Sound, progress, Ready, Comes, at-line as at-line-def, bad, is-due as is-due-def, is-digit as is-digit-def, digit as digit-def, past as past-def, kind-end as kind-end-def, newline-end as newline-end-def, letter as letter-def, line-end as line-end-def, step, read, closed};
+ghost use Rattle.treelist.specs.Lines.{value-at, Sound, progress, Ready, Comes, at-line as at-line-def, bad, is-due as is-due-def, is-digit as is-digit-def, digit as digit-def, past as past-def, number-end as number-end-def, letter as letter-def, line-end as line-end-def, step, read, closed};
 
 // Lines of a sheet, at most.
 const LINES: usize = 500;
@@ -14,6 +14,10 @@ const KIND_AT: usize = 6;
 const NEWLINE_AT: usize = 15;
 
 const VALUE_AT: usize = 22;
+
+const MOST_KIND: u64 = 76;
+
+const MOST_NEWLINE: u64 = 1;
 
 // Where the reading of the lines stands: how many are whole; in the present one how many bytes of the text were met, whether
 // the number that is due has a digit, that number, and the kind and the newline once they are read; whether a line was malformed.
@@ -123,34 +127,18 @@ fn past(scan: Scan, kind: u64, newline: u64) -> Scan
     }
 }
 
-// The kind is whole.
-fn kind_end(scan: Scan) -> Scan
+// A number is whole, of at most so much; the kind and the newline are then these.
+fn number_end(scan: Scan, most: u64, kind: u64, newline: u64) -> Scan
     requires { ⌜ scan .at < value-at ⌝ }
-    ensures { λ r. ⌜ r ≡ kind-end-def scan ⌝ }
+    ensures { λ r. ⌜ r ≡ number-end-def scan most kind newline ⌝ }
 {
-    let number = scan.number;
     if !scan.begun {
         return malformed(scan.lines);
     }
-    if 76 < number {
+    if most < scan.number {
         return malformed(scan.lines);
     }
-    past(scan, number, scan.newline)
-}
-
-// The newline is whole.
-fn newline_end(scan: Scan) -> Scan
-    requires { ⌜ scan .at < value-at ⌝ }
-    ensures { λ r. ⌜ r ≡ newline-end-def scan ⌝ }
-{
-    let number = scan.number;
-    if !scan.begun {
-        return malformed(scan.lines);
-    }
-    if 1 < number {
-        return malformed(scan.lines);
-    }
-    past(scan, scan.kind, number)
+    past(scan, kind, newline)
 }
 
 // A byte that is no digit of a number and no line end: the text must have it.
@@ -167,10 +155,10 @@ fn letter(scan: Scan, byte: u8) -> Scan
         return malformed(scan.lines);
     }
     if at == KIND_AT {
-        return kind_end(scan);
+        return number_end(scan, MOST_KIND, scan.number, scan.newline);
     }
     if at == NEWLINE_AT {
-        return newline_end(scan);
+        return number_end(scan, MOST_NEWLINE, scan.kind, scan.number);
     }
     past(scan, scan.kind, scan.newline)
 }

@@ -1,4 +1,3 @@
-mod Known
 mod Numbers
 mod Laws
 mod Shaping

@@ -6,8 +6,9 @@ use native.Mathlib.Omega.{arith}
 use native.Mathlib.Numerals.{add-one}
 use native.Mathlib.Nat.{add-zero}
 use borrow.Author.Needs.{needs}
-use lib.ListN.{length, take, drop, set, getD, length-set, length-take, drop-of-length-le}
-use lib.Seq.{drop-set-lt, drop-drop, getD-drop, take-suc, take-suc-set, drop-append-le}
+use lib.ListN.{length, take, drop, set, getD, length-set, length-take}
+use lib.Seq.{drop-set-lt, drop-drop, getD-drop, take-suc, take-suc-set, drop-append-le, slice-empty}
+use Rattle.tree.proofs.Known.{known}
 use Rattle.pattern.proofs.move_left.Statement.{statement}
 use Rattle.pattern.proofs.move_left.Tie as tie
 
@@ -24,10 +25,9 @@ Inv-loop store₀ from to by k₀ store k = Moving store₀ from to by store k
 abbrev μ-loop : tie.MeasureT-loop
 μ-loop store₀ from to by k₀ store k = to - k
 
-first : (S : List ℕ) (from to by : ℕ) → from ≤ to → to ≤ length S → Moving S from to by S from
-first S from to by h l =
-    let a : length (take from S) ≤ from = rw length-take (omega arith) in
-    record { low = omega arith; high = h; kept = refl; head = rw (drop-of-length-le (take from S) a, append-nil); tail = refl }
+first : (S : List ℕ) (from to by : ℕ) → from ≤ to → Moving S from to by S from
+first S from to by h =
+    record { low = omega arith; high = h; kept = refl; head = rw (slice-empty from S, append-nil); tail = refl }
 
 step : (S₀ : List ℕ) (from to by : ℕ) (S : List ℕ) (k : ℕ) → by ≤ from → to ≤ length S₀ → Moving S₀ from to by S k → k < to → Moving S₀ from to by (set S (k - by) (getD S k 0)) (k + 1)
 step S₀ from to by S k y l m h =
@@ -50,7 +50,7 @@ step S₀ from to by S k y l m h =
     }
 
 loop-holds : tie.Need-loop-holds Inv-loop μ-loop
-loop-holds c = first _ _ _ _ (c .pre .1) (c .pre .2)
+loop-holds c = first _ _ _ _ (c .pre .1)
 
 mul-store : tie.Need-mul-store Inv-loop μ-loop
 mul-store c = search needs
@@ -71,18 +71,22 @@ add-k : tie.Need-add-k Inv-loop μ-loop
 add-k c = search needs
 
 loop-less : tie.Need-loop-less Inv-loop μ-loop
-loop-less c = let i = c .before .before .loop .inv in
-    omega arith
+loop-less c = omega arith
 
 loop-again : tie.Need-loop-again Inv-loop μ-loop
-loop-again c = step _ _ _ _ (c .before .before .loop .store) (c .before .before .loop .k) (c .before .before .before .pre .0) (c .before .before .before .pre .2) (c .before .before .loop .inv) (c .before .loop-test .taken)
+loop-again c =
+    let s = known (tie.Start Inv-loop μ-loop) (search) in
+    let l = known (tie.At-loop Inv-loop μ-loop) (search) .loop in
+    step _ _ _ _ (l .store) (l .k) (s .pre .0) (s .pre .2) (l .inv) (known (tie.In-loop Inv-loop μ-loop) (search) .loop-test .taken)
 
 same-length : tie.Need-same-length Inv-loop μ-loop
-same-length c = c .before .loop .inv .kept
+same-length c = known (tie.At-loop Inv-loop μ-loop) (search) .loop .inv .kept
 
 returns : tie.Need-returns Inv-loop μ-loop
-returns c = let i = c .before .loop .inv in
-    let e : c .before .loop .k ≡ c .before .before .args .to = omega arith in
+returns c =
+    let l = known (tie.At-loop Inv-loop μ-loop) (search) .loop in
+    let i = l .inv in
+    let e : l .k ≡ known (tie.Start Inv-loop μ-loop) (search) .args .to = omega arith in
     rw (← e) (record { text = i .head })
 
 pub move-left-spec : {M : Type 1} → statement M

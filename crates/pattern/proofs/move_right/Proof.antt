@@ -1,12 +1,13 @@
 -- `pattern::move_right` meets its contract: the words are moved one by one, the last one first. Assumes nothing.
 use mathlib.Core.Path.{_≡_, refl, sym, ap, _∙_}
-use mathlib.Core.List.{List, _∷_, _++_}
+use mathlib.Core.List.{List, [], _∷_, _++_}
 use Prim.Native.Nat.{ℕ, suc, _+_, _-_, _≤_, _<_}
 use native.Mathlib.Omega.{arith}
 use borrow.Author.Needs.{needs}
-use lib.ListN.{length, take, drop, set, getD, length-set, length-take, drop-of-length-le}
-use lib.Seq.{take-set-le, take-take, getD-take, drop-cons}
-use Rattle.pattern.proofs.Lists.{drop-set}
+use lib.ListN.{length, take, drop, set, getD, length-set}
+use lib.Seq.{take-set-le, getD-take, slice, slice-empty, slice-cons}
+use Rattle.tree.proofs.Known.{known}
+use Rattle.pattern.proofs.Lists.{keep, stored}
 use Rattle.pattern.proofs.move_right.Statement.{statement}
 use Rattle.pattern.proofs.move_right.Tie as tie
 
@@ -23,36 +24,29 @@ Inv-loop store₀ from to by k₀ store k = Moving store₀ from to by store k
 abbrev μ-loop : tie.MeasureT-loop
 μ-loop store₀ from to by k₀ store k = k
 
-first : (S : List ℕ) (from to by : ℕ) → from ≤ to → to + by ≤ length S → Moving S from to by S to
-first S from to by h l =
-    let a : length (take to S) ≤ to = rw length-take (omega arith) in
-    record { low = h; high = omega arith; kept = refl; head = refl; tail = rw (drop-of-length-le (take to S) a) }
+first : (S : List ℕ) (from to by : ℕ) → from ≤ to → Moving S from to by S to
+first S from to by h =
+    record { low = h; high = omega arith; kept = refl; head = refl; tail = rw (slice-empty to S) }
 
 step : (S₀ : List ℕ) (from to by : ℕ) (S : List ℕ) (k : ℕ) → to + by ≤ length S₀ → Moving S₀ from to by S k → from < k → Moving S₀ from to by (set S (k - 1 + by) (getD S (k - 1) 0)) (k - 1)
 step S₀ from to by S k l m h =
     let kept = m .kept in
     let high = m .high in
-    let a : k - 1 + by ≤ k - 1 + by = omega arith in
-    let b : k - 1 + by ≤ k + by = omega arith in
     let d : k - 1 < k + by = omega arith in
-    let e : k - 1 + by < length S = omega arith in
     let f : k - 1 + by + 1 ≡ k + by = omega arith in
-    let g : k - 1 < length (take to S₀) = rw length-take (omega arith) in
     let j : suc (k - 1) ≡ k = omega arith in
-    let i : k - 1 < to = omega arith in
     let x : getD S (k - 1) 0 ≡ getD S₀ (k - 1) 0 = sym (getD-take (k + by) S (k - 1) 0 d) ∙ ap (λ (l : List ℕ). getD l (k - 1) 0) (m .head) ∙ getD-take (k + by) S₀ (k - 1) 0 d in
+    let part : slice (k - 1) to S₀ ≡ getD S₀ (k - 1) 0 ∷ slice k to S₀ = slice-cons (k - 1) to S₀ 0 (omega arith) (omega arith) ∙ rw j in
     record {
       low = omega arith;
       high = omega arith;
       kept = length-set S (k - 1 + by) (getD S (k - 1) 0) ∙ kept;
-      head = take-set-le (k - 1 + by) S (k - 1 + by) (getD S (k - 1) 0) a ∙ sym (take-take (k - 1 + by) (k + by) S b) ∙ ap (take (k - 1 + by)) (m .head) ∙ take-take (k - 1 + by) (k + by) S₀ b;
-      tail = drop-set S (k - 1 + by) (getD S (k - 1) 0) e
-          ∙ rw (f, m .tail, x, ← getD-take to S₀ (k - 1) 0 i)
-          (sym (ap (λ (l : List ℕ). l ++ drop (to + by) S₀) (drop-cons (take to S₀) (k - 1) 0 g ∙ ap (λ (n : ℕ). getD (take to S₀) (k - 1) 0 ∷ drop n (take to S₀)) j)));
+      head = take-set-le (k - 1 + by) S (k - 1 + by) (getD S (k - 1) 0) (omega arith) ∙ keep (k - 1 + by) (k + by) S₀ S (omega arith) (m .head);
+      tail = stored (getD S (k - 1) 0 ∷ []) S (k - 1 + by) (omega arith) ∙ rw (f, m .tail, x) (sym (ap (λ (l : List ℕ). l ++ drop (to + by) S₀) part));
     }
 
 loop-holds : tie.Need-loop-holds Inv-loop μ-loop
-loop-holds c = first _ _ _ _ (c .pre .0) (c .pre .1)
+loop-holds c = first _ _ _ _ (c .pre .0)
 
 sub-k : tie.Need-sub-k Inv-loop μ-loop
 sub-k c = search needs
@@ -70,21 +64,25 @@ mul-store-2 : tie.Need-mul-store-2 Inv-loop μ-loop
 mul-store-2 c = search needs
 
 slice-write-store : tie.Need-slice-write-store Inv-loop μ-loop
-slice-write-store c = let i = c .before .before .loop .inv in
-    omega arith
+slice-write-store c = omega arith
 
 loop-less : tie.Need-loop-less Inv-loop μ-loop
 loop-less c = search needs
 
 loop-again : tie.Need-loop-again Inv-loop μ-loop
-loop-again c = step _ _ _ _ (c .before .before .loop .store) (c .before .before .loop .k) (c .before .before .before .pre .1) (c .before .before .loop .inv) (c .before .loop-test .taken)
+loop-again c =
+    let s = known (tie.Start Inv-loop μ-loop) (search) in
+    let l = known (tie.At-loop Inv-loop μ-loop) (search) .loop in
+    step _ _ _ _ (l .store) (l .k) (s .pre .1) (l .inv) (known (tie.In-loop Inv-loop μ-loop) (search) .loop-test .taken)
 
 same-length : tie.Need-same-length Inv-loop μ-loop
-same-length c = c .before .loop .inv .kept
+same-length c = known (tie.At-loop Inv-loop μ-loop) (search) .loop .inv .kept
 
 returns : tie.Need-returns Inv-loop μ-loop
-returns c = let i = c .before .loop .inv in
-    let e : c .before .loop .k ≡ c .before .before .args .from = omega arith in
+returns c =
+    let l = known (tie.At-loop Inv-loop μ-loop) (search) .loop in
+    let i = l .inv in
+    let e : l .k ≡ known (tie.Start Inv-loop μ-loop) (search) .args .from = omega arith in
     rw (← e) (record { head = i .head; tail = i .tail })
 
 pub move-right-spec : {M : Type 1} → statement M

@@ -1,15 +1,16 @@
 -- `pattern::place_access` meets its contract: the records of an attribute or an index pattern are put and moved from the right. Assumes nothing.
-use mathlib.Core.Path.{_≡_, _∙_}
+use mathlib.Core.Path.{_≡_}
 use mathlib.Core.List.{List, _++_}
 use Prim.Native.Nat.{ℕ, _+_, _*_, _-_, _≤_}
 use native.Mathlib.Omega.{arith}
 use native.Mathlib.Nat.{le-trans, sub-le}
 use lib.ListN.{length, getD, length-append}
 use Rattle.tree.specs.Tree.{Tree}
-use Rattle.tree.specs.Rows.{rows, push, on, end, Starts, enough}
+use Rattle.tree.specs.Rows.{rows, Starts, enough}
 use Rattle.pattern.specs.Word
 use Rattle.pattern.specs.Contract.{Access}
-use Rattle.pattern.proofs.Access.{attribute-trees, index-first, index-second}
+use Rattle.tree.proofs.Known.{known}
+use Rattle.pattern.proofs.Access.{before-last, front-trees, attribute-trees, index-first}
 use Rattle.pattern.proofs.Places.{reach, sure-shape, sure-index, attribute-placed, index-placed}
 use Rattle.pattern.proofs.place_access.Statement.{statement}
 use Rattle.pattern.proofs.place_access.Tie as tie
@@ -48,254 +49,243 @@ module _ (c : tie.Start) where
 
 -- an attribute: where the access starts
 module _ (c : tie.After-skip) where
-  abbrev start : tie.Start
-  start = c .before .before .before .before .before .before .before .before .before
+  abbrev attribute-start : tie.Start
+  attribute-start = search
 
-  abbrev starts : {B : List ℕ} {p : Tree} → Holds start B p → Starts B (S start) (c .skip .result)
-  starts a = c .skip .ensures _ (attribute-trees (sure-shape a) (c .before .before .before .if1 .taken))
+  abbrev attribute-starts : {B : List ℕ} {p : Tree} → Holds attribute-start B p → Starts B (S attribute-start) (c .skip .result)
+  attribute-starts a = c .skip .ensures _ (attribute-trees (sure-shape a) (known tie.Then1 (search) .if1 .taken))
 
-  start-room : c .skip .result + 8 ≤ i start
-  start-room = omega (arith, starts (held start) .at, sure-shape (held start) .room)
+  start-room : c .skip .result + 8 ≤ i attribute-start
+  start-room = omega (arith, attribute-starts (held attribute-start) .at, sure-shape (held attribute-start) .room)
+
+-- the calls after that, each found from the next one
+abbrev after-skip : tie.After-put → tie.After-skip
+after-skip c = search
+
+abbrev after-put : tie.After-put2 → tie.After-put
+after-put c = search
+
+abbrev after-put2 : tie.After-put3 → tie.After-put2
+after-put2 c = search
 
 -- an index: where its expression starts, and where the access does
 module _ (c : tie.Else1) where
-  abbrev start₂ : tie.Start
-  start₂ = c .before .before .before .before .before .before
+  abbrev index-start : tie.Start
+  index-start = search
 
-  abbrev index : {B : List ℕ} {p : Tree} → Holds start₂ B p → getD (S start₂) (i start₂ - 6) 0 ≡ Word.Index
+  abbrev index : {B : List ℕ} {p : Tree} → Holds index-start B p → getD (S index-start) (i index-start - 6) 0 ≡ Word.Index
   index a = sure-index a (c .if1 .left)
 
 module _ (c : tie.After-skip2) where
-  abbrev other : tie.Else1
-  other = c .before .before
+  abbrev at-index : tie.Else1
+  at-index = search
 
-  abbrev middle : {B : List ℕ} {p : Tree} (a : Holds (start₂ other) B p) → Starts (B ++ rows (push (on end (sure-shape a .atom)) (sure-shape a .front))) (S (start₂ other)) (c .skip2 .result)
-  middle a = c .skip2 .ensures _ (index-first (sure-shape a) (index other a))
+  abbrev middle : {B : List ℕ} {p : Tree} (a : Holds (index-start at-index) B p) → Starts (B ++ rows (before-last (sure-shape a))) (S (index-start at-index)) (c .skip2 .result)
+  middle a = c .skip2 .ensures _ (index-first (sure-shape a) (index at-index a))
 
-  middle-room : c .skip2 .result + 8 ≤ i (start₂ other)
+  middle-room : c .skip2 .result + 8 ≤ i (index-start at-index)
   middle-room =
-      let s = start₂ other in
+      let s = index-start at-index in
       let a = held s in
-      omega (arith, middle a .at, enough _ (S s) (i s - 6) 1 (le-trans (sub-le _ 6) (reach a)) (index-first (sure-shape a) (index other a)))
+      omega (arith, middle a .at, enough _ (S s) (i s - 6) 1 (le-trans (sub-le _ 6) (reach a)) (index-first (sure-shape a) (index at-index a)))
 
 module _ (c : tie.After-skip3) where
-  abbrev half : tie.After-skip2
-  half = c .before .before
+  abbrev after-skip2 : tie.After-skip2
+  after-skip2 = search
 
-  abbrev start₃ : tie.Start
-  start₃ = start₂ (other half)
+  abbrev whole-start : tie.Start
+  whole-start = index-start (at-index after-skip2)
 
-  abbrev starts₂ : {B : List ℕ} {p : Tree} → Holds start₃ B p → Starts B (S start₃) (c .skip3 .result)
-  starts₂ a = c .skip3 .ensures _ (index-second (sure-shape a) (half .skip2 .result) (middle half a .text))
+  abbrev index-starts : {B : List ℕ} {p : Tree} → Holds whole-start B p → Starts B (S whole-start) (c .skip3 .result)
+  index-starts a = c .skip3 .ensures _ (front-trees (sure-shape a) (after-skip2 .skip2 .result) (middle after-skip2 a .text))
 
-  ordered : c .skip3 .result ≤ half .skip2 .result
+  ordered : c .skip3 .result ≤ after-skip2 .skip2 .result
   ordered =
-      let a = held start₃ in
-      omega (arith, starts₂ a .at, middle half a .at, length-append (start₃ .pre .base) (rows (push (on end (sure-shape a .atom)) (sure-shape a .front))))
+      let a = held whole-start in
+      omega (arith, index-starts a .at, middle after-skip2 a .at, length-append (whole-start .pre .base) (rows (before-last (sure-shape a))))
+
+  -- what the calls after that ask for
+  fit : (after-skip2 .skip2 .result + 8 ≤ i whole-start) × (i whole-start ≤ w whole-start) × (w whole-start ≤ length (S whole-start))
+  fit = (middle-room after-skip2, behind whole-start, within whole-start)
+
+-- the calls after that, each found from the next one
+abbrev after-skip3 : tie.After-put4 → tie.After-skip3
+after-skip3 c = search
+
+abbrev after-put4 : tie.After-move-right2 → tie.After-put4
+after-put4 c = search
+
+abbrev after-move-right2 : tie.After-put5 → tie.After-move-right2
+after-move-right2 c = search
+
+abbrev after-put5 : tie.After-put6 → tie.After-put5
+after-put5 c = search
 
 sub-by : tie.Need-sub-by
-sub-by c = behind (c .before)
+sub-by c = behind (search)
 
 sub-primary : tie.Need-sub-primary
-sub-primary c = omega (arith, room (c .before))
+sub-primary c = omega (arith, room (search))
 
 mul-primary : tie.Need-mul-primary
 mul-primary c = omega arith
 
 slice-read-primary : tie.Need-slice-read-primary
-slice-read-primary c = omega (arith, room (c .before .before))
+slice-read-primary c = omega (arith, room (search))
 
 sub-list : tie.Need-sub-list
-sub-list c = omega (arith, room (c .before .before))
+sub-list c = omega (arith, room (search))
 
 mul-list : tie.Need-mul-list
 mul-list c = omega arith
 
 slice-read-list : tie.Need-slice-read-list
-slice-read-list c = omega (arith, room (c .before .before .before))
+slice-read-list c = omega (arith, room (search))
 
 sub-path : tie.Need-sub-path
-sub-path c = omega (arith, room (c .before .before .before))
+sub-path c = omega (arith, room (search))
 
 mul-path : tie.Need-mul-path
 mul-path c = omega arith
 
 slice-read-path : tie.Need-slice-read-path
-slice-read-path c = omega (arith, room (c .before .before .before .before))
+slice-read-path c = omega (arith, room (search))
 
 sub-if1 : tie.Need-sub-if1
-sub-if1 c = omega (arith, room (c .before .before .before .before))
+sub-if1 c = omega (arith, room (search))
 
 mul-if1 : tie.Need-mul-if1
 mul-if1 c = omega arith
 
 slice-read-if1 : tie.Need-slice-read-if1
-slice-read-if1 c = omega (arith, room (c .before .before .before .before .before))
+slice-read-if1 c = omega (arith, room (search))
 
 sub-name : tie.Need-sub-name
-sub-name c = omega (arith, room (c .before .before .before .before .before .before))
+sub-name c = omega (arith, room (search))
 
 mul-name : tie.Need-mul-name
 mul-name c = omega arith
 
 slice-read-name : tie.Need-slice-read-name
-slice-read-name c = omega (arith, room (c .before .before .before .before .before .before .before))
+slice-read-name c = omega (arith, room (search))
 
 sub-skip : tie.Need-sub-skip
-sub-skip c = omega (arith, room (c .before .before .before .before .before .before .before .before))
+sub-skip c = omega (arith, room (search))
 
 skip-requires : tie.Need-skip-requires
 skip-requires c κs =
-    let k = c .before .before in
-    let a = held (k .before .before .before .before .before .before) in
+    let a = held (search) in
     let h = reach a in
-    (omega arith, record { base = _; trees = attribute-trees (sure-shape a) (k .if1 .taken) })
+    (omega arith, record { base = _; trees = attribute-trees (sure-shape a) (known tie.Then1 (search) .if1 .taken) })
 
 sub-put : tie.Need-sub-put
-sub-put c = omega (arith, room (start (c .before)))
+sub-put c = omega (arith, room (attribute-start (search)))
 
 put-requires : tie.Need-put-requires
-put-requires c κs = omega (arith, room (start (c .before)))
+put-requires c κs = omega (arith, room (attribute-start (search)))
 
 sub-put-2 : tie.Need-sub-put-2
-sub-put-2 c = omega (arith, room (start (c .before .before .before .before .before)))
+sub-put-2 c = omega (arith, room (attribute-start (search)))
 
 put-requires-2 : tie.Need-put-requires-2
-put-requires-2 c κs =
-    let s = start (c .before .before .before .before .before) in
-    omega (arith, room s)
+put-requires-2 c κs = omega (arith, room (attribute-start (search)))
 
 sub-put-3 : tie.Need-sub-put-3
-sub-put-3 c = omega (arith, room (start (c .before .before .before .before .before .before .before .before .before)))
+sub-put-3 c = omega (arith, room (attribute-start (after-skip (search))))
 
 sub-put-4 : tie.Need-sub-put-4
-sub-put-4 c = one-more (start (c .before .before .before .before .before .before .before .before .before))
+sub-put-4 c = one-more (attribute-start (after-skip (search)))
 
 put-requires-3 : tie.Need-put-requires-3
-put-requires-3 c κs =
-    let b = c .before .before .before .before in
-    let s = start (b .before .before .before .before .before) in
-    omega (arith, room s)
+put-requires-3 c κs = omega (arith, room (attribute-start (after-skip (search))))
 
 sub-move-right : tie.Need-sub-move-right
-sub-move-right c =
-    let b = c .before .before .before .before .before .before .before .before in
-    omega (arith, room (start (b .before .before .before .before .before)))
+sub-move-right c = omega (arith, room (attribute-start (after-skip (after-put (search)))))
 
 move-right-requires : tie.Need-move-right-requires
 move-right-requires c κs =
-    let d = c .before .before .before .before in
-    let b = d .before .before .before .before in
-    let k = b .before .before .before .before .before in
-    omega (arith, start-room k, behind (start k), within (start k))
+    let k = after-skip (after-put (search)) in
+    omega (arith, start-room k, behind (attribute-start k), within (attribute-start k))
 
 sub-skip-2 : tie.Need-sub-skip-2
-sub-skip-2 c = omega (arith, room (start₂ (c .before)))
+sub-skip-2 c = omega (arith, room (search))
 
 skip-requires-2 : tie.Need-skip-requires-2
 skip-requires-2 c κs =
-    let a = held (start₂ (c .before)) in
+    let a = held (index-start (search)) in
     let h = reach a in
-    (omega arith, record { base = _; trees = index-first (sure-shape a) (index (c .before) a) })
+    (omega arith, record { base = _; trees = index-first (sure-shape a) (index (search) a) })
 
 skip-requires-3 : tie.Need-skip-requires-3
 skip-requires-3 c κs =
-    let k = c .before in
-    let a = held (start₂ (other k)) in
+    let k = known tie.After-skip2 (search) in
+    let a = held (index-start (at-index k)) in
     let h = reach a in
-    (omega (arith, middle-room k), record { base = _; trees = index-second (sure-shape a) (k .skip2 .result) (middle k a .text) })
+    (omega (arith, middle-room k), record { base = _; trees = front-trees (sure-shape a) (k .skip2 .result) (middle k a .text) })
 
 sub-put-5 : tie.Need-sub-put-5
-sub-put-5 c = omega (arith, room (start₃ (c .before)))
+sub-put-5 c = omega (arith, fit (search))
 
 put-requires-4 : tie.Need-put-requires-4
-put-requires-4 c κs = omega (arith, room (start₃ (c .before)))
+put-requires-4 c κs = omega (arith, fit (search))
 
 sub-move-right-2 : tie.Need-sub-move-right-2
-sub-move-right-2 c = omega (arith, room (start₃ (c .before .before .before .before .before)))
+sub-move-right-2 c = omega (arith, fit (search))
 
 add-move-right : tie.Need-add-move-right
 add-move-right c = omega arith
 
 move-right-requires-2 : tie.Need-move-right-requires-2
-move-right-requires-2 c κs =
-    let k = c .before .before .before .before .before in
-    omega (arith, middle-room (half k))
+move-right-requires-2 c κs = omega (arith, fit (search))
 
 add-put : tie.Need-add-put
-add-put c =
-    let k = c .before .before .before .before .before .before .before .before .before in
-    omega (arith, middle-room (half k))
+add-put c = omega (arith, fit (after-skip3 (search)))
 
 add-put-2 : tie.Need-add-put-2
-add-put-2 c =
-    let k = c .before .before .before .before .before .before .before .before .before in
-    omega (arith, middle-room (half k))
+add-put-2 c = omega (arith, fit (after-skip3 (search)))
 
 put-requires-5 : tie.Need-put-requires-5
-put-requires-5 c κs =
-    let b = c .before .before .before .before in
-    let k = b .before .before .before .before .before in
-    omega (arith, middle-room (half k), behind (start₃ k), within (start₃ k))
+put-requires-5 c κs = omega (arith, fit (after-skip3 (search)))
 
 add-put-3 : tie.Need-add-put-3
 add-put-3 c =
-    let d = c .before .before .before .before in
-    let k = d .before .before .before .before .before .before .before .before .before in
-    omega (arith, middle-room (half k), fits (start₃ k))
+    let k = after-skip3 (after-put4 (search)) in
+    omega (arith, fit k, fits (whole-start k))
 
 sub-put-6 : tie.Need-sub-put-6
-sub-put-6 c =
-    let d = c .before .before .before .before in
-    one-more (start₃ (d .before .before .before .before .before .before .before .before .before))
+sub-put-6 c = one-more (whole-start (after-skip3 (after-put4 (search))))
 
 put-requires-6 : tie.Need-put-requires-6
-put-requires-6 c κs =
-    let d = c .before .before .before .before in
-    let b = d .before .before .before .before in
-    let k = b .before .before .before .before .before in
-    omega (arith, middle-room (half k), behind (start₃ k), within (start₃ k))
+put-requires-6 c κs = omega (arith, fit (after-skip3 (after-put4 (search))))
 
 move-right-requires-3 : tie.Need-move-right-requires-3
 move-right-requires-3 c κs =
-    let f = c .before .before .before .before in
-    let d = f .before .before .before .before in
-    let b = d .before .before .before .before in
-    let k = b .before .before .before .before .before in
-    omega (arith, ordered k, middle-room (half k), behind (start₃ k), within (start₃ k))
+    let k = after-skip3 (after-put4 (after-move-right2 (search))) in
+    omega (arith, ordered k, fit k)
 
 same-length : tie.Need-same-length
-same-length c =
-    let m = c .before .before .before in
-    let d = m .before .before .before .before in
-    let b = d .before .before .before .before in
-    c .before .before .move-right .kept .0 ∙ m .before .before .before .put3 .kept .0 ∙ d .before .before .before .put2 .kept .0 ∙ b .before .before .before .put .kept .0
+same-length c = omega arith
 
 returns : tie.Need-returns
 returns c =
-    let m = c .before .before .before in
-    let d = m .before .before .before .before in
-    let b = d .before .before .before .before in
-    let k = b .before .before .before .before .before in
-    λ B p a. attribute-placed a (k .before .before .before .if1 .taken) (starts k a) (b .before .before .before .put .ensures) (d .before .before .before .put2 .ensures) (m .before .before .before .put3 .ensures) (c .before .before .move-right .ensures)
+    let p₃ = known tie.After-put3 (search) in
+    let p₂ = after-put2 p₃ in
+    let p₁ = after-put p₂ in
+    let k = after-skip p₁ in
+    λ B p a. attribute-placed a (known tie.Then1 (search) .if1 .taken) (attribute-starts k a) (p₁ .put .ensures) (p₂ .put2 .ensures) (p₃ .put3 .ensures) (known tie.After-move-right (search) .move-right .ensures)
 
 same-length-2 : tie.Need-same-length-2
-same-length-2 c =
-    let m = c .before .before .before in
-    let f = m .before .before .before .before in
-    let d = f .before .before .before .before in
-    let b = d .before .before .before .before in
-    c .before .before .move-right3 .kept .0 ∙ m .before .before .before .put6 .kept .0 ∙ f .before .before .before .put5 .kept .0 ∙ d .before .before .before .move-right2 .kept .0 ∙ b .before .before .before .put4 .kept .0
+same-length-2 c = omega arith
 
 returns-2 : tie.Need-returns-2
 returns-2 c =
-    let m = c .before .before .before in
-    let f = m .before .before .before .before in
-    let d = f .before .before .before .before in
-    let b = d .before .before .before .before in
-    let k = b .before .before .before .before .before in
-    let l = middle-room (half k) in
-    λ B p a. index-placed a (index (other (half k)) a) (starts₂ k a) (middle (half k) a) (b .before .before .before .put4 .ensures) (d .before .before .before .move-right2 .ensures) (f .before .before .before .put5 .ensures) (m .before .before .before .put6 .ensures) (c .before .before .move-right3 .ensures) (omega arith)
+    let p₆ = known tie.After-put6 (search) in
+    let p₅ = after-put5 p₆ in
+    let m₂ = after-move-right2 p₅ in
+    let p₄ = after-put4 m₂ in
+    let k = after-skip3 p₄ in
+    let l = middle-room (after-skip2 k) in
+    λ B p a. index-placed a (index (at-index (after-skip2 k)) a) (index-starts k a) (middle (after-skip2 k) a) (p₄ .put4 .ensures) (m₂ .move-right2 .ensures) (p₅ .put5 .ensures) (p₆ .put6 .ensures) (known tie.After-move-right3 (search) .move-right3 .ensures) (omega arith)
 
 pub place-access-spec : {M : Type 1} → statement M
 place-access-spec =

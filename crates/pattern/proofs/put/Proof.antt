@@ -1,11 +1,13 @@
 -- `pattern::put` meets its contract. Assumes nothing.
 use mathlib.Core.Path.{_∙_}
+use mathlib.Core.List.{[], _∷_}
 use Prim.Native.Nat.{_+_}
+use native.Mathlib.Numerals.{add-one}
 use native.Mathlib.Omega.{arith}
 use borrow.Author.Needs.{needs}
 use lib.ListN.{set, length-set}
 use lib.Seq.{take-set-le}
-use Rattle.pattern.proofs.Lists.{put-two}
+use Rattle.pattern.proofs.Lists.{stored}
 use Rattle.pattern.proofs.put.Statement.{statement}
 use Rattle.pattern.proofs.put.Tie as tie
 
@@ -33,7 +35,7 @@ returns c =
     let S = a .store .now in
     record {
       head = take-set-le (a .at) (set S (a .at) (a .word)) (a .at + 1) (a .value) (omega arith) ∙ take-set-le (a .at) S (a .at) (a .word) (omega arith);
-      tail = put-two S (a .at) (a .word) (a .value) (c .pre);
+      tail = rw add-one (stored (a .word ∷ a .value ∷ []) S (a .at) (c .pre));
     }
 
 pub put-spec : {M : Type 1} → statement M

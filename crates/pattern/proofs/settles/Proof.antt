@@ -2,20 +2,21 @@
 use mathlib.Core.Path.{sym, _∙_}
 use mathlib.Core.Logic.{⊎-elim, inl, inr}
 use mathlib.Core.List.{List, [], _++_}
-use Prim.Native.Nat.{ℕ, _-_, _≤_}
+use Prim.Native.Nat.{ℕ, _+_, _-_, _/_, _≤_, _<_}
 use native.Mathlib.Omega.{arith}
 use borrow.Author.Needs.{needs}
 use borrow.Author.Tests.{eqb-true, eqb-false, not-true, not-false}
 use lib.Dec.{eqb}
 use lib.ListN.{length, take, getD, length-take}
 use Rattle.tree.specs.Tree.{Tree}
-use Rattle.tree.specs.Rows.{rows}
+use Rattle.tree.specs.Rows.{rows, Trees, Starts}
 use Rattle.tree.specs.Maybe.{Maybe}
-use Rattle.grammar.specs.Reading.Pattern.{to-pattern}
-use Rattle.pattern.specs.Contract.{Whole}
-use Rattle.pattern.proofs.Conv.{by-test}
+use Rattle.grammar.specs.Reading.Pattern.{to-pattern, conv, pattern}
+use Rattle.grammar.specs.Laws.Facts.{by-test}
+use Rattle.pattern.specs.Contract.{Is, Whole}
+use Rattle.tree.proofs.Known.{known}
 use Rattle.pattern.proofs.Steps.{Ahead, View, view, shorter, whole-ahead, all-read, settled, ident-step, group-bare, group-modified, unpack-room, unpack-absent, unpack-other, tuple-room, tuple-step, tuple-none, some-members, no-pattern}
-use Rattle.pattern.proofs.Access.{Receives, top-prim, prim-room, path-none, Shape, shape-of, no-item-step, attribute-pat, attribute-trees, index-pat, index-trees, no-top, off-top}
+use Rattle.pattern.proofs.Access.{Receives, top-primary, primary-room, path-none, Shape, shape-of, no-item-step, attribute-pat, attribute-trees, index-pat, index-trees, no-top, top-passed}
 use Rattle.pattern.proofs.settles.Statement.{statement}
 use Rattle.pattern.proofs.settles.Tie as tie
 
@@ -34,63 +35,112 @@ no-shorter : {t : Tree} (S : List ℕ) (from to i : ℕ) → Whole t S from to �
 no-shorter S from to i g h = rw length-take (omega arith)
 
 -- a turn: the store, where the turn stands, and the top of the row there, in any tree that the store may hold
-module _ (c : tie.In-loop Inv-loop μ-loop) where
+abbrev Turn : Type 0
+Turn = tie.In-loop Inv-loop μ-loop
+
+module _ (c : Turn) where
+  abbrev start : tie.Start Inv-loop μ-loop
+  start = search
+
+  abbrev at : tie.At-loop Inv-loop μ-loop
+  at = search
+
   abbrev S : List ℕ
-  S = c .before .before .before .args .store .now
+  S = start .args .store .now
 
   abbrev from : ℕ
-  from = c .before .before .before .args .from
+  from = start .args .from
 
   abbrev Holds : Tree → Type 0
-  Holds t = Whole t S from (c .before .before .before .args .to)
+  Holds t = Whole t S from (start .args .to)
 
   abbrev i : ℕ
-  i = c .before .loop .i
+  i = at .loop .i
 
   reach : i ≤ length S
-  reach = c .before .loop .inv .0
+  reach = at .loop .inv .0
 
-  abbrev seen : {t : Tree} (g : Holds t) → View (to-pattern t) (take from S) S i (c .before .loop .inv .1 _ g .ahead)
-  seen g = view reach (c .before .loop .inv .1 _ g .left) (shorter S from i (c .loop-test .taken))
+  abbrev seen : {t : Tree} (g : Holds t) → View (to-pattern t) (take from S) S i (at .loop .inv .1 _ g .ahead)
+  seen g = view reach (at .loop .inv .1 _ g .left) (shorter S from i (c .loop-test .taken))
 
-  abbrev held : Holds (c .before .before .before .pre .tree)
-  held = c .before .before .before .pre .whole
+  abbrev held : Holds (start .pre .tree)
+  held = start .pre .whole
 
   room : 2 ≤ i
   room = omega (arith, seen held .here .room)
 
 -- the records that are read before the top's own are there
-pack-room : (c : tie.At-match-keys2 Inv-loop μ-loop) → 4 ≤ i (c .before .before)
-pack-room c = let e = c .before .before in omega (arith, unpack-room (reach e) (seen e (held e)) (c .match .keys2))
+module _ (c : tie.At-match-keys2 Inv-loop μ-loop) where
+  abbrev unpack-turn : Turn
+  unpack-turn = search
 
-member-room : (c : tie.At-match-keys3 Inv-loop μ-loop) → 4 ≤ i (c .before .before)
-member-room c = let e = c .before .before in omega (arith, tuple-room (reach e) (seen e (held e)) (c .match .keys3))
+  pack-room : 4 ≤ i unpack-turn
+  pack-room = omega (arith, unpack-room (reach unpack-turn) (seen unpack-turn (held unpack-turn)) (c .match .keys2))
+
+module _ (c : tie.At-match-keys3 Inv-loop μ-loop) where
+  abbrev tuple-turn : Turn
+  tuple-turn = search
+
+  member-room : 4 ≤ i tuple-turn
+  member-room = omega (arith, tuple-room (reach tuple-turn) (seen tuple-turn (held tuple-turn)) (c .match .keys3))
 
 -- an access: its receiver, and its parts where there is a path
 module _ (c : tie.At-match-keys4 Inv-loop μ-loop) where
-  abbrev turn : tie.In-loop Inv-loop μ-loop
-  turn = c .before .before
+  abbrev access-turn : Turn
+  access-turn = search
 
-  abbrev receives : {t : Tree} (g : Holds turn t) → Receives (take (from turn) (S turn) ++ rows (seen turn g .under)) (S turn) (i turn) (seen turn g .tree)
-  receives g = top-prim (reach turn) (seen turn g) (c .match .keys4)
+  abbrev base : {t : Tree} → Holds access-turn t → List ℕ
+  base g = take (from access-turn) (S access-turn) ++ rows (seen access-turn g .under)
 
-  access-room : 6 ≤ i turn
-  access-room = omega (arith, prim-room (receives (held turn)))
+  abbrev receives : {t : Tree} (g : Holds access-turn t) → Receives (base g) (S access-turn) (i access-turn) (seen access-turn g .tree)
+  receives g = top-primary (reach access-turn) (seen access-turn g) (c .match .keys4)
+
+  access-room : 6 ≤ i access-turn
+  access-room = omega (arith, primary-room (receives (held access-turn)))
 
 module _ (c : tie.Else3 Inv-loop μ-loop) where
   abbrev access : tie.At-match-keys4 Inv-loop μ-loop
-  access = c .before .before .before
+  access = search
 
-  abbrev parts : {t : Tree} (g : Holds (turn access) t) → Shape (take (from (turn access)) (S (turn access)) ++ rows (seen (turn access) g .under)) (S (turn access)) (i (turn access)) (seen (turn access) g .tree)
+  abbrev path-turn : Turn
+  path-turn = access-turn access
+
+  abbrev parts : {t : Tree} (g : Holds path-turn t) → Shape (base access g) (S path-turn) (i path-turn) (seen path-turn g .tree)
   parts g =
-      let l = some-members _ (sym (c .before .has-members2 .ensures) ∙ not-false (c .before .has-members2 .result) (c .if3 .left)) in
-      shape-of (reach (turn access)) (receives access g) (l .0) (l .1)
+      let m = known (tie.After-has-members2 Inv-loop μ-loop) (search) .has-members2 in
+      let l = some-members _ (sym (m .ensures) ∙ not-false (m .result) (c .if3 .left)) in
+      shape-of (reach path-turn) (receives access g) (l .0) (l .1)
 
-  path-room : 8 ≤ i (turn access)
-  path-room = omega (arith, parts (held (turn access)) .room)
+  path-room : 8 ≤ i path-turn
+  path-room = omega (arith, parts (held path-turn) .room)
+
+  -- the n trees up to the path's last item are passed: they are the access, and the turn goes on where they start
+  module _ {n r : ℕ} (trees : (t : Tree) (g : Holds path-turn t) → Trees (base access g) (take (i path-turn - 6) (S path-turn)) n) (skips : (B : List ℕ) → Trees B (take (i path-turn - 6) (S path-turn)) n → Starts B (S path-turn) r) where
+    passed-less : r < i path-turn
+    passed-less = omega (arith, skips _ (trees _ (held path-turn)) .at, parts (held path-turn) .room)
+
+    passed-again : ((t : Tree) (g : Holds path-turn t) → Is (conv (seen path-turn g .tree) pattern)) → (r ≤ length (S path-turn)) × ((t : Tree) → Holds path-turn t → Seeing (to-pattern t) (S path-turn) (from path-turn) r)
+    passed-again pats =
+        let h = reach path-turn in
+        (omega (arith, passed-less), λ t g. record { ahead = _; left = top-passed (seen path-turn g) (pats t g .what) (pats t g .same) (skips _ (trees t g) .text) })
+
+-- where the last item is an attribute, and where it is an index
+module _ (c : tie.Then4 Inv-loop μ-loop) where
+  abbrev attribute-at : tie.Else3 Inv-loop μ-loop
+  attribute-at = search
+
+  attributes : (t : Tree) (g : Holds (path-turn attribute-at) t) → Trees (base (access attribute-at) g) (take (i (path-turn attribute-at) - 6) (S (path-turn attribute-at))) (getD (S (path-turn attribute-at)) (i (path-turn attribute-at) - 4) 0 / 256)
+  attributes t g = attribute-trees (parts attribute-at g) (c .if4 .taken)
+
+module _ (c : tie.Else5 Inv-loop μ-loop) where
+  abbrev index-at : tie.Else3 Inv-loop μ-loop
+  index-at = search
+
+  indexes : (t : Tree) (g : Holds (path-turn index-at) t) → Trees (base (access index-at) g) (take (i (path-turn index-at) - 6) (S (path-turn index-at))) (getD (S (path-turn index-at)) (i (path-turn index-at) - 4) 0 / 256 + 1)
+  indexes t g = index-trees (parts index-at g) (c .if5 .left)
 
 loop-holds : tie.Need-loop-holds Inv-loop μ-loop
-loop-holds c = (c .before .pre .whole .within, λ t g. record { ahead = []; left = whole-ahead g })
+loop-holds c = (known (tie.Start Inv-loop μ-loop) (search) .pre .whole .within, λ t g. record { ahead = []; left = whole-ahead g })
 
 sub-word : tie.Need-sub-word Inv-loop μ-loop
 sub-word c = room c
@@ -102,14 +152,14 @@ shared-slice-read-word : tie.Need-shared-slice-read-word Inv-loop μ-loop
 shared-slice-read-word c = omega arith
 
 sub-i : tie.Need-sub-i Inv-loop μ-loop
-sub-i c = room (c .before .before)
+sub-i c = room (search)
 
 loop-less : tie.Need-loop-less Inv-loop μ-loop
 loop-less c = omega arith
 
 loop-again : tie.Need-loop-again Inv-loop μ-loop
 loop-again c =
-    let e = c .before .before in
+    let e : Turn = search in
     let h = reach e in (
       omega arith,
       λ t g.
@@ -131,28 +181,30 @@ shared-slice-read-if1 : tie.Need-shared-slice-read-if1 Inv-loop μ-loop
 shared-slice-read-if1 c = omega arith
 
 sub-i-2 : tie.Need-sub-i-2 Inv-loop μ-loop
-sub-i-2 c = pack-room (c .before .before)
+sub-i-2 c = pack-room (search)
 
 loop-less-2 : tie.Need-loop-less-2 Inv-loop μ-loop
 loop-less-2 c = omega arith
 
 loop-again-2 : tie.Need-loop-again-2 Inv-loop μ-loop
 loop-again-2 c =
-    let e = c .before .before .before .before in
+    let k : tie.At-match-keys2 Inv-loop μ-loop = search in
+    let e = unpack-turn k in
     let h = reach e in
-    (omega arith, λ t g. record { ahead = _; left = unpack-absent h (seen e g) (c .before .before .match .keys2) (c .if1 .taken) })
+    (omega arith, λ t g. record { ahead = _; left = unpack-absent h (seen e g) (k .match .keys2) (c .if1 .taken) })
 
 sub-i-3 : tie.Need-sub-i-3 Inv-loop μ-loop
-sub-i-3 c = room (c .before .before .before .before)
+sub-i-3 c = room (search)
 
 loop-less-3 : tie.Need-loop-less-3 Inv-loop μ-loop
 loop-less-3 c = omega arith
 
 loop-again-3 : tie.Need-loop-again-3 Inv-loop μ-loop
 loop-again-3 c =
-    let e = c .before .before .before .before in
+    let k : tie.At-match-keys2 Inv-loop μ-loop = search in
+    let e = unpack-turn k in
     let h = reach e in
-    (omega arith, λ t g. record { ahead = _; left = unpack-other h (seen e g) (c .before .before .match .keys2) (c .if1 .left) })
+    (omega arith, λ t g. record { ahead = _; left = unpack-other h (seen e g) (k .match .keys2) (c .if1 .left) })
 
 sub-has-members : tie.Need-sub-has-members Inv-loop μ-loop
 sub-has-members c = member-room c
@@ -168,24 +220,28 @@ has-members-requires c κs = search needs
 
 returns : tie.Need-returns Inv-loop μ-loop
 returns c =
-    let e = c .before .before .before .before .before in
-    let n = sym (c .before .has-members .ensures) ∙ not-true (c .before .has-members .result) (c .if2 .taken) in
-    λ t g. record { how = tuple-none (reach e) (seen e g) (c .before .before .before .match .keys3) n }
+    let k : tie.At-match-keys3 Inv-loop μ-loop = search in
+    let e = tuple-turn k in
+    let m = known (tie.After-has-members Inv-loop μ-loop) (search) .has-members in
+    let n = sym (m .ensures) ∙ not-true (m .result) (c .if2 .taken) in
+    λ t g. record { how = tuple-none (reach e) (seen e g) (k .match .keys3) n }
 
 sub-i-4 : tie.Need-sub-i-4 Inv-loop μ-loop
-sub-i-4 c = member-room (c .before .before .before)
+sub-i-4 c = member-room (search)
 
 loop-less-4 : tie.Need-loop-less-4 Inv-loop μ-loop
 loop-less-4 c = omega arith
 
 loop-again-4 : tie.Need-loop-again-4 Inv-loop μ-loop
 loop-again-4 c =
-    let e = c .before .before .before .before .before in
-    let h = reach e in (
+    let k : tie.At-match-keys3 Inv-loop μ-loop = search in
+    let e = tuple-turn k in
+    let h = reach e in
+    let m = known (tie.After-has-members Inv-loop μ-loop) (search) .has-members in (
       omega arith,
       λ t g.
-          let l = some-members _ (sym (c .before .has-members .ensures) ∙ not-false (c .before .has-members .result) (c .if2 .left)) in
-          record { ahead = _; left = tuple-step h (seen e g) (c .before .before .before .match .keys3) (l .0) (l .1) },
+          let l = some-members _ (sym (m .ensures) ∙ not-false (m .result) (c .if2 .left)) in
+          record { ahead = _; left = tuple-step h (seen e g) (k .match .keys3) (l .0) (l .1) },
     )
 
 sub-list : tie.Need-sub-list Inv-loop μ-loop
@@ -202,9 +258,10 @@ has-members-requires-2 c κs = search needs
 
 returns-2 : tie.Need-returns-2 Inv-loop μ-loop
 returns-2 c =
-    let a = c .before .before .before in
-    let n = sym (c .before .has-members2 .ensures) ∙ not-true (c .before .has-members2 .result) (c .if3 .taken) in
-    λ t g. record { how = no-top (seen (turn a) g) (path-none (receives a g) n) }
+    let a : tie.At-match-keys4 Inv-loop μ-loop = search in
+    let m = known (tie.After-has-members2 Inv-loop μ-loop) (search) .has-members2 in
+    let n = sym (m .ensures) ∙ not-true (m .result) (c .if3 .taken) in
+    λ t g. record { how = no-top (seen (access-turn a) g) (path-none (receives a g) n) }
 
 sub-last : tie.Need-sub-last Inv-loop μ-loop
 sub-last c = omega (arith, path-room c)
@@ -216,70 +273,63 @@ shared-slice-read-last : tie.Need-shared-slice-read-last Inv-loop μ-loop
 shared-slice-read-last c = omega arith
 
 sub-skip : tie.Need-sub-skip Inv-loop μ-loop
-sub-skip c = omega (arith, path-room (c .before .before))
+sub-skip c = omega (arith, path-room (attribute-at c))
 
 skip-requires : tie.Need-skip-requires Inv-loop μ-loop
 skip-requires c κs =
-    let p = c .before .before in
-    let h = reach (turn (access p)) in
-    (omega arith, record { base = _; trees = attribute-trees (parts p (held (turn (access p)))) (c .if4 .taken) })
+    let e = path-turn (attribute-at c) in
+    let h = reach e in
+    (omega arith, record { base = _; trees = attributes c _ (held e) })
 
 loop-less-5 : tie.Need-loop-less-5 Inv-loop μ-loop
 loop-less-5 c =
-    let p = c .before .before .before in
-    let e = turn (access p) in
-    omega (arith, c .skip .ensures _ (attribute-trees (parts p (held e)) (c .before .if4 .taken)) .at, parts p (held e) .room)
+    let k : tie.Then4 Inv-loop μ-loop = search in
+    passed-less (attribute-at k) (attributes k) (c .skip .ensures)
 
 loop-again-5 : tie.Need-loop-again-5 Inv-loop μ-loop
 loop-again-5 c =
-    let p = c .before .before .before in
-    let e = turn (access p) in
-    let h = reach e in
-    let k = c .before .if4 .taken in
-    (omega (arith, loop-less-5 c), λ t g. record { ahead = _; left = off-top (seen e g) _ (attribute-pat (parts p g) k) (c .skip .ensures _ (attribute-trees (parts p g) k) .text) })
+    let k : tie.Then4 Inv-loop μ-loop = search in
+    passed-again (attribute-at k) (attributes k) (c .skip .ensures) (λ t g. record { what = _; same = attribute-pat (parts (attribute-at k) g) (k .if4 .taken) })
 
 returns-3 : tie.Need-returns-3 Inv-loop μ-loop
 returns-3 c =
-    let p = c .before .before .before in
-    let e = turn (access p) in
-    λ t g. record { how = no-top (seen e g) (no-item-step (parts p g) (c .before .if4 .left) (c .if5 .taken)) }
+    let p : tie.Else3 Inv-loop μ-loop = search in
+    λ t g. record { how = no-top (seen (path-turn p) g) (no-item-step (parts p g) (known (tie.Else4 Inv-loop μ-loop) (search) .if4 .left) (c .if5 .taken)) }
 
 sub-skip-2 : tie.Need-sub-skip-2 Inv-loop μ-loop
-sub-skip-2 c = omega (arith, path-room (c .before .before .before))
+sub-skip-2 c = omega (arith, path-room (index-at c))
 
 add-skip : tie.Need-add-skip Inv-loop μ-loop
 add-skip c =
-    let e = turn (access (c .before .before .before)) in
-    omega (arith, e .before .before .shared-slice-known .given (i e - 4))
+    let e = path-turn (index-at c) in
+    omega (arith, known (tie.After-shared-slice-known Inv-loop μ-loop) (search) .shared-slice-known .given (i e - 4))
 
 skip-requires-2 : tie.Need-skip-requires-2 Inv-loop μ-loop
 skip-requires-2 c κs =
-    let p = c .before .before .before in
-    let h = reach (turn (access p)) in
-    (omega arith, record { base = _; trees = index-trees (parts p (held (turn (access p)))) (c .if5 .left) })
+    let e = path-turn (index-at c) in
+    let h = reach e in
+    (omega arith, record { base = _; trees = indexes c _ (held e) })
 
 loop-less-6 : tie.Need-loop-less-6 Inv-loop μ-loop
 loop-less-6 c =
-    let p = c .before .before .before .before in
-    let e = turn (access p) in
-    omega (arith, c .skip2 .ensures _ (index-trees (parts p (held e)) (c .before .if5 .left)) .at, parts p (held e) .room)
+    let k : tie.Else5 Inv-loop μ-loop = search in
+    passed-less (index-at k) (indexes k) (c .skip2 .ensures)
 
 loop-again-6 : tie.Need-loop-again-6 Inv-loop μ-loop
 loop-again-6 c =
-    let p = c .before .before .before .before in
-    let e = turn (access p) in
-    let h = reach e in
-    let k = c .before .if5 .left in
-    (omega (arith, loop-less-6 c), λ t g. record { ahead = _; left = off-top (seen e g) _ (index-pat (parts p g) k) (c .skip2 .ensures _ (index-trees (parts p g) k) .text) })
+    let k : tie.Else5 Inv-loop μ-loop = search in
+    passed-again (index-at k) (indexes k) (c .skip2 .ensures) (λ t g. record { what = _; same = index-pat (parts (index-at k) g) (k .if5 .left) })
 
 returns-4 : tie.Need-returns-4 Inv-loop μ-loop
 returns-4 c =
-    let e = c .before .before in
+    let e : Turn = search in
     let n = c .match .rest in
     λ t g. record { how = no-pattern (seen e g) (λ k. n .0 .0 .0 .1 (inl k)) (λ k. n .0 .0 .0 .1 (inr k)) (n .0 .0 .1) (n .0 .1) (n .1) }
 
 returns-5 : tie.Need-returns-5 Inv-loop μ-loop
-returns-5 c = λ t g. record { how = settled (all-read _ _ (c .before .loop .inv .0) (c .before .loop .inv .1 _ g .left) (no-shorter _ _ _ _ g (c .loop-test .left))) }
+returns-5 c =
+    let l = known (tie.At-loop Inv-loop μ-loop) (search) .loop in
+    λ t g. record { how = settled (all-read _ _ (l .inv .0) (l .inv .1 _ g .left) (no-shorter _ _ _ _ g (c .loop-test .left))) }
 
 pub settles-spec : {M : Type 1} → statement M
 settles-spec =

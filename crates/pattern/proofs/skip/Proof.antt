@@ -6,6 +6,7 @@ use native.Mathlib.Nat.{le-trans, sub-le}
 use borrow.Author.Needs.{needs}
 use lib.ListN.{length, take}
 use Rattle.tree.specs.Rows.{Trees, ScanStep, scan-step, enough, ended}
+use Rattle.tree.proofs.Known.{known}
 use Rattle.pattern.proofs.skip.Statement.{statement}
 use Rattle.pattern.proofs.skip.Tie as tie
 
@@ -19,12 +20,15 @@ abbrev μ-loop : tie.MeasureT-loop
 -- a turn: the last of the trees is taken apart
 module _ (c : tie.In-loop Inv-loop μ-loop) where
   abbrev start : tie.Start Inv-loop μ-loop
-  start = c .before .before
+  start = search
 
-  abbrev scanned : {B : List ℕ} → Trees B (take (start .args .to) (start .args .store .now)) (start .args .n) → ScanStep B (start .args .store .now) (c .before .loop .i) (c .before .loop .need)
-  scanned {B = B} t = scan-step B (start .args .store .now) (c .before .loop .i) (c .before .loop .need) (c .before .loop .inv .0) (c .before .loop .inv .1 B t) (c .loop-test .taken)
+  abbrev at : tie.At-loop Inv-loop μ-loop
+  at = search
 
-  room : 2 ≤ c .before .loop .i
+  abbrev scanned : {B : List ℕ} → Trees B (take (start .args .to) (start .args .store .now)) (start .args .n) → ScanStep B (start .args .store .now) (at .loop .i) (at .loop .need)
+  scanned {B = B} t = scan-step B (start .args .store .now) (at .loop .i) (at .loop .need) (at .loop .inv .0) (at .loop .inv .1 B t) (c .loop-test .taken)
+
+  room : 2 ≤ at .loop .i
   room = omega (arith, scanned (start .pre .1 .trees) .room)
 
 loop-holds : tie.Need-loop-holds Inv-loop μ-loop
@@ -37,25 +41,28 @@ mul-children : tie.Need-mul-children Inv-loop μ-loop
 mul-children c = omega arith
 
 shared-slice-read-children : tie.Need-shared-slice-read-children Inv-loop μ-loop
-shared-slice-read-children c = omega (arith, room (c .before))
+shared-slice-read-children c = omega (arith, room (search))
 
 sub-need : tie.Need-sub-need Inv-loop μ-loop
 sub-need c = search needs
 
 add-need : tie.Need-add-need Inv-loop μ-loop
 add-need c =
-    let e = c .before in
-    let h = e .before .loop .inv .0 in
-    omega (arith, enough _ (start e .args .store .now) (e .before .loop .i - 2) _ (le-trans (sub-le _ 2) h) (scanned e (start e .pre .1 .trees) .rest))
+    let e : tie.In-loop Inv-loop μ-loop = search in
+    let l = at e .loop in
+    let h = l .inv .0 in
+    omega (arith, enough _ (start e .args .store .now) (l .i - 2) _ (le-trans (sub-le _ 2) h) (scanned e (start e .pre .1 .trees) .rest))
 
 loop-less : tie.Need-loop-less Inv-loop μ-loop
-loop-less c = omega (arith, room (c .before))
+loop-less c = omega (arith, room (search))
 
 loop-again : tie.Need-loop-again Inv-loop μ-loop
-loop-again c = (omega arith, λ B t. scanned (c .before) t .rest)
+loop-again c = (omega arith, λ B t. scanned (search) t .rest)
 
 returns : tie.Need-returns Inv-loop μ-loop
-returns c = λ B t. ended B (c .before .before .args .store .now) _ _ (c .before .loop .inv .0) (c .before .loop .inv .1 B t) (omega arith)
+returns c =
+    let l = known (tie.At-loop Inv-loop μ-loop) (search) .loop in
+    λ B t. ended B (known (tie.Start Inv-loop μ-loop) (search) .args .store .now) _ _ (l .inv .0) (l .inv .1 B t) (omega arith)
 
 pub skip-spec : {M : Type 1} → statement M
 skip-spec =

@@ -5,6 +5,7 @@ use Prim.Native.Nat.{_*_, _≤_}
 use native.Mathlib.Omega.{arith}
 use lib.ListN.{length}
 use lib.Seq.{length-take-le}
+use Rattle.tree.proofs.Known.{known}
 use Rattle.treelist.proofs.Scans.{ended-ready}
 use Rattle.treelist.proofs.list.Statement.{statement}
 use Rattle.treelist.proofs.list.Tie as tie
@@ -19,11 +20,11 @@ returns : tie.Need-returns
 returns c = search needs
 
 mul-end : tie.Need-mul-end
-mul-end c = let r = ended-ready (c .before .before .before .pre) in record { fits = omega (arith, r .sound .lines) }
+mul-end c = let r = ended-ready (known tie.Start (search) .pre) in record { fits = omega (arith, r .sound .lines) }
 
 slice-aggregate-print-answers : tie.Need-slice-aggregate-print-answers
 slice-aggregate-print-answers c =
-    let start = c .before .before .before .before in
+    let start : tie.Start = search in
     let r = ended-ready (start .pre) in
     let l : 2 * start .args .scan .lines ≤ length (start .args .sheet .now) = omega (arith, r .sound .lines, r .whole) in
     sym (length-take-le _ _ l)

@@ -1,6 +1,7 @@
 -- `main`: what is listed was read to its end. Assumes nothing.
 use borrow.Author.Needs.{needs}
 use mathlib.Core.Path.{sym}
+use Rattle.tree.proofs.Known.{known}
 use Rattle.treelist.proofs.Inputs.{read-whole}
 use Rattle.treelist.proofs.main.Statement.{statement}
 use Rattle.treelist.proofs.main.Tie as tie
@@ -12,10 +13,10 @@ enum-known-input : tie.Need-enum-known-input
 enum-known-input c = search needs
 
 slice-aggregate-list : tie.Need-slice-aggregate-list
-slice-aggregate-list c = sym (read-whole (c .before .before .input .given .1) (c .before .before .before .before .read-lines .ensures) .1 .whole)
+slice-aggregate-list c = sym (read-whole (known tie.After-input (search) .input .given .1) (known tie.After-read-lines (search) .read-lines .ensures) .1 .whole)
 
 list-requires : tie.Need-list-requires
-list-requires c κs = read-whole (c .before .before .input .given .1) (c .before .before .before .before .read-lines .ensures)
+list-requires c κs = read-whole (known tie.After-input (search) .input .given .1) (known tie.After-read-lines (search) .read-lines .ensures)
 
 enum-told : tie.Need-enum-told
 enum-told c = search needs

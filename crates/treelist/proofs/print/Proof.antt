@@ -2,6 +2,7 @@
 use borrow.Author.Needs.{needs}
 use mathlib.Core.Path.{subst}
 use Rattle.treelist.specs.Printing.{Holds}
+use Rattle.tree.proofs.Known.{known}
 use Rattle.treelist.proofs.print.Statement.{statement}
 use Rattle.treelist.proofs.print.Tie as tie
 
@@ -19,8 +20,8 @@ returns c = search needs
 
 print-nodes-requires : tie.Need-print-nodes-requires
 print-nodes-requires c κs =
-    let start = c .before .before .before .before .before .before .before in
-    subst (λ a. Holds a (start .args .store .now)) (c .before .before .before .before .answer .given .1) (start .pre)
+    let start : tie.Start = search in
+    subst (λ a. Holds a (start .args .store .now)) (known tie.After-answer (search) .answer .given .1) (start .pre)
 
 enum-known-answer-2 : tie.Need-enum-known-answer-2
 enum-known-answer-2 c = search needs

@@ -4,6 +4,7 @@ use mathlib.Core.Path.{sym}
 use Prim.Native.Nat.{ℕ}
 use native.Mathlib.Omega.{arith}
 use lib.Seq.{length-take-le}
+use Rattle.tree.proofs.Known.{known}
 use Rattle.treelist.proofs.print_answer.Statement.{statement}
 use Rattle.treelist.proofs.print_answer.Tie as tie
 
@@ -18,7 +19,7 @@ array-share-prefix-line c = search needs
 
 slice-aggregate-write-all : tie.Need-slice-aggregate-write-all
 slice-aggregate-write-all c =
-    let n : ℕ = c .before .before .answer-line .result in
+    let n : ℕ = known tie.After-answer-line (search) .answer-line .result in
     sym (length-take-le n _ (omega arith))
 
 write-all-requires : tie.Need-write-all-requires

@@ -6,6 +6,7 @@ use lib.ListN.{length}
 use Rattle.grammar.specs.Reading.Next.{Accepted}
 use Rattle.grammar.specs.Laws.Returned.{fresh-accepted}
 use Rattle.agreement.specs.Corollaries.{left-over}
+use Rattle.tree.proofs.Known.{known}
 use Rattle.treelist.proofs.Calls.{held, nearer, accepted}
 use Rattle.treelist.proofs.print_answers.Statement.{statement}
 use Rattle.treelist.proofs.print_answers.Tie as tie
@@ -16,6 +17,9 @@ Inv-loop tokens store₀ reader₀ store reader = (length store ≡ length store
 abbrev μ-loop : tie.MeasureT-loop
 μ-loop tokens store₀ reader₀ store reader = left-over tokens reader
 
+accepted-before : (c : tie.After-next-stmt Inv-loop μ-loop) → Accepted (known (tie.Start Inv-loop μ-loop) (search) .args .tokens .now) (known (tie.At-loop Inv-loop μ-loop) (search) .loop .reader)
+accepted-before c = known (tie.At-loop Inv-loop μ-loop) (search) .loop .inv .1
+
 loop-holds : tie.Need-loop-holds Inv-loop μ-loop
 loop-holds c = (search needs, fresh-accepted _)
 
@@ -23,7 +27,7 @@ next-stmt-requires : tie.Need-next-stmt-requires Inv-loop μ-loop
 next-stmt-requires c κs = search needs
 
 print-requires : tie.Need-print-requires Inv-loop μ-loop
-print-requires c κs = held _ _ _ (c .before .before .before .next-stmt .ensures)
+print-requires c κs = held _ _ _ (known (tie.After-next-stmt Inv-loop μ-loop) (search) .next-stmt .ensures)
 
 same-length : tie.Need-same-length Inv-loop μ-loop
 same-length c = search needs
@@ -42,14 +46,14 @@ returns-2 c = search needs
 
 loop-less : tie.Need-loop-less Inv-loop μ-loop
 loop-less c =
-    let called = c .before .before .before .before .before .before .before .before in
-    nearer _ _ _ (called .next-stmt .ensures) (called .before .before .loop .inv .1)
-    (sym (c .before .before .goes-on .ensures) ∙ not-false _ (c .before .if2 .left))
+    let called : tie.After-next-stmt Inv-loop μ-loop = search in
+    nearer _ _ _ (called .next-stmt .ensures) (accepted-before called)
+    (sym (known (tie.After-goes-on Inv-loop μ-loop) (search) .goes-on .ensures) ∙ not-false _ (known (tie.Else2 Inv-loop μ-loop) (search) .if2 .left))
 
 loop-again : tie.Need-loop-again Inv-loop μ-loop
 loop-again c =
-    let called = c .before .before .before .before .before .before .before .before in
-    (search needs, accepted _ _ _ (called .next-stmt .ensures) (called .before .before .loop .inv .1))
+    let called : tie.After-next-stmt Inv-loop μ-loop = search in
+    (search needs, accepted _ _ _ (called .next-stmt .ensures) (accepted-before called))
 
 pub print-answers-spec : {M : Type 1} → statement M
 print-answers-spec =

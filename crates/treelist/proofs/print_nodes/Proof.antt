@@ -5,6 +5,7 @@ use Prim.Native.Nat.{ℕ, _*_, _-_, _≤_}
 use native.Mathlib.Omega.{arith}
 use lib.ListN.{length}
 use lib.Seq.{length-take-le}
+use Rattle.tree.proofs.Known.{known}
 use Rattle.treelist.proofs.print_nodes.Statement.{statement}
 use Rattle.treelist.proofs.print_nodes.Tie as tie
 
@@ -49,7 +50,7 @@ array-share-prefix-line c = search needs
 
 slice-aggregate-write-all : tie.Need-slice-aggregate-write-all Inv-loop μ-loop
 slice-aggregate-write-all c =
-    let n : ℕ = c .before .before .node-line .result in
+    let n : ℕ = known (tie.After-node-line Inv-loop μ-loop) (search) .node-line .result in
     sym (length-take-le n _ (omega arith))
 
 write-all-requires : tie.Need-write-all-requires Inv-loop μ-loop

@@ -11,7 +11,7 @@ use Rattle.writer.proofs.Ending.{semicolon, run-deep, run-done}
 use Rattle.tables.specs.Answer.{cleared}
 use Rattle.writer.proofs.run_out.Statement.{statement}
 use Rattle.writer.proofs.run_out.Tie as tie
-use Rattle.writer.proofs.Known.{known}
+use Rattle.tree.proofs.Known.{known}
 
 -- the text begins with the semicolon
 module _ (c : tie.After-write-tree) where

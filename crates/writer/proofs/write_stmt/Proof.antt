@@ -13,7 +13,7 @@ use Rattle.tables.specs.Answer.{cleared}
 use Rattle.writer.proofs.Entry.{shape-at, no-tree, illegal, legal}
 use Rattle.writer.proofs.write_stmt.Statement.{statement}
 use Rattle.writer.proofs.write_stmt.Tie as tie
-use Rattle.writer.proofs.Known.{known}
+use Rattle.tree.proofs.Known.{known}
 
 -- the words are those of one tree
 module _ (c : tie.Else1) where

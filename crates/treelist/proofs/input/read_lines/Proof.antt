@@ -1,6 +1,7 @@
 -- `read_lines`: the bytes of the reads, one after the other, come to what the scan and the sheet say. Assumes nothing.
 use borrow.Author.Needs.{needs}
 use native.Mathlib.Omega.{arith}
+use Rattle.tree.proofs.Known.{known}
 use Rattle.treelist.proofs.Scans.{Reading, begun, ended}
 use Rattle.treelist.proofs.Inputs.{fed-more, fed-end}
 use Rattle.treelist.proofs.input.read_lines.Statement.{statement}
@@ -16,10 +17,10 @@ at-line-requires : tie.Need-at-line-requires Inv-loop μ-loop
 at-line-requires c κs = search needs
 
 loop-holds : tie.Need-loop-holds Inv-loop μ-loop
-loop-holds c = begun _ (c .at-line .ensures) (c .before .pre)
+loop-holds c = begun _ (c .at-line .ensures) (known (tie.Start Inv-loop μ-loop) (search) .pre)
 
 feed-requires : tie.Need-feed-requires Inv-loop μ-loop
-feed-requires c κs = c .before .before .loop .inv .0
+feed-requires c κs = known (tie.At-loop Inv-loop μ-loop) (search) .loop .inv .0
 
 enum-known-fed : tie.Need-enum-known-fed Inv-loop μ-loop
 enum-known-fed c = search needs
@@ -28,14 +29,12 @@ enum-told : tie.Need-enum-told Inv-loop μ-loop
 enum-told c = search needs
 
 input-end-requires : tie.Need-input-end-requires Inv-loop μ-loop
-input-end-requires c κs =
-    let read = c .before .before .before in
-    fed-end (read .before .before .before .loop .inv) (c .before .enum-told .given .1) (read .feed .ensures) .0
+input-end-requires c κs = fed-end (known (tie.At-loop Inv-loop μ-loop) (search) .loop .inv) (known (tie.After-enum-told Inv-loop μ-loop) (search) .enum-told .given .1) (known (tie.After-feed Inv-loop μ-loop) (search) .feed .ensures) .0
 
 returns : tie.Need-returns Inv-loop μ-loop
 returns c =
-    let read = c .before .before .before .before in
-    ended (fed-end (read .before .before .before .loop .inv) (c .before .before .enum-told .given .1) (read .feed .ensures)) (c .input-end .ensures)
+    ended (fed-end (known (tie.At-loop Inv-loop μ-loop) (search) .loop .inv) (known (tie.After-enum-told Inv-loop μ-loop) (search) .enum-told .given .1) (known (tie.After-feed Inv-loop μ-loop) (search) .feed .ensures))
+    (c .input-end .ensures)
 
 enum-told-2 : tie.Need-enum-told-2 Inv-loop μ-loop
 enum-told-2 c = search needs
@@ -51,8 +50,7 @@ loop-less c = omega arith
 
 loop-again : tie.Need-loop-again Inv-loop μ-loop
 loop-again c =
-    let read = c .before .before .before in
-    fed-more (read .before .before .before .loop .inv) (c .before .fed .given .1) (read .feed .ensures)
+    fed-more (known (tie.At-loop Inv-loop μ-loop) (search) .loop .inv) (known (tie.After-fed Inv-loop μ-loop) (search) .fed .given .1) (known (tie.After-feed Inv-loop μ-loop) (search) .feed .ensures)
 
 returns-3 : tie.Need-returns-3 Inv-loop μ-loop
 returns-3 c = search needs

@@ -3,15 +3,16 @@ use borrow.Author.Needs.{needs}
 use mathlib.Core.Path.{refl}
 use mir.Syntax.{w64}
 use mir.ValLaws.{toZ-ofZ}
+use Rattle.tree.proofs.Known.{known}
 use Rattle.treelist.proofs.Inputs.{is-negative, is-zero, is-positive}
 use Rattle.treelist.proofs.input.read_result.Statement.{statement}
 use Rattle.treelist.proofs.input.read_result.Tie as tie
 
 returns : tie.Need-returns
-returns c = (is-negative _ (c .before .before .fits .got) (c .if1 .taken), refl)
+returns c = (is-negative _ (known tie.Start (search) .fits .got) (c .if1 .taken), refl)
 
 returns-2 : tie.Need-returns-2
-returns-2 c = (is-zero _ (c .before .before .before .fits .got) (c .if2 .taken), refl)
+returns-2 c = (is-zero _ (known tie.Start (search) .fits .got) (c .if2 .taken), refl)
 
 count-requires : tie.Need-count-requires
 count-requires c κs = search needs
@@ -24,10 +25,8 @@ bytes-read-requires c κs = search needs
 
 returns-3 : tie.Need-returns-3
 returns-3 c =
-    let counted = c .before .before .before in
-    let tested = counted .before in
-    let fits = tested .before .before .before .fits .got in
-    (is-positive _ fits (tested .before .if1 .left) (tested .if2 .left), rw (counted .count .ensures .1, toZ-ofZ w64 _ fits) at (c .bytes-read .ensures))
+    let fits = known tie.Start (search) .fits .got in
+    (is-positive _ fits (known tie.Else1 (search) .if1 .left) (known tie.Else2 (search) .if2 .left), rw (known tie.After-count (search) .count .ensures .1, toZ-ofZ w64 _ fits) at (c .bytes-read .ensures))
 
 pub read-result-spec : {M : Type 1} → statement M
 read-result-spec =

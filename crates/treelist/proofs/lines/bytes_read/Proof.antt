@@ -1,10 +1,10 @@
 -- `bytes_read`: the bytes that are left, read from where the scan stands, come to what all of them come to. Assumes nothing.
 use mathlib.Core.Path.{_≡_, refl}
-use mathlib.Core.List.{List}
-use Prim.Native.Nat.{ℕ, _-_, _≤_}
+use Prim.Native.Nat.{_-_, _≤_}
 use native.Mathlib.Omega.{arith}
 use lib.ListN.{length, drop}
 use Rattle.treelist.specs.Lines.{progress, read, Ready}
+use Rattle.tree.proofs.Known.{known}
 use Rattle.treelist.proofs.Scans.{next, all-read}
 use Rattle.treelist.proofs.lines.bytes_read.Statement.{statement}
 use Rattle.treelist.proofs.lines.bytes_read.Tie as tie
@@ -17,13 +17,13 @@ abbrev μ-loop : tie.MeasureT-loop
 μ-loop bytes sheet₀ s₀ i₀ sheet s i = length bytes - i
 
 loop-holds : tie.Need-loop-holds Inv-loop μ-loop
-loop-holds c = (omega arith, c .before .pre, refl)
+loop-holds c = (omega arith, known (tie.Start Inv-loop μ-loop) (search) .pre, refl)
 
 shared-slice-read-byte-read : tie.Need-shared-slice-read-byte-read Inv-loop μ-loop
 shared-slice-read-byte-read c = omega arith
 
 byte-read-requires : tie.Need-byte-read-requires Inv-loop μ-loop
-byte-read-requires c κs = c .before .before .before .loop .inv .1
+byte-read-requires c κs = known (tie.At-loop Inv-loop μ-loop) (search) .loop .inv .1
 
 add-i : tie.Need-add-i Inv-loop μ-loop
 add-i c = omega arith
@@ -33,13 +33,14 @@ loop-less c = omega arith
 
 loop-again : tie.Need-loop-again Inv-loop μ-loop
 loop-again c =
-    let bytes : List ℕ = c .before .before .before .before .before .before .args .bytes .now in
-    let i : ℕ = c .before .before .before .before .loop .i in
-    let (ready, reading) = next bytes i (c .before .before .before .loop-test .taken) (c .before .before .before .before .loop .inv .1) (c .byte-read .ensures) (c .before .before .before .before .loop .inv .2) in
+    let l = known (tie.At-loop Inv-loop μ-loop) (search) .loop in
+    let (ready, reading) = next (known (tie.Start Inv-loop μ-loop) (search) .args .bytes .now) (l .i) (known (tie.In-loop Inv-loop μ-loop) (search) .loop-test .taken) (l .inv .1) (c .byte-read .ensures) (l .inv .2) in
     (omega arith, ready, reading)
 
 returns : tie.Need-returns Inv-loop μ-loop
-returns c = record { reading = all-read (c .before .before .before .args .bytes .now) (c .before .loop .i) (c .loop-test .left) (c .before .loop .inv .2); whole = c .before .loop .inv .1 .whole }
+returns c =
+    let l = known (tie.At-loop Inv-loop μ-loop) (search) .loop in
+    record { reading = all-read (known (tie.Start Inv-loop μ-loop) (search) .args .bytes .now) (l .i) (c .loop-test .left) (l .inv .2); whole = l .inv .1 .whole }
 
 pub bytes-read-spec : {M : Type 1} → statement M
 bytes-read-spec =

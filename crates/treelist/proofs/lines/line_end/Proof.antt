@@ -5,17 +5,26 @@ use mathlib.Core.Bool.{true, false}
 use Prim.Native.Nat.{_≤_, _<_}
 use native.Mathlib.Omega.{arith}
 use borrow.Author.Tests.{eq-eqb, ne-eqb, le-ltb, not-true, not-false}
-use Rattle.treelist.specs.Lines.{line-end}
+use Rattle.treelist.specs.Lines.{most-lines, line-end}
+use Rattle.tree.proofs.Known.{known}
 use Rattle.treelist.proofs.Scans.{added}
 use Rattle.treelist.proofs.lines.line_end.Statement.{statement}
 use Rattle.treelist.proofs.lines.line_end.Tie as tie
+
+-- the line has its last number begun
+module _ (c : tie.Else2) where
+  abbrev start : tie.Start
+  start = search
+
+  begun : start .args .scan .begun ≡ true
+  begun = not-false _ (c .if2 .left)
 
 malformed-requires : tie.Need-malformed-requires
 malformed-requires c κs = search needs
 
 returns : tie.Need-returns
 unfolding line-end
-returns c = record { reading = rw (ne-eqb _ _ (c .before .if1 .taken), c .malformed .ensures); whole = c .before .before .before .pre .whole }
+returns c = record { reading = rw (ne-eqb _ _ (known tie.Then1 (search) .if1 .taken), c .malformed .ensures); whole = known tie.Start (search) .pre .whole }
 
 malformed-requires-2 : tie.Need-malformed-requires-2
 malformed-requires-2 c κs = search needs
@@ -23,8 +32,8 @@ malformed-requires-2 c κs = search needs
 returns-2 : tie.Need-returns-2
 unfolding line-end
 returns-2 c =
-    let b : c .before .before .before .before .before .args .scan .begun ≡ false = not-true _ (c .before .if2 .taken) in
-    record { reading = rw (eq-eqb _ _ (c .before .before .before .if1 .left), b, c .malformed2 .ensures); whole = c .before .before .before .before .before .pre .whole }
+    let b : known tie.Start (search) .args .scan .begun ≡ false = not-true _ (known tie.Then2 (search) .if2 .taken) in
+    record { reading = rw (eq-eqb _ _ (known tie.Else1 (search) .if1 .left), b, c .malformed2 .ensures); whole = known tie.Start (search) .pre .whole }
 
 malformed-requires-3 : tie.Need-malformed-requires-3
 malformed-requires-3 c κs = search needs
@@ -32,9 +41,9 @@ malformed-requires-3 c κs = search needs
 returns-3 : tie.Need-returns-3
 unfolding line-end
 returns-3 c =
-    let b : c .before .before .before .before .before .before .args .scan .begun ≡ true = not-false _ (c .before .before .if2 .left) in
-    let l : 500 ≤ c .before .before .before .before .before .before .args .scan .lines = omega arith in
-    record { reading = rw (eq-eqb _ _ (c .before .before .before .before .if1 .left), b, le-ltb _ _ l, c .malformed3 .ensures); whole = c .before .before .before .before .before .before .pre .whole }
+    let s : tie.Start = search in
+    let l : most-lines ≤ s .args .scan .lines = omega arith in
+    record { reading = rw (eq-eqb _ _ (known tie.Else1 (search) .if1 .left), begun (search), le-ltb _ _ l, c .malformed3 .ensures); whole = s .pre .whole }
 
 mul-sheet : tie.Need-mul-sheet
 mul-sheet c = search needs
@@ -71,9 +80,10 @@ at-line-requires c κs = search needs
 
 returns-4 : tie.Need-returns-4
 returns-4 c =
-    let b : c .before .before .before .before .before .before .before .before .args .scan .begun ≡ true = not-false _ (c .before .before .before .before .if2 .left) in
-    let l : c .before .before .before .before .before .before .before .before .args .scan .lines < 500 = omega (arith, c .before .before .before .before .before .before .before .before .pre .sound .lines) in
-    rw (c .at-line .ensures) (added (c .before .before .before .before .before .before .before .before .args .scan) (c .before .before .before .before .before .before .before .before .args .sheet .now) (c .before .before .before .before .before .before .if1 .left) b l (c .before .before .before .before .before .before .before .before .pre .whole))
+    let e : tie.Else2 = search in
+    let s = start e in
+    let l : s .args .scan .lines < most-lines = omega (arith, s .pre .sound .lines) in
+    rw (c .at-line .ensures) (added (s .args .scan) (s .args .sheet .now) (known tie.Else1 (search) .if1 .left) (begun e) l (s .pre .whole))
 
 pub line-end-spec : {M : Type 1} → statement M
 line-end-spec =

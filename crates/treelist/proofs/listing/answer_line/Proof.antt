@@ -2,9 +2,13 @@
 use borrow.Author.Needs.{needs}
 use native.Mathlib.Omega.{arith}
 use Rattle.treelist.specs.Listing.{line-size}
+use Rattle.tree.proofs.Known.{known}
 use Rattle.treelist.proofs.Texts.{put-then, put-within}
 use Rattle.treelist.proofs.listing.answer_line.Statement.{statement}
 use Rattle.treelist.proofs.listing.answer_line.Tie as tie
+
+abbrev after-put : tie.After-put-number → tie.After-put
+after-put c = search
 
 put-requires : tie.Need-put-requires
 put-requires c κs = search needs
@@ -23,10 +27,8 @@ same-length c = search needs
 
 returns : tie.Need-returns
 returns c =
-    put-within line-size (omega arith)
-    (put-then
-    (put-then (c .before .before .before .before .before .before .before .before .before .before .before .put .ensures) (c .before .before .before .before .before .before .before .put-number .ensures))
-    (c .before .before .put2 .ensures))
+    let n : tie.After-put-number = search in
+    put-within line-size (omega arith) (put-then (put-then (after-put n .put .ensures) (n .put-number .ensures)) (known tie.After-put2 (search) .put2 .ensures))
 
 pub answer-line-spec : {M : Type 1} → statement M
 answer-line-spec =

@@ -2,9 +2,26 @@
 use borrow.Author.Needs.{needs}
 use native.Mathlib.Omega.{arith}
 use Rattle.treelist.specs.Listing.{line-size, names}
+use Rattle.tree.proofs.Known.{known}
 use Rattle.treelist.proofs.Texts.{put-then, put-within}
 use Rattle.treelist.proofs.listing.node_line.Statement.{statement}
 use Rattle.treelist.proofs.listing.node_line.Tie as tie
+
+-- the calls, each found from the next one
+abbrev after-put : tie.After-put-word → tie.After-put
+after-put c = search
+
+abbrev after-put-word : tie.After-put2 → tie.After-put-word
+after-put-word c = search
+
+abbrev after-put2 : tie.After-put-number → tie.After-put2
+after-put2 c = search
+
+abbrev after-put-number : tie.After-put3 → tie.After-put-number
+after-put-number c = search
+
+abbrev after-put3 : tie.After-put-number2 → tie.After-put3
+after-put3 c = search
 
 slice-aggregate-put : tie.Need-slice-aggregate-put
 slice-aggregate-put c = search needs
@@ -48,10 +65,15 @@ same-length c = search needs
 returns : tie.Need-returns
 unfolding names
 returns c =
+    let value : tie.After-put-number2 = search in
+    let b = after-put3 value in
+    let kids = after-put-number b in
+    let a = after-put2 kids in
+    let name = after-put-word a in
     put-within line-size (omega arith)
     (put-then (put-then (put-then (put-then (put-then
-    (put-then (c .before .before .before .before .before .before .before .before .before .before .before .before .before .before .before .before .before .before .before .before .before .before .before .before .before .before .before .before .before .before .put .ensures) (c .before .before .before .before .before .before .before .before .before .before .before .before .before .before .before .before .before .before .before .before .before .before .before .before .before .put-word .ensures))
-    (c .before .before .before .before .before .before .before .before .before .before .before .before .before .before .before .before .before .before .before .before .put2 .ensures)) (c .before .before .before .before .before .before .before .before .before .before .before .before .before .before .before .before .put-number .ensures)) (c .before .before .before .before .before .before .before .before .before .before .before .put3 .ensures)) (c .before .before .before .before .before .before .before .put-number2 .ensures)) (c .before .before .put4 .ensures))
+    (put-then (after-put name .put .ensures) (name .put-word .ensures)) (a .put2 .ensures)) (kids .put-number .ensures)) (b .put3 .ensures)) (value .put-number2 .ensures))
+    (known tie.After-put4 (search) .put4 .ensures))
 
 pub node-line-spec : {M : Type 1} → statement M
 node-line-spec =

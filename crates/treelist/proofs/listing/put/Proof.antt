@@ -1,10 +1,11 @@
 -- `put`: so many bytes of the text stand behind the place. Assumes nothing.
 use mathlib.Core.Path.{_≡_, refl, _∙_}
-use mathlib.Core.List.{List, _++_}
-use Prim.Native.Nat.{ℕ, _+_, _-_, _≤_}
+use mathlib.Core.List.{_++_}
+use Prim.Native.Nat.{_+_, _-_, _≤_}
 use native.Mathlib.Omega.{arith}
 use lib.ListN.{length, take, length-set}
 use lib.Seq.{take-all}
+use Rattle.tree.proofs.Known.{known}
 use Rattle.treelist.proofs.Texts.{put-none, put-more}
 use Rattle.treelist.proofs.listing.put.Statement.{statement}
 use Rattle.treelist.proofs.listing.put.Tie as tie
@@ -35,12 +36,12 @@ loop-less c = omega arith
 
 loop-again : tie.Need-loop-again Inv-loop μ-loop
 loop-again c =
-    let text : List ℕ = c .before .before .before .args .text .now in
-    let start : List ℕ = take (c .before .before .before .args .at) (c .before .before .before .args .line .now) in (
+    let s = known (tie.Start Inv-loop μ-loop) (search) .args in
+    let l = known (tie.At-loop Inv-loop μ-loop) (search) .loop in (
       omega arith,
-      simp length-set (c .before .before .loop .inv .1),
-      c .before .before .loop .inv .2,
-      put-more (c .before .before .loop .line) start text (c .before .before .before .args .at) (c .before .before .loop .i) (omega arith) (c .before .loop-test .taken) (c .before .before .loop .inv .3),
+      simp length-set (l .inv .1),
+      l .inv .2,
+      put-more (l .line) (take (s .at) (s .line .now)) (s .text .now) (s .at) (l .i) (omega arith) (known (tie.In-loop Inv-loop μ-loop) (search) .loop-test .taken) (l .inv .3),
     )
 
 add-result : tie.Need-add-result Inv-loop μ-loop
@@ -51,11 +52,12 @@ same-length c = omega arith
 
 returns : tie.Need-returns Inv-loop μ-loop
 returns c =
+    let l = known (tie.At-loop Inv-loop μ-loop) (search) .loop in
     record {
       next = omega arith;
       within = omega arith;
-      start = c .before .loop .inv .3 ∙ rw (take-all (c .before .loop .i) (c .before .before .args .text .now) (c .loop-test .left));
-      whole = c .before .loop .inv .1;
+      start = l .inv .3 ∙ rw (take-all (l .i) (known (tie.Start Inv-loop μ-loop) (search) .args .text .now) (c .loop-test .left));
+      whole = l .inv .1;
     }
 
 pub put-spec : {M : Type 1} → statement M

@@ -4,9 +4,18 @@ use mathlib.Core.Path.{_∙_}
 use Prim.Native.Nat.{ℕ, _≤_}
 use native.Mathlib.Omega.{arith}
 use Rattle.treelist.specs.Listing.{decimal}
+use Rattle.tree.proofs.Known.{known}
 use Rattle.treelist.proofs.Texts.{decimal-digits, twenty-digits, put-within, put-text}
 use Rattle.treelist.proofs.listing.put_number.Statement.{statement}
 use Rattle.treelist.proofs.listing.put_number.Tie as tie
+
+-- how many digits there are
+module _ (c : tie.After-decimal) where
+  abbrev start : tie.Start
+  start = search
+
+  few : c .decimal .result ≤ 20
+  few = twenty-digits (start .args .n) (c .decimal .result) (start .fits .n .fits) (c .decimal .ensures .1 .0)
 
 decimal-requires : tie.Need-decimal-requires
 decimal-requires c κs = search needs
@@ -19,19 +28,18 @@ slice-aggregate-put c = search needs
 
 put-requires : tie.Need-put-requires
 put-requires c κs =
-    let few : c .before .before .decimal .result ≤ 20 = twenty-digits (c .before .before .before .before .before .args .n) (c .before .before .decimal .result) (c .before .before .before .before .before .fits .n .fits) (c .before .before .decimal .ensures .1 .0) in
-    omega (arith, c .before .before .decimal .ensures .0 .1)
+    let d : tie.After-decimal = search in
+    omega (arith, few d, d .decimal .ensures .0 .1)
 
 same-length : tie.Need-same-length
 same-length c = search needs
 
 returns : tie.Need-returns
 returns c =
-    let n : ℕ = c .before .before .before .before .before .before .before .before .args .n in
-    let k : ℕ = c .before .before .before .before .before .decimal .result in
-    let few : k ≤ 20 = twenty-digits n k (c .before .before .before .before .before .before .before .before .fits .n .fits) (c .before .before .before .before .before .decimal .ensures .1 .0) in
-    let e = c .before .before .before .before .before .decimal .ensures .1 .1 ∙ decimal-digits 20 k n few (c .before .before .before .before .before .decimal .ensures .1 .0) in
-    put-within 20 (omega (arith, c .before .before .before .before .before .decimal .ensures .0 .1)) (put-text (decimal n) e (c .before .before .put .ensures))
+    let d : tie.After-decimal = search in
+    let n : ℕ = start d .args .n in
+    let e = d .decimal .ensures .1 .1 ∙ decimal-digits 20 (d .decimal .result) n (few d) (d .decimal .ensures .1 .0) in
+    put-within 20 (omega (arith, few d, d .decimal .ensures .0 .1)) (put-text (decimal n) e (known tie.After-put (search) .put .ensures))
 
 pub put-number-spec : {M : Type 1} → statement M
 put-number-spec =

@@ -2,14 +2,29 @@
 use borrow.Author.Needs.{needs}
 use mathlib.Core.Path.{sym}
 use mathlib.Core.List.{List}
-use Prim.Native.Nat.{ℕ}
+use Prim.Native.Nat.{ℕ, _-_, _≤_}
 use native.Mathlib.Omega.{arith}
-use lib.ListN.{length}
+use lib.ListN.{length, take, drop}
 use lib.Seq.{length-take-le}
 use Rattle.treelist.specs.Listing.{behind, word}
+use Rattle.tree.proofs.Known.{known}
 use Rattle.treelist.proofs.Texts.{put-within, put-text, part-short, word-behind}
 use Rattle.treelist.proofs.listing.put_word.Statement.{statement}
 use Rattle.treelist.proofs.listing.put_word.Tie as tie
+
+-- the word behind the others
+module _ (c : tie.After-word-len) where
+  abbrev start : tie.Start
+  start = search
+
+  abbrev text : List ℕ
+  text = start .args .text .now
+
+  abbrev others : tie.After-words-behind
+  others = search
+
+  short : length (take (c .word-len .result) (take (length text - others .words-behind .result) (drop (others .words-behind .result) text))) ≤ length text
+  short = part-short text (others .words-behind .result) (c .word-len .result)
 
 words-behind-requires : tie.Need-words-behind-requires
 words-behind-requires c κs = search needs
@@ -27,25 +42,22 @@ word-len-requires : tie.Need-word-len-requires
 word-len-requires c κs = search needs
 
 slice-aggregate-put : tie.Need-slice-aggregate-put
-slice-aggregate-put c = sym (length-take-le (c .before .before .word-len .result) _ (c .before .before .word-len .ensures .0))
+slice-aggregate-put c =
+    let w = known tie.After-word-len (search) .word-len in
+    sym (length-take-le (w .result) _ (w .ensures .0))
 
 put-requires : tie.Need-put-requires
-put-requires c κs =
-    let text : List ℕ = c .before .before .before .before .before .before .before .args .text .now in
-    let start : ℕ = c .before .before .before .before .words-behind .result in
-    let n : ℕ = c .before .before .word-len .result in
-    omega (arith, part-short text start n)
+put-requires c κs = omega (arith, short (search))
 
 same-length : tie.Need-same-length
 same-length c = search needs
 
 returns : tie.Need-returns
 returns c =
-    let text : List ℕ = c .before .before .before .before .before .before .before .before .before .before .args .text .now in
-    let start : ℕ = c .before .before .before .before .before .before .before .words-behind .result in
-    let n : ℕ = c .before .before .before .before .before .word-len .result in
-    let e = word-behind text start n (c .before .before .before .before .before .before .before .before .before .before .args .count) (c .before .before .before .before .before .before .before .words-behind .ensures .1) (c .before .before .before .before .before .word-len .ensures .1) in
-    put-within (length text) (part-short text start n) (put-text (word (behind (c .before .before .before .before .before .before .before .before .before .before .args .count) text)) e (c .before .before .put .ensures))
+    let w : tie.After-word-len = search in
+    let count : ℕ = start w .args .count in
+    let e = word-behind (text w) (others w .words-behind .result) (w .word-len .result) count (others w .words-behind .ensures .1) (w .word-len .ensures .1) in
+    put-within (length (text w)) (short w) (put-text (word (behind count (text w))) e (known tie.After-put (search) .put .ensures))
 
 pub put-word-spec : {M : Type 1} → statement M
 put-word-spec =

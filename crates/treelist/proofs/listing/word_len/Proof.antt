@@ -5,6 +5,7 @@ use Prim.Native.Nat.{_-_, _≤_}
 use native.Mathlib.Omega.{arith}
 use lib.ListN.{length, take, drop}
 use Rattle.treelist.specs.Listing.{word}
+use Rattle.tree.proofs.Known.{known}
 use Rattle.treelist.proofs.Texts.{word-more, word-space, word-end}
 use Rattle.treelist.proofs.listing.word_len.Statement.{statement}
 use Rattle.treelist.proofs.listing.word_len.Tie as tie
@@ -22,7 +23,9 @@ shared-slice-read-if1 : tie.Need-shared-slice-read-if1 Inv-loop μ-loop
 shared-slice-read-if1 c = omega arith
 
 returns : tie.Need-returns Inv-loop μ-loop
-returns c = (omega arith, word-space (c .before .before .before .before .args .text .now) (c .before .before .before .loop .i) (c .before .before .before .loop .inv .1) (c .before .before .loop-test .taken) (c .if1 .taken))
+returns c =
+    let l = known (tie.At-loop Inv-loop μ-loop) (search) .loop in
+    (omega arith, word-space (known (tie.Start Inv-loop μ-loop) (search) .args .text .now) (l .i) (l .inv .1) (known (tie.In-loop Inv-loop μ-loop) (search) .loop-test .taken) (c .if1 .taken))
 
 add-i : tie.Need-add-i Inv-loop μ-loop
 add-i c = omega arith
@@ -31,10 +34,14 @@ loop-less : tie.Need-loop-less Inv-loop μ-loop
 loop-less c = omega arith
 
 loop-again : tie.Need-loop-again Inv-loop μ-loop
-loop-again c = (omega arith, word-more (c .before .before .before .before .args .text .now) (c .before .before .before .loop .i) (c .before .before .before .loop .inv .1) (c .before .before .loop-test .taken) (c .if1 .left))
+loop-again c =
+    let l = known (tie.At-loop Inv-loop μ-loop) (search) .loop in
+    (omega arith, word-more (known (tie.Start Inv-loop μ-loop) (search) .args .text .now) (l .i) (l .inv .1) (known (tie.In-loop Inv-loop μ-loop) (search) .loop-test .taken) (c .if1 .left))
 
 returns-2 : tie.Need-returns-2 Inv-loop μ-loop
-returns-2 c = (omega arith, word-end (c .before .before .args .text .now) (c .before .loop .i) (c .before .loop .inv .1) (c .loop-test .left))
+returns-2 c =
+    let l = known (tie.At-loop Inv-loop μ-loop) (search) .loop in
+    (omega arith, word-end (known (tie.Start Inv-loop μ-loop) (search) .args .text .now) (l .i) (l .inv .1) (c .loop-test .left))
 
 pub word-len-spec : {M : Type 1} → statement M
 word-len-spec =

@@ -6,6 +6,7 @@ use native.Mathlib.Omega.{arith}
 use borrow.Author.Tests.{eq-eqb, ne-eqb}
 use lib.ListN.{length, drop}
 use Rattle.treelist.specs.Listing.{behind}
+use Rattle.tree.proofs.Known.{known}
 use Rattle.treelist.proofs.Texts.{behind-none, behind-more, behind-end}
 use Rattle.treelist.proofs.listing.words_behind.Statement.{statement}
 use Rattle.treelist.proofs.listing.words_behind.Tie as tie
@@ -20,7 +21,9 @@ loop-holds : tie.Need-loop-holds Inv-loop μ-loop
 loop-holds c = (omega arith, refl)
 
 returns : tie.Need-returns Inv-loop μ-loop
-returns c = (omega arith, behind-none (c .before .before .before .args .text .now) (c .before .before .loop .left) (c .before .before .loop .i) (c .before .before .loop .inv .1) (c .before .loop-test .taken) (c .if1 .taken))
+returns c =
+    let l = known (tie.At-loop Inv-loop μ-loop) (search) .loop in
+    (omega arith, behind-none (known (tie.Start Inv-loop μ-loop) (search) .args .text .now) (l .left) (l .i) (l .inv .1) (known (tie.In-loop Inv-loop μ-loop) (search) .loop-test .taken) (c .if1 .taken))
 
 shared-slice-read-if2 : tie.Need-shared-slice-read-if2 Inv-loop μ-loop
 shared-slice-read-if2 c = omega arith
@@ -36,13 +39,16 @@ loop-less c = omega arith
 
 loop-again : tie.Need-loop-again Inv-loop μ-loop
 loop-again c =
-    let more = behind-more (c .before .before .before .before .before .args .text .now) (c .before .before .before .before .loop .left) (c .before .before .before .before .loop .i) (c .before .before .before .before .loop .inv .1) (c .before .before .before .loop-test .taken) (c .before .before .if1 .left) in (
+    let l = known (tie.At-loop Inv-loop μ-loop) (search) .loop in
+    let more = behind-more (known (tie.Start Inv-loop μ-loop) (search) .args .text .now) (l .left) (l .i) (l .inv .1) (known (tie.In-loop Inv-loop μ-loop) (search) .loop-test .taken) (known (tie.Else1 Inv-loop μ-loop) (search) .if1 .left) in (
       omega arith,
       ⊎-elim (λ w. rw (w .1) (rw (eq-eqb _ _ (w .0 .taken)) at more)) (λ w. rw (w .1) (rw (ne-eqb _ _ (w .0 .left)) at more)) (c .if2 .came),
     )
 
 returns-2 : tie.Need-returns-2 Inv-loop μ-loop
-returns-2 c = (omega arith, behind-end (c .before .before .args .text .now) (c .before .loop .left) (c .before .loop .i) (c .before .loop .inv .1) (c .loop-test .left))
+returns-2 c =
+    let l = known (tie.At-loop Inv-loop μ-loop) (search) .loop in
+    (omega arith, behind-end (known (tie.Start Inv-loop μ-loop) (search) .args .text .now) (l .left) (l .i) (l .inv .1) (c .loop-test .left))
 
 pub words-behind-spec : {M : Type 1} → statement M
 words-behind-spec =

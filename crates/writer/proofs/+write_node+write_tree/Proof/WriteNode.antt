@@ -16,7 +16,7 @@ use Rattle.writer.proofs.Nodes.{below-base, Left, base-deep, left-start
 use Rattle.writer.proofs.write_node.Reads as reads
 use Rattle.writer.proofs.+write_node+write_tree.Lts-write_node as lts
 use Rattle.writer.proofs.+write_node+write_tree.Proof.Base.{write-node-calls, write-node-at}
-use Rattle.writer.proofs.Known.{known}
+use Rattle.tree.proofs.Known.{known}
 
 -- whatever tree ends at p: where the loop stands in its root's children. It began with the text at a₀, what stands behind them included
 pub record Going (L O₀ : List ℕ) (d place p k v m n a₀ : ℕ) (O : List ℕ) (j q a : ℕ) : Type 0 where

@@ -16,7 +16,7 @@ use Rattle.writer.proofs.Sides.{Stage, Sides, sides, side-written, side
 use Rattle.writer.proofs.write_tree.Reads as reads
 use Rattle.writer.proofs.+write_node+write_tree.Lts-write_tree as lts
 use Rattle.writer.proofs.+write_node+write_tree.Proof.Base.{write-tree-calls, write-tree-at}
-use Rattle.writer.proofs.Known.{known}
+use Rattle.tree.proofs.Known.{known}
 
 -- whatever tree ends at `from`: where the loop stands in it
 pub record Going (L O₀ : List ℕ) (d place from end : ℕ) (O : List ℕ) (at p a : ℕ) : Type 0 where

@@ -4,7 +4,7 @@ use borrow.Author.Needs.{needs}
 use Rattle.grammar.specs.Flat.{flat-written}
 use Rattle.writer.proofs.host.flatten.Statement.{statement}
 use Rattle.writer.proofs.host.flatten.Tie as tie
-use Rattle.writer.proofs.Known.{known}
+use Rattle.tree.proofs.Known.{known}
 
 enum-known-answer : tie.Need-enum-known-answer
 enum-known-answer c = search needs

@@ -7,7 +7,7 @@ use Rattle.grammar.specs.declared.Flat.{Flat}
 use Rattle.grammar.specs.Flat.{FlatWrote, flat-wrote}
 use Rattle.writer.proofs.host.leatherlava_write_stmt.Statement.{statement}
 use Rattle.writer.proofs.host.leatherlava_write_stmt.Tie as tie
-use Rattle.writer.proofs.Known.{known}
+use Rattle.tree.proofs.Known.{known}
 
 abbrev left-with : List ℕ → Flat → FlatWrote
 left-with m x = record { answer = x; output = m }

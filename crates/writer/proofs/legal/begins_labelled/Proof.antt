@@ -16,7 +16,7 @@ use Rattle.tables.specs.Check.{begins-labelled}
 use Rattle.writer.proofs.Chains.{Down, down-start, down-place, down-kid, down-end, some-words, passes-some, labelled-down, labelled-here}
 use Rattle.writer.proofs.legal.begins_labelled.Statement.{statement}
 use Rattle.writer.proofs.legal.begins_labelled.Tie as tie
-use Rattle.writer.proofs.Known.{known}
+use Rattle.tree.proofs.Known.{known}
 
 abbrev Inv-loop : tie.InvT-loop
 Inv-loop records keys facts p q₀ q = Down records p q (maybe false begins-labelled)

@@ -15,7 +15,7 @@ use Rattle.writer.proofs.Places.{last-place, of-last}
 use Rattle.writer.proofs.Chains.{Down, down-start, down-place, down-last, down-end, some-words, single-down, single-here}
 use Rattle.writer.proofs.legal.ends_single.Statement.{statement}
 use Rattle.writer.proofs.legal.ends_single.Tie as tie
-use Rattle.writer.proofs.Known.{known}
+use Rattle.tree.proofs.Known.{known}
 
 abbrev Inv-loop : tie.InvT-loop
 Inv-loop records p q₀ q = Down records p q (maybe false ends-single)

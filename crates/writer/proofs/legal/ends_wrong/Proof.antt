@@ -4,7 +4,7 @@ use borrow.Author.Needs.{needs}
 use Rattle.tables.specs.Check.{ends-single}
 use Rattle.writer.proofs.legal.ends_wrong.Statement.{statement}
 use Rattle.writer.proofs.legal.ends_wrong.Tie as tie
-use Rattle.writer.proofs.Known.{known}
+use Rattle.tree.proofs.Known.{known}
 
 closed-requires : tie.Need-closed-requires
 closed-requires c κs = search needs

@@ -6,7 +6,7 @@ use Rattle.writer.proofs.Places.{stands, some-place, reach-of}
 use Rattle.writer.proofs.Validity.{kid-is}
 use Rattle.writer.proofs.legal.kid_fits.Statement.{statement}
 use Rattle.writer.proofs.legal.kid_fits.Tie as tie
-use Rattle.writer.proofs.Known.{known}
+use Rattle.tree.proofs.Known.{known}
 
 class-at-requires : tie.Need-class-at-requires
 class-at-requires c κs = search reach-of

@@ -15,7 +15,7 @@ use Rattle.tables.specs.Check.{node-fits}
 use Rattle.writer.proofs.Validity.{kid-test, node-unsound, node-sound}
 use Rattle.writer.proofs.legal.kids_fit.Statement.{statement}
 use Rattle.writer.proofs.legal.kids_fit.Tie as tie
-use Rattle.writer.proofs.Known.{known}
+use Rattle.tree.proofs.Known.{known}
 
 pub record Going (L : List ℕ) (p k v m q j : ℕ) : Type 0 where
   pub go : (t : Tree) (s : List Tree) → At L p (t ∷ s) → Part L q j s (kid-test k v m) (node-fits t)

@@ -15,7 +15,7 @@ use Rattle.writer.proofs.Fitted.{fit-at, not-from}
 use Rattle.writer.proofs.Memory.{table-set}
 use Rattle.writer.proofs.legal.legal.Statement.{statement}
 use Rattle.writer.proofs.legal.legal.Tie as tie
-use Rattle.writer.proofs.Known.{known}
+use Rattle.tree.proofs.Known.{known}
 
 pub record Going (L K S : List ℕ) (p slot : ℕ) : Type 0 where
   pub go : (t : Tree) → At L (length L) (t ∷ []) → Passed L t p

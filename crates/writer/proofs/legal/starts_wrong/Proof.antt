@@ -5,7 +5,7 @@ use borrow.Author.Tests.{not-true, not-false}
 use Rattle.tables.specs.Check.{begins-labelled}
 use Rattle.writer.proofs.legal.starts_wrong.Statement.{statement}
 use Rattle.writer.proofs.legal.starts_wrong.Tie as tie
-use Rattle.writer.proofs.Known.{known}
+use Rattle.tree.proofs.Known.{known}
 
 unlabelled-requires : tie.Need-unlabelled-requires
 unlabelled-requires c κs = search needs

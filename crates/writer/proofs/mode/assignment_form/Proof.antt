@@ -6,7 +6,7 @@ use Rattle.tables.specs.Check.{function-form}
 use Rattle.tables.specs.Layout.{assignment-form}
 use Rattle.writer.proofs.mode.assignment_form.Statement.{statement}
 use Rattle.writer.proofs.mode.assignment_form.Tie as tie
-use Rattle.writer.proofs.Known.{known}
+use Rattle.tree.proofs.Known.{known}
 
 value-at-requires : tie.Need-value-at-requires
 value-at-requires c κs = search needs

@@ -7,7 +7,7 @@ use Rattle.writer.proofs.Numbers.{tests}
 use Rattle.writer.proofs.Places.{last-place, of-last, kid-place, of-kid}
 use Rattle.writer.proofs.mode.body_mode.Statement.{statement}
 use Rattle.writer.proofs.mode.body_mode.Tie as tie
-use Rattle.writer.proofs.Known.{known}
+use Rattle.tree.proofs.Known.{known}
 
 -- the last child's kind, and that of the last statement
 module _ (c : tie.After-kind-at) where

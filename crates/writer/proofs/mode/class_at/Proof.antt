@@ -2,7 +2,7 @@
 use borrow.Author.Needs.{needs}
 use Rattle.writer.proofs.mode.class_at.Statement.{statement}
 use Rattle.writer.proofs.mode.class_at.Tie as tie
-use Rattle.writer.proofs.Known.{known}
+use Rattle.tree.proofs.Known.{known}
 
 kind-at-requires : tie.Need-kind-at-requires
 kind-at-requires c κs = search needs

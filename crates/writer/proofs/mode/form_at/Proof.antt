@@ -10,7 +10,7 @@ use Rattle.writer.proofs.Numbers.{tests}
 use Rattle.writer.proofs.Places.{by-kind, last-place, of-last}
 use Rattle.writer.proofs.mode.form_at.Statement.{statement}
 use Rattle.writer.proofs.mode.form_at.Tie as tie
-use Rattle.writer.proofs.Known.{known}
+use Rattle.tree.proofs.Known.{known}
 
 -- an arm of the match
 module _ (c : tie.After-kind-at) where

@@ -7,7 +7,7 @@ use Rattle.writer.proofs.Numbers.{tests}
 use Rattle.writer.proofs.Places.{last-place, of-last}
 use Rattle.writer.proofs.mode.group_mode.Statement.{statement}
 use Rattle.writer.proofs.mode.group_mode.Tie as tie
-use Rattle.writer.proofs.Known.{known}
+use Rattle.tree.proofs.Known.{known}
 
 -- the last child's kind
 module _ (c : tie.After-kind-at) where

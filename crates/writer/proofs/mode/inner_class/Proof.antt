@@ -3,7 +3,7 @@ use borrow.Author.Needs.{needs}
 use Rattle.tables.specs.Check.{inner-mode}
 use Rattle.writer.proofs.mode.inner_class.Statement.{statement}
 use Rattle.writer.proofs.mode.inner_class.Tie as tie
-use Rattle.writer.proofs.Known.{known}
+use Rattle.tree.proofs.Known.{known}
 
 kind-at-requires : tie.Need-kind-at-requires
 kind-at-requires c κs = search needs

@@ -9,7 +9,7 @@ use Rattle.writer.proofs.Numbers.{tests}
 use Rattle.writer.proofs.Places.{by-kind, last-place, of-last, kid-place, of-kid}
 use Rattle.writer.proofs.mode.inner_mode.Statement.{statement}
 use Rattle.writer.proofs.mode.inner_mode.Tie as tie
-use Rattle.writer.proofs.Known.{known}
+use Rattle.tree.proofs.Known.{known}
 
 -- an arm of the match
 module _ (c : tie.After-kind-at) where

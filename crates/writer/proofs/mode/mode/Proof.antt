@@ -6,7 +6,7 @@ use Rattle.tables.specs.Check.{inner-mode, inner-class, mode-of}
 use Rattle.writer.proofs.Places.{of-last, reach-last, count-kids}
 use Rattle.writer.proofs.mode.mode.Statement.{statement}
 use Rattle.writer.proofs.mode.mode.Tie as tie
-use Rattle.writer.proofs.Known.{known}
+use Rattle.tree.proofs.Known.{known}
 
 kind-at-requires : tie.Need-kind-at-requires
 kind-at-requires c κs = search needs

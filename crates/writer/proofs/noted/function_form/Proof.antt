@@ -3,7 +3,7 @@ use borrow.Author.Needs.{needs}
 use Rattle.writer.proofs.Memory.{form-looked-up}
 use Rattle.writer.proofs.noted.function_form.Statement.{statement}
 use Rattle.writer.proofs.noted.function_form.Tie as tie
-use Rattle.writer.proofs.Known.{known}
+use Rattle.tree.proofs.Known.{known}
 
 of-function-requires : tie.Need-of-function-requires
 of-function-requires c κs = search needs

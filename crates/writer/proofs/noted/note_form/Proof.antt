@@ -5,7 +5,7 @@ use Rattle.writer.proofs.Memory.{form-set}
 use Rattle.writer.proofs.Places.{some-place, reach-of}
 use Rattle.writer.proofs.noted.note_form.Statement.{statement}
 use Rattle.writer.proofs.noted.note_form.Tie as tie
-use Rattle.writer.proofs.Known.{known}
+use Rattle.tree.proofs.Known.{known}
 
 of-function-requires : tie.Need-of-function-requires
 of-function-requires c κs = let y = known tie.Start (search) .pre .0 in

@@ -6,7 +6,7 @@ use Rattle.writer.specs.Memory.{tree-places}
 use Rattle.writer.proofs.Memory.{begin-looked-up}
 use Rattle.writer.proofs.records.begin.Statement.{statement}
 use Rattle.writer.proofs.records.begin.Tie as tie
-use Rattle.writer.proofs.Known.{known}
+use Rattle.tree.proofs.Known.{known}
 
 mul-if1 : tie.Need-mul-if1
 mul-if1 c = search needs

@@ -6,7 +6,7 @@ use Rattle.writer.proofs.Memory.{two-before}
 use Rattle.writer.proofs.Kids.{Kids, no-kid, kids-start, kids-known, kids-next, kids-end}
 use Rattle.writer.proofs.records.kid_of.Statement.{statement}
 use Rattle.writer.proofs.records.kid_of.Tie as tie
-use Rattle.writer.proofs.Known.{known}
+use Rattle.tree.proofs.Known.{known}
 
 abbrev Inv-loop : tie.InvT-loop
 Inv-loop records keys facts p j n i₀ q₀ i q = Kids records p q i × (j ≤ i)

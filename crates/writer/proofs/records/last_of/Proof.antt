@@ -4,7 +4,7 @@ use native.Mathlib.Omega.{arith}
 use Rattle.writer.proofs.Memory.{no-last, a-last, two-before}
 use Rattle.writer.proofs.records.last_of.Statement.{statement}
 use Rattle.writer.proofs.records.last_of.Tie as tie
-use Rattle.writer.proofs.Known.{known}
+use Rattle.tree.proofs.Known.{known}
 
 count-at-requires : tie.Need-count-at-requires
 count-at-requires c κs = c .before .pre

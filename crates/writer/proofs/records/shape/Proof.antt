@@ -6,7 +6,7 @@ use Rattle.writer.proofs.Laws.{at-many}
 use Rattle.writer.proofs.Shaping.{Shaping, shaping-start, shaping-bad, shaping-next, shaping-odd, shaping-end}
 use Rattle.writer.proofs.records.shape.Statement.{statement}
 use Rattle.writer.proofs.records.shape.Tie as tie
-use Rattle.writer.proofs.Known.{known}
+use Rattle.tree.proofs.Known.{known}
 
 abbrev Inv-loop : tie.InvT-loop
 Inv-loop records i₀ h₀ i h = Shaping records i h

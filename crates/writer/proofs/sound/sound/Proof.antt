@@ -5,7 +5,7 @@ use Rattle.tables.specs.Sound.{sound}
 use Rattle.writer.proofs.Numbers.{tests}
 use Rattle.writer.proofs.sound.sound.Statement.{statement}
 use Rattle.writer.proofs.sound.sound.Tie as tie
-use Rattle.writer.proofs.Known.{known}
+use Rattle.tree.proofs.Known.{known}
 
 returns : tie.Need-returns
 unfolding sound

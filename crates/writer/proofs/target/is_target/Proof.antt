@@ -7,7 +7,7 @@ use Rattle.writer.proofs.Numbers.{tests}
 use Rattle.writer.proofs.Targets.{receiver-is, target-is}
 use Rattle.writer.proofs.target.is_target.Statement.{statement}
 use Rattle.writer.proofs.target.is_target.Tie as tie
-use Rattle.writer.proofs.Known.{known}
+use Rattle.tree.proofs.Known.{known}
 
 kid-of-requires : tie.Need-kid-of-requires
 kid-of-requires c κs = search needs

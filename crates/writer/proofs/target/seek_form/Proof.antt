@@ -14,7 +14,7 @@ use Rattle.writer.proofs.Memory.{spot-none}
 use Rattle.writer.proofs.Targets.{Behind, no-function, no-signature, behind, target-place, unnamed, named}
 use Rattle.writer.proofs.target.seek_form.Statement.{statement}
 use Rattle.writer.proofs.target.seek_form.Tie as tie
-use Rattle.writer.proofs.Known.{known}
+use Rattle.tree.proofs.Known.{known}
 
 -- the function behind the target
 module _ (c : tie.After-kid-of2) where

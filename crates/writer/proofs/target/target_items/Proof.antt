@@ -17,7 +17,7 @@ use Rattle.writer.proofs.Laws.{at-many}
 use Rattle.writer.proofs.Targets.{item, items-all}
 use Rattle.writer.proofs.target.target_items.Statement.{statement}
 use Rattle.writer.proofs.target.target_items.Tie as tie
-use Rattle.writer.proofs.Known.{known}
+use Rattle.tree.proofs.Known.{known}
 
 pub record Going (L : List ℕ) (p q j : ℕ) : Type 0 where
   pub go : (t : Tree) (s : List Tree) → At L p (t ∷ s) → Part L q j s item (target-items (children-in (just t)))

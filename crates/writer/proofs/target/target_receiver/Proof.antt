@@ -13,7 +13,7 @@ use Rattle.writer.proofs.Fitted.{not-from}
 use Rattle.writer.proofs.Targets.{head-is, no-path, bad-path, good-path}
 use Rattle.writer.proofs.target.target_receiver.Statement.{statement}
 use Rattle.writer.proofs.target.target_receiver.Tie as tie
-use Rattle.writer.proofs.Known.{known}
+use Rattle.tree.proofs.Known.{known}
 
 kid-of-requires : tie.Need-kid-of-requires
 kid-of-requires c κs = search needs

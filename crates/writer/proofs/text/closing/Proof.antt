@@ -3,7 +3,7 @@ use borrow.Author.Needs.{needs}
 use Rattle.writer.proofs.Texts.{closed-puts}
 use Rattle.writer.proofs.text.closing.Statement.{statement}
 use Rattle.writer.proofs.text.closing.Tie as tie
-use Rattle.writer.proofs.Known.{known}
+use Rattle.tree.proofs.Known.{known}
 
 last-token-requires : tie.Need-last-token-requires
 last-token-requires c κs = search needs

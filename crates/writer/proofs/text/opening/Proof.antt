@@ -3,7 +3,7 @@ use borrow.Author.Needs.{needs}
 use Rattle.writer.proofs.Texts.{opened-puts}
 use Rattle.writer.proofs.text.opening.Statement.{statement}
 use Rattle.writer.proofs.text.opening.Tie as tie
-use Rattle.writer.proofs.Known.{known}
+use Rattle.tree.proofs.Known.{known}
 
 third-token-requires : tie.Need-third-token-requires
 third-token-requires c κs = search needs

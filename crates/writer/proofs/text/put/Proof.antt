@@ -5,7 +5,7 @@ use lib.ListN.{length-set}
 use Rattle.writer.proofs.Texts.{put-none, put-short, put-full}
 use Rattle.writer.proofs.text.put.Statement.{statement}
 use Rattle.writer.proofs.text.put.Tie as tie
-use Rattle.writer.proofs.Known.{known}
+use Rattle.tree.proofs.Known.{known}
 
 returns : tie.Need-returns
 returns c = put-none (c .if1 .taken) (known tie.Start (search) .pre)
