@@ -2,7 +2,7 @@
 use Prim.Native.Nat.{ℕ, _≤_}
 use native.Mathlib.Omega.{arith}
 use lib.Dec.{eqb}
-use Rattle.operator.specs.Operator.{precedence-level, no-token}
+use Rattle.operator.specs.Operator.{precedence-level, no-token, level-count}
 use Rattle.operator.specs.declared.BinaryOp.{BinaryOp}
 use Rattle.operator.specs.declared.BinaryOp.the-variants.{Mul, Div, Mod, Add, Sub, LShift, RShift, BitAnd, BitXor, BitOr, LT, GT, LE, GE, EQ, NE, And, Or}
 use Rattle.tables.specs.Choice.{if_then_else_}
@@ -12,7 +12,7 @@ NoToken = no-token
 
 -- How many levels there are, and the last operator's number: classes and demands are computed from them.
 abbrev pub Levels : ℕ
-Levels = 10
+Levels = level-count
 
 abbrev pub LastBinary : ℕ
 LastBinary = 17

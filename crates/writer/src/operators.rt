@@ -4,6 +4,7 @@ ghost use Rattle.tables.specs.Operators.{binary-of as binary-of-def, level as l
 ghost use Rattle.operator.specs.Operator.{op-token as op-token-def, unary-token as unary-token-def, assign-token as assign-token-def};
 ghost use Rattle.grammar.specs.Canonical.Write.{keyword-of as keyword-of-def};
 use operator::BinaryOp;
+use operator::PRECEDENCE_START;
 use operator::precedence_level;
 use token::kind;
 
@@ -11,7 +12,7 @@ use token::kind;
 pub const NO_TOKEN: u64 = 77;
 
 // How many levels there are, and the last operator's number: classes and demands are computed from them.
-pub const LEVELS: u64 = 10;
+pub const LEVELS: u64 = PRECEDENCE_START;
 
 pub const LAST_BINARY: u64 = 17;
 
