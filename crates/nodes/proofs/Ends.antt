@@ -31,6 +31,7 @@ use Rattle.scan.specs.Post.{Writes}
 use Rattle.nodes.specs.Ends.{Shape, other, a-tuple, lone, unpacked, Marked, statement, no-statement, Carries}
 use Rattle.nodes.specs.Parts.{path-words}
 use Rattle.nodes.specs.Lists.{Ends, keeps, gives, held-words, Suite-stands, Held-stands, Closing, Closable, Unders}
+use Rattle.nodes.proofs.Made.{all-snoc, count-snoc}
 
 -- THE LAST RECORD of a text: its words, and the text before it
 record Last (S Y : List ℕ) (a w v : ℕ) : Type 0 where
@@ -199,16 +200,6 @@ unfolding split snoc split-last split-kids split-before ifb
 split-result none v e = refl
 split-result (more t none) v e = refl
 split-result (more t (more u g)) v e = ap (split-before t) (split-result (more u g) v e)
-
-all-snoc : (f : Forest) (t : Tree) → all-records (snoc f t) ≡ all-records f ++ records t
-unfolding records snoc
-all-snoc none t = append-nil (records t)
-all-snoc (more u f) t = ap (λ (y : List ℕ). records u ++ y) (all-snoc f t) ∙ sym (append-assoc (records u) (all-records f) (records t))
-
-count-snoc : (f : Forest) (t : Tree) → count (snoc f t) ≡ suc (count f)
-unfolding count snoc
-count-snoc none t = refl
-count-snoc (more u f) t = ap suc (count-snoc f t)
 
 block-whole : (s : Stmts) → s .control ≡ Node.absent → split (s .suite) ≡ whole (s .suite) → records (block-of s) ≡ all-records (s .suite) ++ (1 + 256 * count (s .suite)) ∷ 0 ∷ 0 ∷ 0 ∷ 519 ∷ 0 ∷ 0 ∷ 0 ∷ 534 ∷ 0 ∷ []
 unfolding block-of ifb block-split records count

@@ -4,7 +4,7 @@ use Prim.Native.Nat.{ℕ}
 use borrow.Author.Needs.{needs}
 use native.Mathlib.Omega.{arith}
 use Rattle.grammar.specs.Reading.Look.{look}
-use Rattle.scan.proofs.Laws.{way, here, did-not, taken, not-taken, blind, later}
+use Rattle.scan.proofs.Laws.{way, here, did-not, taken, not-taken, fails-unseen, later}
 use Rattle.cycle.proofs.Writing.{settled, before}
 use Rattle.cycle.proofs.Shapes.{given}
 use Rattle.cycle.proofs.PathsExpr.{left}
@@ -97,4 +97,4 @@ returns-2 t c = let tk = taken (known (After-kind t) (search) .kind .given .1) (
     settled (known (After-literal t) (search) .literal .ensures (start-of-after-literal-arg t (search) .args .tokens .now) (tk .within)) refl (way _ (atom-literal _ _ tk (known (Else1 t) (search) .if1 .left))) refl (omega arith)
 
 pub returns-3 : (t : ℕ) → lts.Need-returns-3 (calls t) (atom-at t) reads.Post
-returns-3 t c = did-not (blind here (atom-looks _ _ _) (not-taken (known (After-s t) (search) .s .given .1) (known (After-look t) (search) .look .ensures)) refl (omega arith))
+returns-3 t c = did-not (fails-unseen here (atom-looks _ _ _) (not-taken (known (After-s t) (search) .s .given .1) (known (After-look t) (search) .look .ensures)) refl (omega arith))

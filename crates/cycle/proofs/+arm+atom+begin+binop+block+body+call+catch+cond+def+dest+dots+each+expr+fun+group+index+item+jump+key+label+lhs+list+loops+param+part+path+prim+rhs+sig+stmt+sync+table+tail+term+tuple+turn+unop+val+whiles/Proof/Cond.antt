@@ -8,7 +8,7 @@ use lib.ListN.{length, take, drop, length-drop}
 use Rattle.tree.specs.Tree.{none, snoc, count, records}
 use Rattle.tree.specs.Node
 use Rattle.cycle.specs.Parts.{arm}
-use Rattle.scan.proofs.Laws.{way, here, link, goes, done, undone, did-not, taken, not-taken, fails, blind, prefix}
+use Rattle.scan.proofs.Laws.{way, here, link, goes, done, undone, did-not, taken, not-taken, fails, fails-unseen, prefix}
 use Rattle.grammar.specs.Reading.Block.{block-of}
 use Rattle.cycle.proofs.PathsStmt.{Going, closable, under, two-words, branches-step, behind-looks, behind-end, behind-else, behind-more, branch-text, branch-count, if-text, else-text, branch-before, else-before}
 use Rattle.cycle.proofs.cond.Reads as reads
@@ -308,4 +308,4 @@ returns-4 t c = let g = at-loop-of-after-slice-known2 t (search) .loop .inv in
     let b = done (known (After-r t) (search) .r .given .1) (after-arm-of-after-slice-known2 t (search) .arm .ensures) in
     let step = link (gr .same) (way _ (branches-step _ (g .fuel) (gr .what) _ _ _ (g .enough))) in
     let on = goes _ step (b .same) in
-    did-not (blind on (behind-looks _ _ _ _ _ _) (not-taken (known (After-s t) (search) .s .given .1) (known (After-look t) (search) .look .ensures)) (branch-before gr b (omega (arith, start-of-after-slice-known2 t (search) .pre))) (omega (arith, start-of-after-slice-known2 t (search) .pre, gr .moved, b .moved)))
+    did-not (fails-unseen on (behind-looks _ _ _ _ _ _) (not-taken (known (After-s t) (search) .s .given .1) (known (After-look t) (search) .look .ensures)) (branch-before gr b (omega (arith, start-of-after-slice-known2 t (search) .pre))) (omega (arith, start-of-after-slice-known2 t (search) .pre, gr .moved, b .moved)))

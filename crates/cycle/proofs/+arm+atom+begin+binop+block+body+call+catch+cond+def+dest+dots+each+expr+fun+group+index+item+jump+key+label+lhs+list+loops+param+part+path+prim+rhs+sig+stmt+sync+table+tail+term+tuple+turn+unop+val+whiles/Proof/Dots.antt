@@ -6,7 +6,7 @@ use native.Mathlib.Omega.{arith}
 use lib.ListN.{take}
 use Rattle.tree.specs.Node
 use Rattle.nodes.specs.Parts.{unpack-end}
-use Rattle.scan.proofs.Laws.{way, here, link, goes, done, undone, did-not, taken, not-taken, fails, blind, prefix, relabel, anew}
+use Rattle.scan.proofs.Laws.{way, here, link, goes, done, undone, did-not, taken, not-taken, fails, fails-unseen, prefix, relabel, anew}
 use Rattle.cycle.proofs.Writing.{taller}
 use Rattle.grammar.specs.Laws.Kinds.{depth-small, primary-small}
 use Rattle.cycle.proofs.PathsPrimary.{writing, unpack-looks, dots-looks, unpack-lone, unpack-some, dots-more, dots-none}
@@ -201,7 +201,7 @@ returns-5 t c = let tk = taken (after-kind-of-after-look2 t (search) .kind .give
     let path = way _ (unpack-some _ _ tk (else1-of-after-look2 t (search) .if1 .left)) in
     let w = done (known (After-r t) (search) .r .given .1) (after-prim-of-after-look2 t (search) .prim .ensures) in
     let on = goes _ path (w .same) in
-    did-not (blind on (dots-looks (w .what) _ _) (not-taken (known (After-s t) (search) .s .given .1) (known (After-look2 t) (search) .look2 .ensures)) (prefix w (omega arith)) (omega arith))
+    did-not (fails-unseen on (dots-looks (w .what) _ _) (not-taken (known (After-s t) (search) .s .given .1) (known (After-look2 t) (search) .look2 .ensures)) (prefix w (omega arith)) (omega arith))
 
 pub returns-6 : (t : ℕ) → lts.Need-returns-6 (calls t) (dots-at t) reads.Post
-returns-6 t c = did-not (blind here (unpack-looks _ _ _) (not-taken (known (After-s2 t) (search) .s2 .given .1) (known (After-look t) (search) .look .ensures)) refl (omega arith))
+returns-6 t c = did-not (fails-unseen here (unpack-looks _ _ _) (not-taken (known (After-s2 t) (search) .s2 .given .1) (known (After-look t) (search) .look .ensures)) refl (omega arith))

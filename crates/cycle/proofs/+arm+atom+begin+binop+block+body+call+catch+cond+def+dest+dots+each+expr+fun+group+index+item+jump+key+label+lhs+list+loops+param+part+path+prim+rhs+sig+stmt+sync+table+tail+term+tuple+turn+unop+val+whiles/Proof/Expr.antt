@@ -11,7 +11,7 @@ use Rattle.tree.specs.Tree.{two, count, records}
 use Rattle.grammar.specs.Reading.Look.{look, expect-pattern, action}
 use Rattle.grammar.specs.Reading.Depth.{at-depth}
 use Rattle.scan.specs.Parts.{unassigned-step}
-use Rattle.scan.proofs.Laws.{way, link, goes, done, undone, did-not, taken, not-taken, fails, lacks, blind, found, unfound, gets, prefix, relabel, anew}
+use Rattle.scan.proofs.Laws.{way, link, goes, done, undone, did-not, taken, not-taken, fails, lacks, fails-unseen, found, unfound, gets, prefix, relabel, anew}
 use Rattle.cycle.proofs.Writing.{stored, unstored, reaches, either-way, told, kids-two, made-over, before, unwrote, stands}
 use Rattle.cycle.proofs.Shapes.{given, shape-small, tuple-shape}
 use Rattle.cycle.proofs.PathsExpr.{left, expr-step, expr-plain, expr-alone, expr-assign}
@@ -445,7 +445,7 @@ returns-6 t c = let x = found (after-p-of-at-match3-keys2 t (search) .p .given .
     let s0 = told _ x (way _ (expr-step _ _ _)) in
     let w = done (known (After-l t) (search) .l .given .1) (after-tuple-of-at-match3-keys2 t (search) .tuple .ensures) in
     let s1 = goes _ s0 (w .same) in
-    did-not (blind s1 (record { go = _; is = refl }) (not-taken (known (After-s t) (search) .s .given .1) (known (After-look t) (search) .look .ensures)) (prefix w (omega (arith, start-of-at-match3-keys2 t (search) .pre))) (omega (arith, start-of-at-match3-keys2 t (search) .pre, w .moved, xo)))
+    did-not (fails-unseen s1 (record { go = _; is = refl }) (not-taken (known (After-s t) (search) .s .given .1) (known (After-look t) (search) .look .ensures)) (prefix w (omega (arith, start-of-at-match3-keys2 t (search) .pre))) (omega (arith, start-of-at-match3-keys2 t (search) .pre, w .moved, xo)))
 
 pub returns-7 : (t : ℕ) → lts.Need-returns-7 (calls t) (expr-at t) reads.Post
 returns-7 t c = did-not (lacks _ (unfound (known (After-s2 t) (search) .s2 .given .1) (known (After-assign-keyword t) (search) .assign-keyword .ensures)) (way _ (expr-step _ _ _)) refl (omega arith))

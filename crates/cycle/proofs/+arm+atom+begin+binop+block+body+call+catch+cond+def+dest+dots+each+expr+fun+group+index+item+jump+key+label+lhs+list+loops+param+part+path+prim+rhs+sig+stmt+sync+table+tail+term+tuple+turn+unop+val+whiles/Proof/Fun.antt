@@ -4,7 +4,7 @@ use Prim.Native.Nat.{ℕ}
 use borrow.Author.Needs.{needs}
 use native.Mathlib.Omega.{arith}
 use lib.ListN.{take}
-use Rattle.scan.proofs.Laws.{way, here, link, goes, done, undone, did-not, taken, not-taken, fails, blind, prefix, later}
+use Rattle.scan.proofs.Laws.{way, here, link, goes, done, undone, did-not, taken, not-taken, fails, fails-unseen, prefix, later}
 use Rattle.nodes.proofs.Made.{made-two}
 use Rattle.scan.proofs.Looking.{name-small}
 use Rattle.cycle.proofs.Writing.{taller}
@@ -214,4 +214,4 @@ returns-4 t c = let tk = taken (after-kind-of-after-r t (search) .kind .given .1
     record { how = made-two 14 g h e (goes _ last (h .same)) (omega (arith, start-of-after-r t (search) .pre, g .moved, h .moved)) (omega (arith, start-of-after-r t (search) .pre, g .moved, g .room, h .moved, h .room, e .next)) refl }
 
 pub returns-5 : (t : ℕ) → lts.Need-returns-5 (calls t) (fun-at t) reads.Post
-returns-5 t c = did-not (blind here (decl-looks _ _ _) (not-taken (known (After-s t) (search) .s .given .1) (known (After-look t) (search) .look .ensures)) refl (omega arith))
+returns-5 t c = did-not (fails-unseen here (decl-looks _ _ _) (not-taken (known (After-s t) (search) .s .given .1) (known (After-look t) (search) .look .ensures)) refl (omega arith))

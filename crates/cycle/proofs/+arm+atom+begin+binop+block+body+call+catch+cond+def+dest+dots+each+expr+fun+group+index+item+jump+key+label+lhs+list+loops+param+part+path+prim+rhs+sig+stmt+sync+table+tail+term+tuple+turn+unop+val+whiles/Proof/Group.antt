@@ -5,7 +5,7 @@ use borrow.Author.Needs.{needs}
 use native.Mathlib.Omega.{arith}
 use Rattle.grammar.specs.Reading.Look.{look, expect}
 use Rattle.grammar.specs.Reading.Expr.{expr}
-use Rattle.scan.proofs.Laws.{way, here, goes, done, undone, did-not, taken, not-taken, fails, lacks, blind, passed, unpassed, found, unfound, gets, prefix}
+use Rattle.scan.proofs.Laws.{way, here, goes, done, undone, did-not, taken, not-taken, fails, lacks, fails-unseen, passed, unpassed, found, unfound, gets, prefix}
 use Rattle.nodes.proofs.Made.{made-none, remade}
 use Rattle.cycle.proofs.Writing.{told, taller, before}
 use Rattle.cycle.proofs.Shapes.{given, shape-small, expr-shape}
@@ -245,4 +245,4 @@ returns-5 t c = let tk = taken (known (After-kind t) (search) .kind .given .1) (
     did-not (lacks _ (unfound (known (After-s2 t) (search) .s2 .given .1) (known (After-assign-keyword t) (search) .assign-keyword .ensures)) path refl (omega arith))
 
 pub returns-6 : (t : ℕ) → lts.Need-returns-6 (calls t) (group-at t) reads.Post
-returns-6 t c = did-not (blind here (group-looks _ _ _) (not-taken (known (After-s3 t) (search) .s3 .given .1) (known (After-look t) (search) .look .ensures)) refl (omega arith))
+returns-6 t c = did-not (fails-unseen here (group-looks _ _ _) (not-taken (known (After-s3 t) (search) .s3 .given .1) (known (After-look t) (search) .look .ensures)) refl (omega arith))

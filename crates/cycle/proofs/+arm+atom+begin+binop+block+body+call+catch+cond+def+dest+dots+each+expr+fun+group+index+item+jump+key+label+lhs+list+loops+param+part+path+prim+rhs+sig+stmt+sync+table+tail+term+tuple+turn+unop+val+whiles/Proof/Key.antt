@@ -4,7 +4,7 @@ use Prim.Native.Nat.{ℕ}
 use borrow.Author.Needs.{needs}
 use native.Mathlib.Omega.{arith}
 use Rattle.nodes.specs.Parts.{named-field}
-use Rattle.scan.proofs.Laws.{way, here, goes, done, undone, did-not, taken, not-taken, fails, blind}
+use Rattle.scan.proofs.Laws.{way, here, goes, done, undone, did-not, taken, not-taken, fails, fails-unseen}
 use Rattle.nodes.proofs.Made.{made-one}
 use Rattle.scan.proofs.Looking.{name-small}
 use Rattle.cycle.proofs.PathsPrimary.{writing, field-looks, field-square, field-named}
@@ -148,4 +148,4 @@ returns-3 t c = let tk = taken (after-kind-of-after-emit-arg t (search) .kind .g
     record { how = made-one 28 w (known (After-emit t) (search) .emit .ensures) (goes _ path (w .same)) (omega (arith, start-of-after-emit-arg t (search) .pre, tk .within, w .moved)) (omega (arith, w .room, known (After-emit t) (search) .emit .ensures .next)) refl }
 
 pub returns-4 : (t : ℕ) → lts.Need-returns-4 (calls t) (key-at t) reads.Post
-returns-4 t c = did-not (blind here (field-looks _ _ _) (not-taken (known (After-s t) (search) .s .given .1) (known (After-look t) (search) .look .ensures)) refl (omega arith))
+returns-4 t c = did-not (fails-unseen here (field-looks _ _ _) (not-taken (known (After-s t) (search) .s .given .1) (known (After-look t) (search) .look .ensures)) refl (omega arith))

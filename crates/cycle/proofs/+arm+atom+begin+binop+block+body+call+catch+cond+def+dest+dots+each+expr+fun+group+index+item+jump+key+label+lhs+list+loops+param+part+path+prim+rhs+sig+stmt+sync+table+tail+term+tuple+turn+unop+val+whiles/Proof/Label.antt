@@ -5,7 +5,7 @@ use Prim.Native.Nat.{ℕ}
 use borrow.Author.Needs.{needs}
 use native.Mathlib.Omega.{arith}
 use Rattle.tree.specs.Node
-use Rattle.scan.proofs.Laws.{way, here, did-not, taken, not-taken, blind, later}
+use Rattle.scan.proofs.Laws.{way, here, did-not, taken, not-taken, fails-unseen, later}
 use Rattle.grammar.specs.Reading.Stmt.{stmt-list-of}
 use Rattle.cycle.proofs.PathsStmt.{fails-with, renamed, two-words, while-as, stmt-label-looks, label-loop, label-while, label-for, label-alone}
 use Rattle.cycle.proofs.label.Reads as reads
@@ -132,4 +132,4 @@ returns-4 t c = let tk = taken (known (After-kind t) (search) .kind .given .1) (
     fails-with (label-alone _ _ tk _ (r .0 .0 .1) (r .0 .1) (r .1)) (omega arith) (omega arith)
 
 pub returns-5 : (t : ℕ) → lts.Need-returns-5 (calls t) (label-at t) reads.Post
-returns-5 t c = did-not (blind here (stmt-label-looks _ _ _ _) (not-taken (known (After-s t) (search) .s .given .1) (known (After-look t) (search) .look .ensures)) refl (omega arith))
+returns-5 t c = did-not (fails-unseen here (stmt-label-looks _ _ _ _) (not-taken (known (After-s t) (search) .s .given .1) (known (After-look t) (search) .look .ensures)) refl (omega arith))

@@ -9,7 +9,7 @@ use Rattle.tree.specs.Tree.{none, snoc, count, records, all-records}
 use Rattle.tree.specs.Node
 use Rattle.grammar.specs.Reading.Depth.{at-depth}
 use Rattle.scan.specs.Post.{Wrote, waiting-errors}
-use Rattle.scan.proofs.Laws.{way, link, ends, goes, taken, not-taken, fails, blind, prefix, relabel}
+use Rattle.scan.proofs.Laws.{way, link, ends, goes, taken, not-taken, fails, fails-unseen, prefix, relabel}
 use Rattle.nodes.proofs.Made.{joined, count-snoc}
 use Rattle.grammar.specs.Reading.Stmt.{stmts}
 use Rattle.nodes.specs.Lists.{Ends, keeps}
@@ -307,4 +307,4 @@ same-length-4 t c = search needs
 pub returns-5 : (t : ℕ) → lts.Need-returns-5 (calls t) (list-at t) reads.Post Inv-loop μ-loop
 returns-5 t c = let g = known (At-loop t) (search) .loop .inv in
     let gr = g .run in
-    record { how = blind (gr .same) (stmts-looks _ _ (gr .what) _ _ (g .fuel) _ (g .enough)) (not-taken (known (After-s2 t) (search) .s2 .given .1) (known (After-look t) (search) .look .ensures)) (prefix gr (omega (arith, known (Start t) (search) .pre))) (omega arith) }
+    record { how = fails-unseen (gr .same) (stmts-looks _ _ (gr .what) _ _ (g .fuel) _ (g .enough)) (not-taken (known (After-s2 t) (search) .s2 .given .1) (known (After-look t) (search) .look .ensures)) (prefix gr (omega (arith, known (Start t) (search) .pre))) (omega arith) }

@@ -11,7 +11,7 @@ use Rattle.tree.specs.Tree.{none, snoc, count, records, all-records}
 use Rattle.grammar.specs.Reading.Depth.{at-depth}
 use Rattle.scan.specs.Post.{Wrote, waiting-errors}
 use Rattle.cycle.specs.Parts.{part}
-use Rattle.scan.proofs.Laws.{way, here, link, goes, done, undone, did-not, taken, not-taken, fails, blind, prefix}
+use Rattle.scan.proofs.Laws.{way, here, link, goes, done, undone, did-not, taken, not-taken, fails, fails-unseen, prefix}
 use Rattle.nodes.proofs.Made.{joined, count-snoc}
 use Rattle.grammar.specs.Reading.Primary.{path as path-def}
 use Rattle.cycle.proofs.PathsPrimary.{path-looks, path-ends, path-more, path-far}
@@ -204,4 +204,4 @@ same-length-3 t c = search needs
 pub returns-3 : (t : ℕ) → lts.Need-returns-3 (calls t) (path-at t) reads.Post Inv-loop μ-loop
 returns-3 t c = let g = known (At-loop t) (search) .loop .inv in
     let gr = g .run in
-    did-not (blind (gr .same) (path-looks _ _ (gr .what) _ _ (g .fuel) _ (g .enough)) (not-taken (known (After-s t) (search) .s .given .1) (known (After-look t) (search) .look .ensures)) (prefix gr (omega (arith, known (Start t) (search) .pre))) (omega (arith, gr .moved)))
+    did-not (fails-unseen (gr .same) (path-looks _ _ (gr .what) _ _ (g .fuel) _ (g .enough)) (not-taken (known (After-s t) (search) .s .given .1) (known (After-look t) (search) .look .ensures)) (prefix gr (omega (arith, known (Start t) (search) .pre))) (omega (arith, gr .moved)))

@@ -7,7 +7,7 @@ use native.Mathlib.Omega.{arith}
 use lib.ListN.{length, take, drop, length-drop}
 use Rattle.grammar.specs.Reading.Depth.{at-depth}
 use Rattle.scan.specs.Post.{Wrote, waiting-errors}
-use Rattle.scan.proofs.Laws.{way, here, link, did-not, taken, not-taken, blind, prefix}
+use Rattle.scan.proofs.Laws.{way, here, link, did-not, taken, not-taken, fails-unseen, prefix}
 use Rattle.nodes.proofs.Made.{joined}
 use Rattle.grammar.specs.Reading.Function.{params, function-param-list}
 use Rattle.nodes.specs.Parameters.{name-bound, params-words, Fitting}
@@ -196,4 +196,4 @@ same-length-3 t c = search needs
 pub returns-3 : (t : ℕ) → lts.Need-returns-3 (calls t) (sig-at t) reads.Post Inv-loop μ-loop
 returns-3 t c = let i = known (At-loop t) (search) .loop .inv in
     let g = i .run in
-    did-not (blind (g .same) (params-looks _ (g .what) _ _ (i .fuel) _ (i .enough)) (not-taken (known (After-s2 t) (search) .s2 .given .1) (known (After-look t) (search) .look .ensures)) (prefix g (omega arith)) (omega arith))
+    did-not (fails-unseen (g .same) (params-looks _ (g .what) _ _ (i .fuel) _ (i .enough)) (not-taken (known (After-s2 t) (search) .s2 .given .1) (known (After-look t) (search) .look .ensures)) (prefix g (omega arith)) (omega arith))

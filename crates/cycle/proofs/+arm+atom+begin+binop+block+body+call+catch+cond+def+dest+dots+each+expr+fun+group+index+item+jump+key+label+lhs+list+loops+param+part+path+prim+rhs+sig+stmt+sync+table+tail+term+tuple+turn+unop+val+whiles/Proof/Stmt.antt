@@ -9,7 +9,7 @@ use Rattle.tree.specs.Node
 use Rattle.grammar.specs.Reading.Expr.{expr}
 use Rattle.nodes.specs.Parts.{expression-end}
 use Rattle.scan.specs.Parts.{not-allowed}
-use Rattle.scan.proofs.Laws.{way, here, goes, done, undone, did-not, taken, not-taken, fails, blind, prefix, later}
+use Rattle.scan.proofs.Laws.{way, here, goes, done, undone, did-not, taken, not-taken, fails, fails-unseen, prefix, later}
 use Rattle.nodes.proofs.Made.{made-one}
 use Rattle.grammar.specs.Reading.Stmt.{stmt-list-of}
 use Rattle.cycle.proofs.Shapes.{expr-shape, given}
@@ -341,4 +341,4 @@ returns-9 t c = let tk = taken (after-kind-of-after-r2 t (search) .kind .given .
     written (known (After-expression-end t) (search) .expression-end .ensures _ _ _ sh (v .text) (v .moved .within)) (goes _ track (v .same)) (prefix v (omega (arith, start-of-after-r2 t (search) .pre, v .moved, v .room))) (omega (arith, start-of-after-r2 t (search) .pre, v .moved, v .room, tk .within))
 
 pub returns-10 : (t : ℕ) → lts.Need-returns-10 (calls t) (stmt-at t) reads.Post
-returns-10 t c = did-not (blind here (stmt-looks _ _ _) (not-taken (known (After-s t) (search) .s .given .1) (known (After-look t) (search) .look .ensures)) refl (omega arith))
+returns-10 t c = did-not (fails-unseen here (stmt-looks _ _ _) (not-taken (known (After-s t) (search) .s .given .1) (known (After-look t) (search) .look .ensures)) refl (omega arith))

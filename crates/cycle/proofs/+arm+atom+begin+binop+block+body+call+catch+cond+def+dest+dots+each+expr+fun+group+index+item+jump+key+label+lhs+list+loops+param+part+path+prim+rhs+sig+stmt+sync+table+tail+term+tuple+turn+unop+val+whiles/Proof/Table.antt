@@ -9,7 +9,7 @@ use Rattle.tree.specs.Tree.{none, snoc, count, records, all-records}
 use Rattle.grammar.specs.Reading.Depth.{at-depth}
 use Rattle.scan.specs.Post.{Wrote, waiting-errors}
 use Rattle.nodes.specs.Parts.{item-end}
-use Rattle.scan.proofs.Laws.{way, here, link, goes, done, undone, did-not, taken, not-taken, shorter, fails, lacks, blind, found, unfound, gets, prefix}
+use Rattle.scan.proofs.Laws.{way, here, link, goes, done, undone, did-not, taken, not-taken, shorter, fails, lacks, fails-unseen, found, unfound, gets, prefix}
 use Rattle.nodes.proofs.Made.{joined, put, count-snoc}
 use Rattle.grammar.specs.Reading.Primary.{table-items, table-literal}
 use Rattle.cycle.proofs.PathsPrimary.{items-looks, items-end, items-more, items-closed, items-on}
@@ -306,4 +306,4 @@ same-length-5 t c = search needs
 pub returns-5 : (t : ℕ) → lts.Need-returns-5 (calls t) (table-at t) reads.Post Inv-loop μ-loop
 returns-5 t c = let g = known (At-loop t) (search) .loop .inv in
     let gr = g .run in
-    did-not (blind (gr .same) (items-looks _ (gr .what) _ _ (g .fuel) _ (g .enough)) (not-taken (known (After-s2 t) (search) .s2 .given .1) (known (After-look t) (search) .look .ensures)) (prefix gr (omega (arith, known (Start t) (search) .pre))) (omega (arith, gr .moved)))
+    did-not (fails-unseen (gr .same) (items-looks _ (gr .what) _ _ (g .fuel) _ (g .enough)) (not-taken (known (After-s2 t) (search) .s2 .given .1) (known (After-look t) (search) .look .ensures)) (prefix gr (omega (arith, known (Start t) (search) .pre))) (omega (arith, gr .moved)))

@@ -9,7 +9,7 @@ use Rattle.tree.specs.Tree.{none, snoc, count, records, all-records}
 use Rattle.grammar.specs.Reading.Depth.{at-depth}
 use Rattle.scan.specs.Post.{Wrote, waiting-errors}
 use Rattle.cycle.specs.Parts.{tail}
-use Rattle.scan.proofs.Laws.{way, here, link, goes, done, undone, did-not, taken, not-taken, fails, blind, prefix}
+use Rattle.scan.proofs.Laws.{way, here, link, goes, done, undone, did-not, taken, not-taken, fails, fails-unseen, prefix}
 use Rattle.nodes.proofs.Made.{joined, remade, count-snoc}
 use Rattle.cycle.proofs.PathsExpr.{left, commas-looks, commas-end, commas-last, commas-more, commas-comma}
 use Rattle.cycle.proofs.tail.Reads as reads
@@ -270,7 +270,7 @@ pub returns-4 : (t : ℕ) → lts.Need-returns-4 (calls t) (tail-at t) reads.Pos
 returns-4 t c = let i = at-loop-of-else1 t (search) .loop .inv in
     let g = i .run in
     let tk = taken (known (After-kind t) (search) .kind .given .1) (known (After-look t) (search) .look .ensures) in
-    did-not (blind (link (g .same) (way _ (commas-comma _ (g .what) _ (i .fuel) _ (i .enough) tk (known (Else1 t) (search) .if1 .left)))) (record { go = _; is = refl }) (not-taken (known (After-s t) (search) .s .given .1) (known (After-look2 t) (search) .look2 .ensures)) (prefix g (omega arith)) (omega arith))
+    did-not (fails-unseen (link (g .same) (way _ (commas-comma _ (g .what) _ (i .fuel) _ (i .enough) tk (known (Else1 t) (search) .if1 .left)))) (record { go = _; is = refl }) (not-taken (known (After-s t) (search) .s .given .1) (known (After-look2 t) (search) .look2 .ensures)) (prefix g (omega arith)) (omega arith))
 
 pub enum-known-s-2 : (t : ℕ) → lts.Need-enum-known-s-2 (calls t) (tail-at t) reads.Post Inv-loop μ-loop
 enum-known-s-2 t c = search needs
@@ -281,4 +281,4 @@ same-length-5 t c = search needs
 pub returns-5 : (t : ℕ) → lts.Need-returns-5 (calls t) (tail-at t) reads.Post Inv-loop μ-loop
 returns-5 t c = let i = known (At-loop t) (search) .loop .inv in
     let g = i .run in
-    did-not (blind (g .same) (commas-looks _ (g .what) _ _ (i .fuel) _ (i .enough)) (not-taken (known (After-s2 t) (search) .s2 .given .1) (known (After-look t) (search) .look .ensures)) (prefix g (omega arith)) (omega arith))
+    did-not (fails-unseen (g .same) (commas-looks _ (g .what) _ _ (i .fuel) _ (i .enough)) (not-taken (known (After-s2 t) (search) .s2 .given .1) (known (After-look t) (search) .look .ensures)) (prefix g (omega arith)) (omega arith))

@@ -4,7 +4,7 @@ use Prim.Native.Nat.{ℕ}
 use borrow.Author.Needs.{needs}
 use native.Mathlib.Omega.{arith}
 use Rattle.cycle.specs.Parts.{tail}
-use Rattle.scan.proofs.Laws.{way, link, goes, done, undone, did-not, taken, not-taken, fails, blind, prefix, relabel, continued, anew}
+use Rattle.scan.proofs.Laws.{way, link, goes, done, undone, did-not, taken, not-taken, fails, fails-unseen, prefix, relabel, continued, anew}
 use Rattle.cycle.proofs.PathsExpr.{left, tuple-step, tuple-looks, tuple-one, tuple-more}
 use Rattle.cycle.proofs.Trees.{tuple-text}
 use Rattle.cycle.proofs.tuple.Reads as reads
@@ -125,4 +125,4 @@ same-length-4 t c = search needs
 pub returns-4 : (t : ℕ) → lts.Need-returns-4 (calls t) (tuple-at t) reads.Post
 returns-4 t c = let w = done (known (After-r t) (search) .r .given .1) (after-binop-of-at-match-keys1 t (search) .binop .ensures) in
     let on = goes _ (way _ (tuple-step _ _ _)) (w .same) in
-    did-not (blind on (tuple-looks _ _ _ _) (not-taken (known (After-s t) (search) .s .given .1) (known (After-look t) (search) .look .ensures)) (prefix w (omega arith)) (omega arith))
+    did-not (fails-unseen on (tuple-looks _ _ _ _) (not-taken (known (After-s t) (search) .s .given .1) (known (After-look t) (search) .look .ensures)) (prefix w (omega arith)) (omega arith))
