@@ -31,7 +31,7 @@ use Rattle.scan.specs.Post.{Writes}
 use Rattle.nodes.specs.Ends.{Shape, other, a-tuple, lone, unpacked, Marked, statement, no-statement, Carries}
 use Rattle.nodes.specs.Parts.{path-words}
 use Rattle.nodes.specs.Lists.{Ends, keeps, gives, held-words, Suite-stands, Held-stands, Closing, Closable, Unders}
-use Rattle.nodes.proofs.Made.{all-snoc, count-snoc}
+use Rattle.nodes.proofs.Made.{over-one, all-snoc, count-snoc}
 
 -- THE LAST RECORD of a text: its words, and the text before it
 record Last (S Y : List ℕ) (a w v : ℕ) : Type 0 where
@@ -71,11 +71,6 @@ kind-read S X a (node k v f) s text within = root-kind S X a k v f text within (
 -- a text goes on
 pub joins : (X Z W : List ℕ) {Y Y₀ : List ℕ} → Y ≡ Y₀ ++ W → Y₀ ≡ X ++ Z → Y ≡ X ++ (Z ++ W)
 joins X Z W e t = e ∙ ap (λ (y : List ℕ). y ++ W) t ∙ append-assoc X Z W
-
--- A NODE over one tree
-pub over-one : (k v : ℕ) (t : Tree) → records (node k v (one t)) ≡ records t ++ (k + 256 * 1) ∷ v ∷ []
-unfolding records count
-over-one k v t = rw append-nil
 
 -- A GROUP'S ACTION
 act-none : (m : ℕ) (t : Tree) → m ≡ 0 → with-action m t ≡ t

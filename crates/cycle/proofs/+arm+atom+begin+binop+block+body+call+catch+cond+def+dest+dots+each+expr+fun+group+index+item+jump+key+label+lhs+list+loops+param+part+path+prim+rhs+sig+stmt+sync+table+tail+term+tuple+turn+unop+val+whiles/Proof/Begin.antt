@@ -4,7 +4,8 @@ use Prim.Native.Nat.{ℕ}
 use borrow.Author.Needs.{needs}
 use native.Mathlib.Omega.{arith}
 use Rattle.scan.proofs.Laws.{here, did-not, taken, not-taken, fails-unseen, later}
-use Rattle.cycle.proofs.PathsStmt.{fails-with, begin-looks, begin-is, begin-not}
+use Rattle.cycle.proofs.PathsStmt.{begin-looks, begin-is, begin-not}
+use Rattle.cycle.proofs.Writing.{fails-with}
 use Rattle.cycle.proofs.begin.Reads as reads
 use Rattle.cycle.proofs.+arm+atom+begin+binop+block+body+call+catch+cond+def+dest+dots+each+expr+fun+group+index+item+jump+key+label+lhs+list+loops+param+part+path+prim+rhs+sig+stmt+sync+table+tail+term+tuple+turn+unop+val+whiles.Lts-begin as lts
 use Rattle.cycle.proofs.block.Reads as block-reads

@@ -8,10 +8,10 @@ use lib.ListN.{length, take, drop, length-drop}
 use Rattle.tree.specs.Tree.{Tree, more, records}
 use Rattle.grammar.specs.Reading.Depth.{at-depth}
 use Rattle.scan.specs.Post.{Wrote, waiting-errors}
-use Rattle.scan.proofs.Laws.{way, here, link, goes, done, undone, did-not, taken, not-taken, fails, fails-unseen, prefix, rebased, relabel, home, as-agrees, anew}
+use Rattle.scan.proofs.Laws.{way, here, link, goes, done, undone, did-not, taken, not-taken, fails, fails-unseen, as-agrees, anew, prefix, rebased, relabel, home}
 use Rattle.nodes.proofs.Made.{made-two}
-use Rattle.cycle.proofs.PathsExpr.{binop-unary, left}
 use Rattle.cycle.proofs.Climb.{climb, binop-step, climb-looks, climb-ends, climb-takes}
+use Rattle.cycle.proofs.PathsExpr.{binop-unary}
 use Rattle.cycle.proofs.binop.Reads as reads
 use Rattle.cycle.proofs.+arm+atom+begin+binop+block+body+call+catch+cond+def+dest+dots+each+expr+fun+group+index+item+jump+key+label+lhs+list+loops+param+part+path+prim+rhs+sig+stmt+sync+table+tail+term+tuple+turn+unop+val+whiles.Lts-binop as lts
 use Rattle.cycle.proofs.unop.Reads as unop-reads

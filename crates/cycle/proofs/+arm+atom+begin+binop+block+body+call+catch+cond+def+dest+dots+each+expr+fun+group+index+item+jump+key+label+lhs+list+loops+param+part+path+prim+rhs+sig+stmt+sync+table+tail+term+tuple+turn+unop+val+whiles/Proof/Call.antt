@@ -9,10 +9,9 @@ use Rattle.grammar.specs.Reading.Look.{look, expect}
 use Rattle.grammar.specs.Reading.Expr.{expr}
 use Rattle.scan.proofs.Laws.{way, here, goes, done, undone, did-not, taken, not-taken, fails, lacks, fails-unseen, passed, unpassed, gets, prefix}
 use Rattle.nodes.proofs.Made.{remade}
-use Rattle.cycle.proofs.Writing.{taller, made-added, before}
-use Rattle.cycle.proofs.Shapes.{given, expr-shape}
-use Rattle.cycle.proofs.PathsExpr.{left}
 use Rattle.cycle.proofs.PathsPrimary.{call-looks, call-empty, call-more}
+use Rattle.cycle.proofs.Shapes.{given, expr-shape}
+use Rattle.cycle.proofs.Writing.{taller, made-added}
 use Rattle.cycle.proofs.call.Reads as reads
 use Rattle.cycle.proofs.+arm+atom+begin+binop+block+body+call+catch+cond+def+dest+dots+each+expr+fun+group+index+item+jump+key+label+lhs+list+loops+param+part+path+prim+rhs+sig+stmt+sync+table+tail+term+tuple+turn+unop+val+whiles.Lts-call as lts
 use Rattle.cycle.proofs.expr.Reads as expr-reads

@@ -6,15 +6,15 @@ use native.Mathlib.Omega.{arith}
 use lib.ListN.{drop}
 use Rattle.grammar.specs.Reading.Result.{push}
 use Rattle.grammar.specs.Reading.Depth.{at-depth}
-use Rattle.scan.proofs.Laws.{way, link, ends, goes, done, undone, did-not, taken, fails, prefix}
-use Rattle.cycle.proofs.PathsList.{caught-go, caught-out, caught-push, resumes}
+use Rattle.scan.proofs.Laws.{way, link, ends, goes, done, undone, did-not, fails, prefix}
+use Rattle.scan.proofs.Waiting.{push-full, pushes}
+use Rattle.cycle.proofs.PathsControl.{caught-go, caught-out, caught-push, resumes}
 use Rattle.cycle.proofs.catch.Reads as reads
 use Rattle.cycle.proofs.+arm+atom+begin+binop+block+body+call+catch+cond+def+dest+dots+each+expr+fun+group+index+item+jump+key+label+lhs+list+loops+param+part+path+prim+rhs+sig+stmt+sync+table+tail+term+tuple+turn+unop+val+whiles.Lts-catch as lts
 use Rattle.cycle.proofs.sync.Reads as sync-reads
 use Rattle.scan.proofs.queue.push.Reads as push-reads
 use Rattle.scan.proofs.queue.synchronized.Reads as synchronized-reads
 use Rattle.cycle.proofs.+arm+atom+begin+binop+block+body+call+catch+cond+def+dest+dots+each+expr+fun+group+index+item+jump+key+label+lhs+list+loops+param+part+path+prim+rhs+sig+stmt+sync+table+tail+term+tuple+turn+unop+val+whiles.Proof.Below.{catch-at, sync-below}
-use Rattle.scan.proofs.Waiting.{push-full, pushes}
 use Rattle.tree.proofs.Known.{known}
 
 -- what is known of the functions that it calls
@@ -75,7 +75,7 @@ same-length t c = search needs
 
 pub returns-3 : (t : ℕ) → lts.Need-returns-3 (calls t) (catch-at t) reads.Post
 returns-3 t c = let u = known (After-push t) (search) .push .ensures in
-    let path = link (way _ (caught-push _ _ _ _ (else1-of-after-sync-arg2 t (search) .if1 .left))) (pushes (start-of-after-sync-arg2 t (search) .args .e) (start-of-after-sync-arg2 t (search) .args .waiting) (start-of-after-sync-arg2 t (search) .args .queue .now) (caught-go (at-depth (start-of-after-sync-arg2 t (search) .args .depth)) (drop (start-of-after-sync-arg2 t (search) .args .pos) (start-of-after-sync-arg2 t (search) .args .tokens .now))) (known (Else2 t) (search) .if2 .left) (omega (arith, start-of-after-sync-arg2 t (search) .pre)) (u .text)) in
+    let path = link (way _ (caught-push _ _ _ _ (else1-of-after-sync-arg2 t (search) .if1 .left))) (pushes (start-of-after-sync-arg2 t (search) .args .f .error) (start-of-after-sync-arg2 t (search) .args .f .waiting) (start-of-after-sync-arg2 t (search) .args .queue .now) (caught-go (at-depth (start-of-after-sync-arg2 t (search) .args .depth)) (drop (start-of-after-sync-arg2 t (search) .args .f .pos) (start-of-after-sync-arg2 t (search) .args .tokens .now))) (known (Else2 t) (search) .if2 .left) (omega (arith, start-of-after-sync-arg2 t (search) .pre)) (u .text)) in
     did-not (fails _ path (undone (c .match .keys2) (known (After-sync t) (search) .sync .ensures)) refl (omega arith))
 
 pub synchronized-requires : (t : ℕ) → lts.Need-synchronized-requires (calls t) (catch-at t) reads.Post
@@ -89,6 +89,6 @@ same-length-2 t c = search needs
 pub returns-4 : (t : ℕ) → lts.Need-returns-4 (calls t) (catch-at t) reads.Post
 returns-4 t c = let u = after-push-of-after-sync-arg2 t (search) .push .ensures in
     let s1 = done (known (After-r t) (search) .r .given .1) (known (After-sync t) (search) .sync .ensures) in
-    let path = link (way _ (caught-push _ _ _ _ (else1-of-after-sync-arg2 t (search) .if1 .left))) (pushes (start-of-after-sync-arg2 t (search) .args .e) (start-of-after-sync-arg2 t (search) .args .waiting) (start-of-after-sync-arg2 t (search) .args .queue .now) (caught-go (at-depth (start-of-after-sync-arg2 t (search) .args .depth)) (drop (start-of-after-sync-arg2 t (search) .args .pos) (start-of-after-sync-arg2 t (search) .args .tokens .now))) (else2-of-after-sync-arg2 t (search) .if2 .left) (omega (arith, start-of-after-sync-arg2 t (search) .pre)) (u .text)) in
+    let path = link (way _ (caught-push _ _ _ _ (else1-of-after-sync-arg2 t (search) .if1 .left))) (pushes (start-of-after-sync-arg2 t (search) .args .f .error) (start-of-after-sync-arg2 t (search) .args .f .waiting) (start-of-after-sync-arg2 t (search) .args .queue .now) (caught-go (at-depth (start-of-after-sync-arg2 t (search) .args .depth)) (drop (start-of-after-sync-arg2 t (search) .args .f .pos) (start-of-after-sync-arg2 t (search) .args .tokens .now))) (else2-of-after-sync-arg2 t (search) .if2 .left) (omega (arith, start-of-after-sync-arg2 t (search) .pre)) (u .text)) in
     let on = goes _ path (s1 .same) in
     resumes on (prefix s1 (omega (arith, start-of-after-sync-arg2 t (search) .pre))) (omega (arith, start-of-after-sync-arg2 t (search) .pre, u .next, s1 .moved)) (c .synchronized .ensures)

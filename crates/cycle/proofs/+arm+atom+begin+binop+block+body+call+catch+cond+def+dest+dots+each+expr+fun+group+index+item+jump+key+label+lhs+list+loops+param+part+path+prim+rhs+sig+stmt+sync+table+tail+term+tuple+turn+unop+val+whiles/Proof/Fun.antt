@@ -5,11 +5,12 @@ use borrow.Author.Needs.{needs}
 use native.Mathlib.Omega.{arith}
 use lib.ListN.{take}
 use Rattle.scan.proofs.Laws.{way, here, link, goes, done, undone, did-not, taken, not-taken, fails, fails-unseen, prefix, later}
-use Rattle.nodes.proofs.Made.{made-two}
 use Rattle.scan.proofs.Looking.{name-small}
+use Rattle.nodes.proofs.Made.{made-two}
+use Rattle.cycle.proofs.PathsFunction.{target-small, decl-looks, decl-open, decl-target, decl-name, target-named}
+use Rattle.cycle.proofs.Shapes.{given}
 use Rattle.cycle.proofs.Writing.{taller}
 use Rattle.nodes.proofs.Ends.{kind-read}
-use Rattle.cycle.proofs.PathsFunction.{target-small, target-named, decl-looks, decl-open, decl-target, decl-name}
 use Rattle.cycle.proofs.fun.Reads as reads
 use Rattle.cycle.proofs.+arm+atom+begin+binop+block+body+call+catch+cond+def+dest+dots+each+expr+fun+group+index+item+jump+key+label+lhs+list+loops+param+part+path+prim+rhs+sig+stmt+sync+table+tail+term+tuple+turn+unop+val+whiles.Lts-fun as lts
 use Rattle.cycle.proofs.def.Reads as def-reads
@@ -18,7 +19,6 @@ use Rattle.nodes.proofs.records.target_name.Reads as target-name-reads
 use Rattle.scan.proofs.tokens.look.Reads as look-reads
 use Rattle.tree.proofs.emit.Reads as emit-reads
 use Rattle.cycle.proofs.+arm+atom+begin+binop+block+body+call+catch+cond+def+dest+dots+each+expr+fun+group+index+item+jump+key+label+lhs+list+loops+param+part+path+prim+rhs+sig+stmt+sync+table+tail+term+tuple+turn+unop+val+whiles.Proof.Below.{fun-at, def-below, dest-below}
-use Rattle.cycle.proofs.Shapes.{given}
 use Rattle.tree.proofs.Known.{known}
 
 -- what is known of the functions that it calls

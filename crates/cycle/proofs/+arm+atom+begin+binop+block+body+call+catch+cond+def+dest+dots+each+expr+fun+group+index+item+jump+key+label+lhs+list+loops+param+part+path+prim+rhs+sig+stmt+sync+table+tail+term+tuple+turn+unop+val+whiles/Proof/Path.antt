@@ -12,9 +12,10 @@ use Rattle.grammar.specs.Reading.Depth.{at-depth}
 use Rattle.scan.specs.Post.{Wrote, waiting-errors}
 use Rattle.cycle.specs.Parts.{part}
 use Rattle.scan.proofs.Laws.{way, here, link, goes, done, undone, did-not, taken, not-taken, fails, fails-unseen, prefix}
-use Rattle.nodes.proofs.Made.{joined, count-snoc}
-use Rattle.grammar.specs.Reading.Primary.{path as path-def}
+use Rattle.scan.proofs.Text.{left}
+use Rattle.nodes.proofs.Made.{count-snoc, joined}
 use Rattle.cycle.proofs.PathsPrimary.{path-looks, path-ends, path-more, path-far}
+use Rattle.grammar.specs.Reading.Primary.{path as path-def}
 use Rattle.cycle.proofs.path.Reads as reads
 use Rattle.cycle.proofs.+arm+atom+begin+binop+block+body+call+catch+cond+def+dest+dots+each+expr+fun+group+index+item+jump+key+label+lhs+list+loops+param+part+path+prim+rhs+sig+stmt+sync+table+tail+term+tuple+turn+unop+val+whiles.Lts-path as lts
 use Rattle.cycle.proofs.part.Reads as part-reads

@@ -8,10 +8,9 @@ use lib.ListN.{length, take, drop, length-drop}
 use Rattle.grammar.specs.Reading.Depth.{at-depth}
 use Rattle.scan.specs.Post.{Wrote, waiting-errors}
 use Rattle.scan.proofs.Laws.{way, here, link, did-not, taken, not-taken, fails-unseen, prefix}
-use Rattle.nodes.proofs.Made.{joined}
+use Rattle.cycle.proofs.PathsParams.{params-looks, params-close, params-more, round, unjoined, one-param, no-params, none-fit, no-words-yet}
 use Rattle.grammar.specs.Reading.Function.{params, function-param-list}
 use Rattle.nodes.specs.Parameters.{name-bound, params-words, Fitting}
-use Rattle.cycle.proofs.PathsFunction.{params-looks, params-close, params-more, round, unjoined, one-param, no-params, none-fit, no-words-yet}
 use Rattle.cycle.proofs.sig.Reads as reads
 use Rattle.cycle.proofs.+arm+atom+begin+binop+block+body+call+catch+cond+def+dest+dots+each+expr+fun+group+index+item+jump+key+label+lhs+list+loops+param+part+path+prim+rhs+sig+stmt+sync+table+tail+term+tuple+turn+unop+val+whiles.Lts-sig as lts
 use Rattle.cycle.proofs.param.Reads as param-reads

@@ -3,8 +3,10 @@ use mathlib.Core.Path.{refl}
 use Prim.Native.Nat.{ℕ}
 use borrow.Author.Needs.{needs}
 use native.Mathlib.Omega.{arith}
-use Rattle.scan.proofs.Laws.{way, here, goes, done, undone, did-not, taken, not-taken, fails, fails-unseen, later, as-agrees}
-use Rattle.cycle.proofs.PathsPrimary.{taken-label, made-list, operand-looks, operand-class, operand-fun, operand-if, operand-begin, operand-table, operand-label, operand-other}
+use Rattle.scan.proofs.Laws.{way, here, goes, done, undone, did-not, taken, not-taken, fails, fails-unseen, as-agrees, later}
+use Rattle.scan.proofs.Looking.{taken-label}
+use Rattle.cycle.proofs.PathsPrimary.{operand-looks, operand-class, operand-fun, operand-if, operand-begin, operand-table, operand-label, operand-other}
+use Rattle.cycle.proofs.Writing.{made-list}
 use Rattle.cycle.proofs.term.Reads as reads
 use Rattle.cycle.proofs.+arm+atom+begin+binop+block+body+call+catch+cond+def+dest+dots+each+expr+fun+group+index+item+jump+key+label+lhs+list+loops+param+part+path+prim+rhs+sig+stmt+sync+table+tail+term+tuple+turn+unop+val+whiles.Lts-term as lts
 use Rattle.cycle.proofs.begin.Reads as begin-reads

@@ -5,7 +5,7 @@ use borrow.Author.Needs.{needs}
 use native.Mathlib.Omega.{arith}
 use Rattle.scan.proofs.Laws.{way, ends, goes, done, undone, did-not, taken, not-taken, fails, fails-unseen, as-agrees, anew}
 use Rattle.nodes.proofs.Made.{made-one}
-use Rattle.cycle.proofs.PathsExpr.{unary-stops, unary-step, unary-looks, unary-none, unary-some, left}
+use Rattle.cycle.proofs.PathsExpr.{unary-stops, unary-step, unary-looks, unary-none, unary-some}
 use Rattle.cycle.proofs.unop.Reads as reads
 use Rattle.cycle.proofs.+arm+atom+begin+binop+block+body+call+catch+cond+def+dest+dots+each+expr+fun+group+index+item+jump+key+label+lhs+list+loops+param+part+path+prim+rhs+sig+stmt+sync+table+tail+term+tuple+turn+unop+val+whiles.Lts-unop as lts
 use Rattle.cycle.proofs.term.Reads as term-reads

@@ -6,7 +6,7 @@ use native.Mathlib.Omega.{arith}
 use Rattle.grammar.specs.Reading.Expr.{expr}
 use Rattle.scan.proofs.Laws.{way, here, did-not, taken, not-taken, fails-unseen, later}
 use Rattle.nodes.proofs.Made.{made-none}
-use Rattle.cycle.proofs.PathsList.{value-looks, value-none, value-some}
+use Rattle.cycle.proofs.PathsControl.{value-looks, value-none, value-some}
 use Rattle.cycle.proofs.val.Reads as reads
 use Rattle.cycle.proofs.+arm+atom+begin+binop+block+body+call+catch+cond+def+dest+dots+each+expr+fun+group+index+item+jump+key+label+lhs+list+loops+param+part+path+prim+rhs+sig+stmt+sync+table+tail+term+tuple+turn+unop+val+whiles.Lts-val as lts
 use Rattle.cycle.proofs.expr.Reads as expr-reads

@@ -8,7 +8,8 @@ use Rattle.tree.specs.Tree.{records}
 use Rattle.tree.specs.Node
 use Rattle.grammar.specs.Reading.Primary.{arguments}
 use Rattle.scan.proofs.Text.{two-words}
-use Rattle.nodes.proofs.Ends.{joins, over-one, call-tuple, call-other}
+use Rattle.nodes.proofs.Ends.{joins, call-tuple, call-other}
+use Rattle.nodes.proofs.Made.{over-one}
 use Rattle.nodes.proofs.records.call_end.Statement.{statement}
 use Rattle.nodes.proofs.records.call_end.Tie as tie
 use Rattle.tree.proofs.Known.{known}
