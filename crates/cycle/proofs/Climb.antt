@@ -4,7 +4,6 @@ use mathlib.Core.Path.{_≡_, refl, sym, ap, _∙_}
 use mathlib.Core.Bool.{Bool, true, false}
 use mathlib.Core.List.{List, [], _∷_}
 use Prim.Native.Nat.{ℕ, zero, suc, pred, _+_, _-_, _≤_, _<_}
-use native.Mathlib.Numerals.{sub-one}
 use native.Mathlib.Omega.{arith}
 use lib.Dec.{eqb, ltb}
 use lib.ListN.{length, drop}
@@ -28,7 +27,8 @@ use Rattle.grammar.specs.Laws.Count.{same-then}
 use Rattle.scan.specs.Post.{Taken}
 use Rattle.nodes.proofs.Algebra.{then-fail, then-ok, then-then, then-same}
 use Rattle.scan.proofs.Laws.{Looks}
-use Rattle.cycle.proofs.PathsExpr.{suc-pred, left}
+use Rattle.scan.proofs.Text.{left}
+use Rattle.cycle.proofs.PathsExpr.{suc-pred, counted}
 
 -- the operators of the levels up to l, after a left side: the right side of one of the level k is read at the level k - 1
 unfoldable pub climb : Depth → ℕ → ℕ → Tree → List Error → List ℕ → Res Tree
@@ -166,13 +166,11 @@ module _ (low : Depth) (K : (r : List ℕ) → Keeps (Left r) low) where
 pub binop-step : (d l : ℕ) (q : List Error) (ts : List ℕ) → (l ≡ 0 → ⊥) → binop-expr (at-depth d) l q ts ≡ then q (at-depth d .unary q ts) (λ t q₁ r. climb (at-depth d) l (length r) t q₁ r)
 binop-step d l q ts h = rw (← suc-pred l h) (binop-climb (at-depth d) (λ r. depth-keeps (Left r) (left-step r) d) (l - 1) q ts)
 
--- with a count that is as long as the list the loop looks: with none, the list is empty
+-- the loop with a count that is as long as the list
 module _ (low : Depth) (l : ℕ) (acc : Tree) (q : List Error) where
   climb-step : (fuel : ℕ) (ts : List ℕ) → length ts ≤ fuel → climb low l fuel acc q ts ≡ then q (look q ts) (climb-on low l (fuel - 1) acc q ts)
-  unfolding climb look then
-  climb-step zero [] h = refl
-  climb-step zero (x ∷ ts) h = absurd (omega arith)
-  climb-step (suc n) ts h = rw (sub-one (suc n))
+  unfolding climb
+  climb-step fuel ts h = counted q ts (λ n. climb low l n acc q ts) (λ n. climb-on low l n acc q ts) refl (λ n. refl) fuel h
 
   pub climb-looks : (T : List ℕ) (fuel p : ℕ) → length T ≤ p + fuel → Looks q (drop p T) (climb low l fuel acc q (drop p T))
   climb-looks T fuel p enough = record { go = _; is = climb-step fuel (drop p T) (left T p fuel enough) }

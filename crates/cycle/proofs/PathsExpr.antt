@@ -5,9 +5,10 @@ use Prim.Native.Nat.{ℕ, zero, suc, pred, _+_, _*_, _-_, _≤_}
 use native.Mathlib.Numerals.{sub-one}
 use native.Mathlib.Omega.{arith}
 use lib.Dec.{eqb}
-use lib.ListN.{length, drop, length-drop}
+use lib.ListN.{length, drop}
 use borrow.Author.Tests.{eq-eqb, ne-eqb}
 use Rattle.token.specs.Kind
+use Rattle.token.specs.declared.Token.{Token}
 use Rattle.operator.specs.Operator.{unary-code, assign-code}
 use Rattle.tree.specs.NodeKind
 use Rattle.tree.specs.Tree.{Tree, Forest, node, none, more, one, two, snoc}
@@ -20,13 +21,22 @@ use Rattle.grammar.specs.Reading.Look.{look, expect-pattern, try-assign-keyword
 use Rattle.grammar.specs.Reading.Expr.{Depth, binop-expr, inner-expr, members, tuple-expr, keyword-alone, expr}
 use Rattle.grammar.specs.Reading.Stmt.{stmts}
 use Rattle.grammar.specs.Reading.Depth.{primary-expr, unary-expr, at-depth}
+use Rattle.grammar.specs.Laws.Facts.{if-same}
 use Rattle.cycle.specs.Parts.{tail}
 use Rattle.scan.specs.Post.{Taken}
-use Rattle.nodes.proofs.Algebra.{then-fail, then-ok, then-then, then-if, then-same, if-same, look-then}
+use Rattle.nodes.proofs.Algebra.{then-fail, then-ok, then-then, then-if, then-same, look-then}
 use Rattle.scan.proofs.Laws.{Looks}
+use Rattle.scan.proofs.Text.{left}
 
 pub suc-pred : (n : ℕ) → (n ≡ 0 → ⊥) → suc (n - 1) ≡ n
 suc-pred n h = omega arith
+
+-- a loop whose count is at least as long as the list looks: with a count of 0 the list is empty
+pub counted : {A : Type 0} (q : List Error) (ts : List ℕ) (loop : ℕ → Res A) (go : ℕ → Token → List Error → List ℕ → Res A) → loop 0 ≡ fail Number.end-of-tokens q ts → ((n : ℕ) → loop (suc n) ≡ then q (look q ts) (go n)) → (fuel : ℕ) → length ts ≤ fuel → loop fuel ≡ then q (look q ts) (go (fuel - 1))
+unfolding look then
+counted q [] loop go ended goes zero h = ended
+counted q (x ∷ ts) loop go ended goes zero h = absurd (omega arith)
+counted q ts loop go ended goes (suc n) h = goes n ∙ rw (sub-one (suc n))
 
 -- the readings of each depth
 module _ (d : ℕ) (q : List Error) (ts : List ℕ) where
@@ -67,6 +77,12 @@ right-stops d q ts e = rw e (right-zero d q ts)
 pub right-step : (d : ℕ) (q : List Error) (ts : List ℕ) → (d ≡ 0 → ⊥) → at-depth d .right q ts ≡ expr (at-depth (d - 1)) q ts
 right-step d q ts h = ap (λ (n : ℕ). at-depth n .right q ts) (sym (suc-pred d h)) ∙ right-suc (d - 1) q ts
 
+pub list-stops : (d end : ℕ) (q : List Error) (ts : List ℕ) → d ≡ 0 → at-depth d .list end q ts ≡ stop too-deep
+list-stops d end q ts e = rw e (list-zero d q ts end)
+
+pub list-step : (d end : ℕ) (q : List Error) (ts : List ℕ) → (d ≡ 0 → ⊥) → at-depth d .list end q ts ≡ stmts (at-depth (d - 1)) end (length ts) none q ts
+list-step d end q ts h = ap (λ (n : ℕ). at-depth n .list end q ts) (sym (suc-pred d h)) ∙ list-suc (d - 1) q ts end
+
 -- operands
 pub unary-looks : (low : Depth) (q : List Error) (ts : List ℕ) → Looks q ts (unary-expr low q ts)
 unfolding unary-expr
@@ -91,17 +107,14 @@ binop-zero low q ts = refl
 pub binop-unary : (low : Depth) (l : ℕ) (q : List Error) (ts : List ℕ) → l ≡ 0 → binop-expr low l q ts ≡ low .unary q ts
 binop-unary low l q ts e = rw e (binop-zero low q ts)
 
-pub left : (T : List ℕ) (p fuel : ℕ) → length T ≤ p + fuel → length (drop p T) ≤ fuel
-left T p fuel h = rw length-drop (omega arith)
-
 -- tuples: the members behind the first are `tail`
-members-commas : (low : Depth) (n : ℕ) (t : Tree) (f : Forest) (q : List Error) (ts : List ℕ) → members low n (more t f) q ts ≡ then q (tail low n f q ts) (λ g q₁ r. ok (Node.tuple (more t g)) r)
+members-tail : (low : Depth) (n : ℕ) (t : Tree) (f : Forest) (q : List Error) (ts : List ℕ) → members low n (more t f) q ts ≡ then q (tail low n f q ts) (λ g q₁ r. ok (Node.tuple (more t g)) r)
 unfolding members tail snoc
-members-commas low zero t f q ts = sym (then-fail q _)
-members-commas low (suc n) t f q ts =
+members-tail low zero t f q ts = sym (then-fail q _)
+members-tail low (suc n) t f q ts =
     sym (look-then q ts _ _ _ λ tok rest.
     then-if q _ _ _ _ ∙ if-same _ (λ u. look-then q rest _ _ _ λ tok₂ rest₂.
-    then-if q _ _ _ _ ∙ if-same _ (λ u. then-ok q _) (λ u. then-then q _ _ _ ∙ then-same q _ λ x q₃ r. sym (members-commas low n t (snoc f x) q₃ r))) (λ u. then-ok q _))
+    then-if q _ _ _ _ ∙ if-same _ (λ u. then-ok q _) (λ u. then-then q _ _ _ ∙ then-same q _ λ x q₃ r. sym (members-tail low n t (snoc f x) q₃ r))) (λ u. then-ok q _))
 
 abbrev pub tuple-go : Depth → Tree → List Error → List ℕ → Res Tree
 tuple-go low t q r = then q (look q r) λ tok q₂ rest. ifb (eqb (tok .kind) Kind.Comma) (λ _. members low (length r) (one t) q r) (λ _. ok t r)
@@ -120,36 +133,37 @@ module _ (low : Depth) (t : Tree) (q : List Error) {T : List ℕ} {pos k n v : �
 
   pub tuple-more : k ≡ Kind.Comma → tuple-go low t q (drop pos T) ≡ then q (tail low (length (drop pos T)) none q (drop pos T)) (λ g q₁ r. ok (Node.tuple (more t g)) r)
   unfolding then ifb
-  tuple-more e = rw (at .same, eq-eqb _ _ e) (members-commas low (length (drop pos T)) t none q (drop pos T))
+  tuple-more e = rw (at .same, eq-eqb _ _ e) (members-tail low (length (drop pos T)) t none q (drop pos T))
 
--- the members behind the first. With a count that is as long as the list a loop looks: with none, the list is empty
+-- the members behind the first
 module _ (low : Depth) (f : Forest) (q : List Error) where
-  commas-step : (fuel : ℕ) (ts : List ℕ) → length ts ≤ fuel → tail low fuel f q ts ≡ then q (look q ts) (λ tok q₁ rest. ifb (eqb (tok .kind) Kind.Comma) (λ _. then q (look q rest) λ tok₂ q₂ rest₂. ifb (eqb (tok₂ .kind) Kind.CloseParen) (λ _. ok f rest) λ _. then q (inner-expr low q rest) λ t q₃ r. tail low (fuel - 1) (snoc f t) q₃ r) (λ _. ok f ts))
-  unfolding tail look then
-  commas-step zero [] h = refl
-  commas-step zero (x ∷ ts) h = absurd (omega arith)
-  commas-step (suc n) ts h = rw (sub-one (suc n))
+  abbrev tail-on : List ℕ → ℕ → Token → List Error → List ℕ → Res Forest
+  tail-on ts n tok q₁ rest = ifb (eqb (tok .kind) Kind.Comma) (λ _. then q (look q rest) λ tok₂ q₂ rest₂. ifb (eqb (tok₂ .kind) Kind.CloseParen) (λ _. ok f rest) λ _. then q (inner-expr low q rest) λ t q₃ r. tail low n (snoc f t) q₃ r) (λ _. ok f ts)
 
-  pub commas-looks : (T : List ℕ) (fuel p : ℕ) → length T ≤ p + fuel → Looks q (drop p T) (tail low fuel f q (drop p T))
-  commas-looks T fuel p enough = record { go = _; is = commas-step fuel (drop p T) (left T p fuel enough) }
+  tail-step : (fuel : ℕ) (ts : List ℕ) → length ts ≤ fuel → tail low fuel f q ts ≡ then q (look q ts) (tail-on ts (fuel - 1))
+  unfolding tail
+  tail-step fuel ts h = counted q ts (λ n. tail low n f q ts) (tail-on ts) refl (λ n. refl) fuel h
+
+  pub tail-looks : (T : List ℕ) (fuel p : ℕ) → length T ≤ p + fuel → Looks q (drop p T) (tail low fuel f q (drop p T))
+  tail-looks T fuel p enough = record { go = _; is = tail-step fuel (drop p T) (left T p fuel enough) }
 
   module _ {T : List ℕ} (fuel p : ℕ) (enough : length T ≤ p + fuel) {k n v : ℕ} (at : Taken T p k n v) where
-    pub commas-end : (k ≡ Kind.Comma → ⊥) → tail low fuel f q (drop p T) ≡ ok f (drop p T)
+    pub tail-end : (k ≡ Kind.Comma → ⊥) → tail low fuel f q (drop p T) ≡ ok f (drop p T)
     unfolding then ifb
-    commas-end e = commas-step fuel (drop p T) (left T p fuel enough) ∙ rw (at .same, ne-eqb _ _ e)
+    tail-end e = tail-step fuel (drop p T) (left T p fuel enough) ∙ rw (at .same, ne-eqb _ _ e)
 
-    pub commas-comma : k ≡ Kind.Comma → tail low fuel f q (drop p T) ≡ then q (look q (drop (p + 2) T)) (λ tok₂ q₂ rest₂. ifb (eqb (tok₂ .kind) Kind.CloseParen) (λ _. ok f (drop (p + 2) T)) λ _. then q (inner-expr low q (drop (p + 2) T)) λ t q₃ r. tail low (fuel - 1) (snoc f t) q₃ r)
+    pub tail-comma : k ≡ Kind.Comma → tail low fuel f q (drop p T) ≡ then q (look q (drop (p + 2) T)) (λ tok₂ q₂ rest₂. ifb (eqb (tok₂ .kind) Kind.CloseParen) (λ _. ok f (drop (p + 2) T)) λ _. then q (inner-expr low q (drop (p + 2) T)) λ t q₃ r. tail low (fuel - 1) (snoc f t) q₃ r)
     unfolding then ifb
-    commas-comma e = commas-step fuel (drop p T) (left T p fuel enough) ∙ rw (at .same, eq-eqb _ _ e)
+    tail-comma e = tail-step fuel (drop p T) (left T p fuel enough) ∙ rw (at .same, eq-eqb _ _ e)
 
     module _ (e : k ≡ Kind.Comma) {k₂ n₂ v₂ : ℕ} (at₂ : Taken T (p + 2) k₂ n₂ v₂) where
-      pub commas-last : k₂ ≡ Kind.CloseParen → tail low fuel f q (drop p T) ≡ ok f (drop (p + 2) T)
+      pub tail-last : k₂ ≡ Kind.CloseParen → tail low fuel f q (drop p T) ≡ ok f (drop (p + 2) T)
       unfolding then ifb
-      commas-last i = commas-comma e ∙ rw (at₂ .same, eq-eqb _ _ i)
+      tail-last i = tail-comma e ∙ rw (at₂ .same, eq-eqb _ _ i)
 
-      pub commas-more : (k₂ ≡ Kind.CloseParen → ⊥) → tail low fuel f q (drop p T) ≡ then q (inner-expr low q (drop (p + 2) T)) (λ t q₃ r. tail low (fuel - 1) (snoc f t) q₃ r)
+      pub tail-more : (k₂ ≡ Kind.CloseParen → ⊥) → tail low fuel f q (drop p T) ≡ then q (inner-expr low q (drop (p + 2) T)) (λ t q₃ r. tail low (fuel - 1) (snoc f t) q₃ r)
       unfolding then ifb
-      commas-more i = commas-comma e ∙ rw (at₂ .same, ne-eqb _ _ i)
+      tail-more i = tail-comma e ∙ rw (at₂ .same, ne-eqb _ _ i)
 
 -- assignments
 abbrev pub expr-op : Depth → ℕ → Tree → List Error → List ℕ → Res Tree

@@ -1,21 +1,18 @@
--- What binds tighter than operators (grammar's Reading/Primary.antt and Level.antt), one step each, as the code goes: an equation for each way through a reading;
--- and what a last call's answer is for the function that makes it. Assumes nothing.
+-- What binds tighter than operators (grammar's Reading/Primary.antt and Level.antt), one step each, as the code goes: an equation for each way through a reading. Assumes nothing.
 use mathlib.Core.Path.{_≡_, refl, sym, ap, _∙_}
 use mathlib.Core.Bool.{Bool, true, false, _&&_, _||_, true≢false}
-use mathlib.Core.List.{List, [], _∷_, _++_, append-assoc}
-use Prim.Native.Nat.{ℕ, zero, suc, _+_, _*_, _-_, _≤_, _<_}
-use native.Mathlib.Numerals.{sub-one}
+use mathlib.Core.List.{List, _++_}
+use Prim.Native.Nat.{ℕ, suc, _+_, _*_, _-_, _≤_}
 use native.Mathlib.Omega.{arith}
 use lib.Dec.{eqb}
-use lib.ListN.{length, take, drop, length-drop, length-append}
+use lib.ListN.{length, take, drop}
 use lib.Seq.{length-take-le}
 use borrow.Author.Tests.{eq-eqb, ne-eqb}
 use Rattle.token.specs.Kind
 use Rattle.token.specs.declared.Token.{Token}
 use Rattle.tree.specs.NodeKind
-use Rattle.tree.specs.Tree.{Tree, Forest, node, none, more, one, snoc, count, records, all-records, kind-of}
+use Rattle.tree.specs.Tree.{Tree, Forest, none, more, snoc, count, records, all-records, kind-of}
 use Rattle.tree.specs.Node
-use Rattle.tree.specs.Store.{Emitted}
 use Rattle.grammar.specs.Reading.Number
 use Rattle.grammar.specs.Reading.Result.{Res, ok, fail, then, ifb, Error}
 use Rattle.grammar.specs.Reading.Look.{look, expect, try-assign-keyword}
@@ -24,73 +21,15 @@ use Rattle.grammar.specs.Reading.Primary.{with-action, group-expr, literal, ato
 use Rattle.grammar.specs.Reading.Block.{block-expr, expr-label, if-expr}
 use Rattle.grammar.specs.Reading.Function.{function-decl-expr}
 use Rattle.grammar.specs.Reading.Depth.{primary-expr}
-use Rattle.scan.specs.Post.{As, Moved, Room, Wrote, Agrees, Taken, Writes, waiting-errors}
+use Rattle.grammar.specs.Laws.Facts.{if-same}
+use Rattle.scan.specs.Post.{Taken}
 use Rattle.scan.specs.Parts.{goes-on}
-use Rattle.cycle.specs.Parts.{part, list-words}
+use Rattle.cycle.specs.Parts.{part}
 use Rattle.nodes.specs.Parts.{path-words, unpack-end, named-field, item-end}
-use Rattle.scan.specs.declared.Step.{Step}
-use Rattle.scan.specs.declared.Step.the-variants.{Done, Fail, Stop}
-use Rattle.nodes.proofs.Algebra.{then-fail, then-ok, then-then, then-if, then-same, if-same, look-then}
-use Rattle.scan.proofs.Looking.{label-small}
-use Rattle.cycle.proofs.Trees.{path-text}
-use Rattle.scan.proofs.Laws.{way, link, goes, Later, fails, Looks, Beyond, lacking}
-use Rattle.nodes.proofs.Made.{put, all-one}
-
--- LAST CALLS
--- text that begins with what stood up to «at» is as long
-grown : (S S′ X : List ℕ) (at a : ℕ) → at ≤ length S → a ≤ length S′ → take a S′ ≡ take at S ++ X → a ≡ at + length X
-grown S S′ X at a h i e =
-    let n : length (take at S) ≡ at = length-take-le at S h in
-    let m : length (take a S′) ≡ a = length-take-le a S′ i in
-    let l : length (take a S′) ≡ length (take at S) + length X = ap length e ∙ length-append (take at S) X in
-    omega arith
-
--- a label's value
-pub taken-label : {T : List ℕ} {pos k n v : ℕ} → Taken T pos k n v → k ≡ Kind.Label → v < 4294967296
-taken-label at e = label-small (at .fits) e
-
--- what is read last by a function that needs no queue, d, and written behind «at»
-module _ {A : Type 0} {words : A → List ℕ} {D : Res A} {d : List Error → Res A} {T : List ℕ} {pos least slack at w₀ : ℕ} {S Q : List ℕ} {p least₁ most b w : ℕ} {S₁ S′ Q′ : List ℕ} where
-  writes-as : As (waiting-errors w₀ Q) D (waiting-errors w Q′) (d (waiting-errors w Q′)) → take at S₁ ≡ take at S → Beyond pos least w₀ p least₁ w (length Q′) → at ≤ length S → b + most ≤ length S′ → b + most + 8 * pos + slack ≤ at + 8 * least₁ + 8
-      → (r : Step) → Writes words d T p least₁ most b w (take at S) S₁ S′ r → Agrees words D T pos least slack at w₀ S Q S′ Q′ r
-  writes-as a x y h i j (Done p′ c w′) f =
-      let g = f .how in
-      let o = g .got in
-      let v = g .waits in
-      let far = g .far in
-      let on = o .on in
-      let within = o .within in
-      let up = grown S S′ (words (o .what)) at c h (omega arith) (g .text) in
-      record { how = record { what = o .what; same = rw v (link a (way _ (o .same _))); moved = omega (arith, y, v, on, within); room = omega (arith, far, on, up, j); text = g .text } }
-  writes-as a x y h i j (Fail failure) f = record { how = lacking (f .how .unread) a (ap (take at) (f .how .text) ∙ x) y }
-  writes-as a x y h i j (Stop n) f = record { how = lacking (f .how .unread) a (ap (take at) (f .how .text) ∙ x) y }
-
-  pub writing : {r : Step} → Writes words d T p least₁ most b w (take at S) S₁ S′ r → As (waiting-errors w₀ Q) D (waiting-errors w Q′) (d (waiting-errors w Q′)) → take at S₁ ≡ take at S → Beyond pos least w₀ p least₁ w (length Q′) → at ≤ length S → b + most ≤ length S′
-      → b + most + 8 * pos + slack ≤ at + 8 * least₁ + 8 → Agrees words D T pos least slack at w₀ S Q S′ Q′ r
-  writing {r = r} f a x y h i j = writes-as a x y h i j r f
-
--- what is read last, d, becomes a part of what is answered
-module _ {A B : Type 0} {words : A → List ℕ} {words′ : B → List ℕ} {D : Res B} {d : Res A} {T : List ℕ} {pos least slack at w₀ : ℕ} {S Q : List ℕ} {pos₁ least₁ slack₁ at₁ w₁ : ℕ} {S₁ Q₁ S′ Q′ : List ℕ} (make : A → B) where
-  mapped-as : As (waiting-errors w₀ Q) D (waiting-errors w₁ Q₁) (then (waiting-errors w₁ Q₁) d (λ x q r. ok (make x) r)) → ((x : A) → take at₁ S₁ ++ words x ≡ take at S ++ words′ (make x)) → take at S₁ ≡ take at S → Later pos least at w₀ pos₁ least₁ at₁ w₁ → at₁ + 8 * pos + slack ≤ at + 8 * pos₁ + slack₁
-      → (r : Step) → Agrees words d T pos₁ least₁ slack₁ at₁ w₁ S₁ Q₁ S′ Q′ r → Agrees words′ D T pos least slack at w₀ S Q S′ Q′ r
-  mapped-as a h x l j (Done p c w) f =
-      let u = f .how in
-      let m = u .moved in
-      let o = u .room in
-      record { how = record { what = make (u .what); same = goes _ a (u .same); moved = omega (arith, l, m); room = omega (arith, l, o, j); text = u .text ∙ h (u .what) } }
-  mapped-as a h x l j (Fail failure) f = record { how = fails _ a (f .how) x l }
-  mapped-as a h x l j (Stop n) f = record { how = fails _ a (f .how) x l }
-
-  pub mapped : {r : Step} → As (waiting-errors w₀ Q) D (waiting-errors w₁ Q₁) (then (waiting-errors w₁ Q₁) d (λ x q r. ok (make x) r)) → Agrees words d T pos₁ least₁ slack₁ at₁ w₁ S₁ Q₁ S′ Q′ r → ((x : A) → take at₁ S₁ ++ words x ≡ take at S ++ words′ (make x)) → take at S₁ ≡ take at S → Later pos least at w₀ pos₁ least₁ at₁ w₁
-      → at₁ + 8 * pos + slack ≤ at + 8 * pos₁ + slack₁ → Agrees words′ D T pos least slack at w₀ S Q S′ Q′ r
-  mapped {r = r} a f h x l j = mapped-as a h x l j r f
-
--- a node over the list that was written
-pub made-list : {E C : Type 0} {D : Res E} {K : Tree → List Error → List ℕ → Res E} {T : List ℕ} {pos least slack at w₀ : ℕ} {S Q : List ℕ} {q r w : ℕ} {S″ Q″ : List ℕ} (k : ℕ) {v word : ℕ} {d : Res C} {k′ : Forest → List Error → List ℕ → Res C} {pos′ least′ slack′ w₁ : ℕ} {Q₁ : List ℕ} {p a w₂ : ℕ} {S′ Q′ : List ℕ}
-    (g : Wrote list-words d k′ T pos′ least′ slack′ at w₁ S Q₁ p a w₂ S′ Q′) → Emitted a word v r S′ S″ → As (waiting-errors w₀ Q) D (waiting-errors w Q″) (K (node k v (one (Node.list (g .what)))) (waiting-errors w Q″) (drop q T)) → Moved (length T) least w₀ q w (length Q″) → Room pos at slack q r → word ≡ k + 256
-    → Wrote records D K T pos least slack at w₀ S Q q r w S″ Q″
-unfolding count
-made-list {at = at} {S = S} k {v = v} g e same moved room i = record { what = node k v (one (Node.list (g .what))); same = same; moved = moved; room = room; text = put k (one (Node.list (g .what))) (take at S) e (rw all-one (g .text)) i }
+use Rattle.nodes.proofs.Algebra.{then-fail, then-ok, then-then, then-if, then-same, look-then}
+use Rattle.scan.proofs.Laws.{Looks}
+use Rattle.scan.proofs.Text.{left}
+use Rattle.cycle.proofs.PathsExpr.{counted}
 
 -- PRIMARIES
 abbrev pub primary-go : Depth → Tree → List Error → List ℕ → Res Tree
@@ -99,9 +38,6 @@ primary-go low a q r = then q (path low true (length r) none q r) λ f q₂ s. o
 pub primary-step : (low : Depth) (q : List Error) (ts : List ℕ) → primary low q ts ≡ then q (atom low q ts) (primary-go low)
 unfolding primary
 primary-step low q ts = refl
-
-pub path-under : {Y : List ℕ} (Z : List ℕ) (t : Tree) (f : Forest) → Y ≡ Z ++ records t → Y ++ path-words f ≡ Z ++ records (with-path t f)
-path-under Z t f e = rw (e, path-text t f, append-assoc)
 
 -- `...`
 pub unpack-looks : (low : Depth) (q : List Error) (ts : List ℕ) → Looks q ts (unpack-expr low q ts)
@@ -206,10 +142,6 @@ pub item-step : (low : Depth) (q : List Error) (ts : List ℕ) → table-item lo
 unfolding table-item
 item-step low q ts = refl
 
--- with a count that is as long as the list a loop looks: with none, the list is empty
-left : (T : List ℕ) (p fuel : ℕ) → length T ≤ p + fuel → length (drop p T) ≤ fuel
-left T p fuel h = rw length-drop (omega arith)
-
 -- behind an item
 abbrev pub items-go : Depth → ℕ → Forest → Tree → List Error → List ℕ → Res Forest
 items-go low n f item q r = then q (item-end q r) λ c q₃ s. ifb (eqb c 1) (λ _. ok (snoc f item) s) (λ _. table-items low n (snoc f item) q₃ s)
@@ -230,12 +162,14 @@ module _ (low : Depth) (n : ℕ) (g : Forest) (q : List Error) where
   items-after r = sym (look-then q r _ _ _ λ tok rest. then-if q _ _ _ _ ∙ if-same _ (λ u. zero-next rest) (λ u. then-if q _ _ _ _ ∙ if-same _ (λ u. one-next rest) (λ u. then-fail q _)))
 
 module _ (low : Depth) (f : Forest) (q : List Error) where
-  items-step : (fuel : ℕ) (ts : List ℕ) → length ts ≤ fuel → table-items low fuel f q ts ≡ then q (look q ts) (λ tok q₁ rest. ifb (eqb (tok .kind) Kind.CloseBrace) (λ _. ok f rest) λ _. then q (table-item low q ts) λ item q₂ r. then q₂ (look q₂ r) λ tok₂ q₃ rest₂.
-      ifb (eqb (tok₂ .kind) Kind.Comma) (λ _. table-items low (fuel - 1) (snoc f item) q₂ rest₂) λ _. ifb (eqb (tok₂ .kind) Kind.CloseBrace) (λ _. ok (snoc f item) rest₂) (λ _. fail Number.table-closing q₂ rest₂))
-  unfolding table-items look then
-  items-step zero [] h = refl
-  items-step zero (x ∷ ts) h = absurd (omega arith)
-  items-step (suc n) ts h = rw (sub-one (suc n))
+  abbrev items-on : List ℕ → ℕ → Token → List Error → List ℕ → Res Forest
+  items-on ts n tok q₁ rest =
+      ifb (eqb (tok .kind) Kind.CloseBrace) (λ _. ok f rest) λ _. then q (table-item low q ts) λ item q₂ r. then q₂ (look q₂ r) λ tok₂ q₃ rest₂.
+      ifb (eqb (tok₂ .kind) Kind.Comma) (λ _. table-items low n (snoc f item) q₂ rest₂) λ _. ifb (eqb (tok₂ .kind) Kind.CloseBrace) (λ _. ok (snoc f item) rest₂) (λ _. fail Number.table-closing q₂ rest₂)
+
+  items-step : (fuel : ℕ) (ts : List ℕ) → length ts ≤ fuel → table-items low fuel f q ts ≡ then q (look q ts) (items-on ts (fuel - 1))
+  unfolding table-items
+  items-step fuel ts h = counted q ts (λ n. table-items low n f q ts) (items-on ts) refl (λ n. refl) fuel h
 
   pub items-looks : (T : List ℕ) (fuel p : ℕ) → length T ≤ p + fuel → Looks q (drop p T) (table-items low fuel f q (drop p T))
   items-looks T fuel p enough = record { go = _; is = items-step fuel (drop p T) (left T p fuel enough) }
@@ -259,27 +193,27 @@ module _ (low : Depth) (n : ℕ) (g : Forest) (q : List Error) (ts : List ℕ) {
   unfolding ifb
   items-closed e = rw (eq-eqb _ _ e)
 
-  pub items-on : (c ≡ 1 → ⊥) → ifb (eqb c 1) (λ _. ok g ts) (λ _. table-items low n g q ts) ≡ table-items low n g q ts
+  pub items-again : (c ≡ 1 → ⊥) → ifb (eqb c 1) (λ _. ok g ts) (λ _. table-items low n g q ts) ≡ table-items low n g q ts
   unfolding ifb
-  items-on e = rw (ne-eqb _ _ e)
+  items-again e = rw (ne-eqb _ _ e)
 
 -- PATHS
 module _ (low : Depth) (q : List Error) (ts : List ℕ) {k : ℕ} where
-  pub access-member : k ≡ Kind.OpAccess → part low k q ts ≡ member-access q ts
+  pub part-member : k ≡ Kind.OpAccess → part low k q ts ≡ member-access q ts
   unfolding part ifb
-  access-member e = rw e
+  part-member e = rw e
 
-  pub access-index : k ≡ Kind.OpenSquare → part low k q ts ≡ then q (indexing-expr low q ts) (λ e q₁ r. ok (Node.index e) r)
+  pub part-index : k ≡ Kind.OpenSquare → part low k q ts ≡ then q (indexing-expr low q ts) (λ e q₁ r. ok (Node.index e) r)
   unfolding part ifb
-  access-index e = rw e
+  part-index e = rw e
 
-  pub access-call : k ≡ Kind.OpenParen → part low k q ts ≡ invocation low q ts
+  pub part-call : k ≡ Kind.OpenParen → part low k q ts ≡ invocation low q ts
   unfolding part ifb
-  access-call e = rw e
+  part-call e = rw e
 
-  pub access-table : (k ≡ Kind.OpAccess → ⊥) → (k ≡ Kind.OpenSquare → ⊥) → (k ≡ Kind.OpenParen → ⊥) → part low k q ts ≡ then q (table-literal low q ts) (λ items q₁ r. ok (Node.invoke-table items) r)
+  pub part-table : (k ≡ Kind.OpAccess → ⊥) → (k ≡ Kind.OpenSquare → ⊥) → (k ≡ Kind.OpenParen → ⊥) → part low k q ts ≡ then q (table-literal low q ts) (λ items q₁ r. ok (Node.invoke-table items) r)
   unfolding part ifb
-  access-table a b c = rw (ne-eqb _ _ a, ne-eqb _ _ b, ne-eqb _ _ c)
+  part-table a b c = rw (ne-eqb _ _ a, ne-eqb _ _ b, ne-eqb _ _ c)
 
 -- behind a token with the tests' answers a to r: member, index, calls, same line, call, table
 abbrev path-choice : Depth → (Tree → List Error → List ℕ → Res Forest) → Res Forest → List ℕ → List ℕ → Bool → Bool → Bool → Bool → Bool → Bool → Res Forest
@@ -290,8 +224,8 @@ path-choice low K z q rest a b c n p r =
     ifb (c && n && r) (λ _. then q (table-literal low q rest) λ items q₂ s. K (Node.invoke-table items) q₂ s) λ _.
     z
 
-abbrev access-choice : Depth → List ℕ → List ℕ → Bool → Bool → Bool → Res Tree
-access-choice low q ts a b p =
+abbrev part-choice : Depth → List ℕ → List ℕ → Bool → Bool → Bool → Res Tree
+part-choice low q ts a b p =
     ifb a (λ _. member-access q ts) λ _.
     ifb b (λ _. then q (indexing-expr low q ts) λ e q₁ r. ok (Node.index e) r) λ _.
     ifb p (λ _. invocation low q ts) λ _.
@@ -301,7 +235,7 @@ module _ (low : Depth) (K : Tree → List Error → List ℕ → Res Forest) (z 
   over : {A : Type 0} (d : Res A) (make : A → Tree) → then q d (λ e q₂ s. K (make e) q₂ s) ≡ then q (then q d (λ e q₁ r. ok (make e) r)) K
   over d make = sym (then-then q d _ K ∙ then-same q d λ e q₂ s. then-ok q₂ K)
 
-  choice-on : (a b c n p r : Bool) → (a || b || (c && n && (p || r))) ≡ true → path-choice low K z q rest a b c n p r ≡ then q (access-choice low q rest a b p) K
+  choice-on : (a b c n p r : Bool) → (a || b || (c && n && (p || r))) ≡ true → path-choice low K z q rest a b c n p r ≡ then q (part-choice low q rest a b p) K
   unfolding ifb
   choice-on true b c n p r e = refl
   choice-on false true c n p r e = over (indexing-expr low q rest) Node.index
@@ -326,10 +260,8 @@ module _ (low : Depth) (calls : Bool) (f : Forest) (q : List Error) where
   path-look fuel ts tok q₁ rest = path-choice low (λ i q₂ r. path low calls fuel (snoc f i) q₂ r) (ok f ts) q rest (eqb (tok .kind) Kind.OpAccess) (eqb (tok .kind) Kind.OpenSquare) calls (eqb (tok .newline) 0) (eqb (tok .kind) Kind.OpenParen) (eqb (tok .kind) Kind.OpenBrace)
 
   path-step : (fuel : ℕ) (ts : List ℕ) → length ts ≤ fuel → path low calls fuel f q ts ≡ then q (look q ts) (path-look (fuel - 1) ts)
-  unfolding path look then
-  path-step zero [] h = refl
-  path-step zero (x ∷ ts) h = absurd (omega arith)
-  path-step (suc n) ts h = rw (sub-one (suc n))
+  unfolding path
+  path-step fuel ts h = counted q ts (λ n. path low calls n f q ts) (λ n. path-look n ts) refl (λ n. refl) fuel h
 
   pub path-looks : (T : List ℕ) (fuel p : ℕ) → length T ≤ p + fuel → Looks q (drop p T) (path low calls fuel f q (drop p T))
   path-looks T fuel p enough = record { go = _; is = path-step fuel (drop p T) (left T p fuel enough) }

@@ -70,11 +70,6 @@ either-same q (bad a q₁ r) h i = ap (unclean q₁) (h a q₁ r)
 either-same q (fail e q₁ r) h i = ap (unclean q₁) (i e q₁ r)
 either-same q (stop n) h i = refl
 
-pub if-same : {A : Type 0} (b : Bool) {x y x′ y′ : Unit {0} → A} → ((u : Unit {0}) → x u ≡ x′ u) → ((u : Unit {0}) → y u ≡ y′ u) → ifb b x y ≡ ifb b x′ y′
-unfolding ifb
-if-same true h i = h tt
-if-same false h i = i tt
-
 -- a look adds no error
 pub data Plain {A : Type 0} : Res A → Type 0 where
   an-ok : {a : A} {r : List ℕ} → Plain (ok a r)

@@ -31,6 +31,7 @@ use Rattle.scan.specs.Post.{Writes}
 use Rattle.nodes.specs.Ends.{Shape, other, a-tuple, lone, unpacked, Marked, statement, no-statement, Carries}
 use Rattle.nodes.specs.Parts.{path-words}
 use Rattle.nodes.specs.Lists.{Ends, keeps, gives, held-words, Suite-stands, Held-stands, Closing, Closable, Unders}
+use Rattle.nodes.proofs.Made.{over-one, all-snoc, count-snoc}
 
 -- THE LAST RECORD of a text: its words, and the text before it
 record Last (S Y : List ℕ) (a w v : ℕ) : Type 0 where
@@ -70,11 +71,6 @@ kind-read S X a (node k v f) s text within = root-kind S X a k v f text within (
 -- a text goes on
 pub joins : (X Z W : List ℕ) {Y Y₀ : List ℕ} → Y ≡ Y₀ ++ W → Y₀ ≡ X ++ Z → Y ≡ X ++ (Z ++ W)
 joins X Z W e t = e ∙ ap (λ (y : List ℕ). y ++ W) t ∙ append-assoc X Z W
-
--- A NODE over one tree
-pub over-one : (k v : ℕ) (t : Tree) → records (node k v (one t)) ≡ records t ++ (k + 256 * 1) ∷ v ∷ []
-unfolding records count
-over-one k v t = rw append-nil
 
 -- A GROUP'S ACTION
 act-none : (m : ℕ) (t : Tree) → m ≡ 0 → with-action m t ≡ t
@@ -199,16 +195,6 @@ unfolding split snoc split-last split-kids split-before ifb
 split-result none v e = refl
 split-result (more t none) v e = refl
 split-result (more t (more u g)) v e = ap (split-before t) (split-result (more u g) v e)
-
-all-snoc : (f : Forest) (t : Tree) → all-records (snoc f t) ≡ all-records f ++ records t
-unfolding records snoc
-all-snoc none t = append-nil (records t)
-all-snoc (more u f) t = ap (λ (y : List ℕ). records u ++ y) (all-snoc f t) ∙ sym (append-assoc (records u) (all-records f) (records t))
-
-count-snoc : (f : Forest) (t : Tree) → count (snoc f t) ≡ suc (count f)
-unfolding count snoc
-count-snoc none t = refl
-count-snoc (more u f) t = ap suc (count-snoc f t)
 
 block-whole : (s : Stmts) → s .control ≡ Node.absent → split (s .suite) ≡ whole (s .suite) → records (block-of s) ≡ all-records (s .suite) ++ (1 + 256 * count (s .suite)) ∷ 0 ∷ 0 ∷ 0 ∷ 519 ∷ 0 ∷ 0 ∷ 0 ∷ 534 ∷ 0 ∷ []
 unfolding block-of ifb block-split records count

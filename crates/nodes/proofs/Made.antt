@@ -1,10 +1,10 @@
 -- What was written becomes a tree by a record behind it. Assumes nothing.
 use mathlib.Core.Path.{_≡_, refl, sym, _∙_}
-use mathlib.Core.List.{List, _++_, append-assoc, append-nil}
+use mathlib.Core.List.{List, [], _∷_, _++_, append-assoc, append-nil}
 use Prim.Native.Nat.{ℕ, _+_, _*_}
 use native.Mathlib.Omega.{arith}
 use lib.ListN.{length, take, drop}
-use Rattle.tree.specs.Tree.{Tree, Forest, node, none, more, one, two, count, snoc, records, all-records}
+use Rattle.tree.specs.Tree.{Tree, Forest, node, none, more, one, two, three, count, snoc, records, all-records}
 use Rattle.tree.specs.Store.{Emitted}
 use Rattle.grammar.specs.Reading.Result.{Res, Error}
 use Rattle.scan.specs.Post.{As, Moved, Room, Wrote, waiting-errors}
@@ -22,6 +22,19 @@ all-one t = append-nil (records t)
 pub all-two : (t u : Tree) → all-records (two t u) ≡ records t ++ records u
 unfolding records
 all-two t u = rw append-nil
+
+-- the words of a node over one, two and three trees
+pub over-one : (k v : ℕ) (t : Tree) → records (node k v (one t)) ≡ records t ++ (k + 256) ∷ v ∷ []
+unfolding records count
+over-one k v t = rw append-nil
+
+pub over-two : (k v : ℕ) (t u : Tree) → records (node k v (two t u)) ≡ records t ++ (records u ++ (k + 512) ∷ v ∷ [])
+unfolding records count
+over-two k v t u = rw (append-nil, append-assoc)
+
+pub over-three : (k v : ℕ) (t u s : Tree) → records (node k v (three t u s)) ≡ records t ++ (records u ++ (records s ++ (k + 768) ∷ v ∷ []))
+unfolding records count
+over-three k v t u s = rw (append-nil, append-assoc, append-assoc)
 
 pub all-snoc : (f : Forest) (t : Tree) → all-records (snoc f t) ≡ all-records f ++ records t
 unfolding records snoc

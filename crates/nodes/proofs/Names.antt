@@ -19,10 +19,10 @@ use Rattle.grammar.specs.Reading.Number
 use Rattle.grammar.specs.Reading.Result.{Res, ok, bad, fail, stop, then, ifb, Error}
 use Rattle.grammar.specs.Reading.Look.{look}
 use Rattle.grammar.specs.Reading.Function.{Param, required, variadic, default, Params, joined}
-use Rattle.scan.specs.Post.{UnreadAs, Unread, Got, Finds, WritesAs, Writes}
+use Rattle.scan.specs.Post.{Unread, Got, Finds, Writes}
 use Rattle.nodes.specs.Ends.{Added}
 use Rattle.nodes.specs.Parts.{Header, separator, join, signature-words}
-use Rattle.nodes.specs.Parameters.{HeadsAs, Heads, required-words, words-of, params-words, variadic-of, with-default, Fitting}
+use Rattle.nodes.specs.Parameters.{Heads, required-words, words-of, params-words, variadic-of, with-default, Fitting}
 use Rattle.scan.specs.declared.Step.{Step}
 use Rattle.scan.specs.declared.Step.the-variants.{Done, Fail, Stop}
 use Rattle.scan.specs.declared.Found.{Found}
@@ -35,17 +35,14 @@ use Rattle.scan.proofs.Looking.{through}
 use Rattle.nodes.proofs.Algebra.{look-plain, plain-not-bad}
 
 -- A READING e that is the reading d
-same-reading : {A : Type 0} {d e : List Error → Res A} {T : List ℕ} {pos₁ least₁ pos least w : ℕ} (r : Step) → ((q : List Error) → e q ≡ d q) → Unread d T pos₁ least₁ w r → pos ≤ pos₁ → least ≤ least₁ → UnreadAs e T pos least w r
-same-reading (Done p a v) i u h g = u .how
-same-reading (Fail failure) i u h g =
+same-unread : {A : Type 0} {d e : List Error → Res A} {T : List ℕ} {pos₁ least₁ pos least w : ℕ} {r : Step} → ((q : List Error) → e q ≡ d q) → Unread d T pos₁ least₁ w r → pos ≤ pos₁ → least ≤ least₁ → Unread e T pos least w r
+same-unread {r = Done p a v} i u h g = record { how = u .how }
+same-unread {r = Fail failure} i u h g =
     let l = u .how in
     let on = l .on in
     let far = l .far in
-    record { same = λ q. i q ∙ l .same q; waits = l .waits; on = omega arith; within = l .within; far = omega arith }
-same-reading (Stop n) i u h g = λ q. i q ∙ u .how q
-
-same-unread : {A : Type 0} {d e : List Error → Res A} {T : List ℕ} {pos₁ least₁ pos least w : ℕ} {r : Step} → ((q : List Error) → e q ≡ d q) → Unread d T pos₁ least₁ w r → pos ≤ pos₁ → least ≤ least₁ → Unread e T pos least w r
-same-unread {r = r} i u h g = record { how = same-reading r i u h g }
+    record { how = record { same = λ q. i q ∙ l .same q; waits = l .waits; on = omega arith; within = l .within; far = omega arith } }
+same-unread {r = Stop n} i u h g = record { how = λ q. i q ∙ u .how q }
 
 -- A READING e that begins with the reading d, and fails as it does
 pub record Begins {A B : Type 0} (e : List Error → Res B) (d : List Error → Res A) : Type 0 where
@@ -56,41 +53,29 @@ pub onward : {A B : Type 0} {d : List Error → Res A} {e : List Error → Res B
 onward b u h g = same-unread (λ q. refl) (through (b .go) (b .is) u) h g
 
 -- the same where the answer was of a kind that holds it
-onward-found : {A B : Type 0} {number : A → ℕ} {number′ : B → ℕ} {d : List Error → Res A} {e : List Error → Res B} {T : List ℕ} {pos least far bound least′ far′ bound′ w : ℕ} (f : Found) → OneOf (1 ∷ []) (tagOf the-type f) → Begins e d → Finds number d T pos least far bound w f → far′ ≤ far → Finds number′ e T pos least′ far′ bound′ w f
-onward-found (At p v) o b h g = absurd (omega arith)
-onward-found (Nor r) o b h g = record { how = onward b (h .how) (omega arith) g }
-
 pub lacks-too : {A B : Type 0} {number : A → ℕ} {number′ : B → ℕ} {d : List Error → Res A} {e : List Error → Res B} {T : List ℕ} {pos least far bound least′ far′ bound′ w : ℕ} {f : Found} → OneOf (1 ∷ []) (tagOf the-type f) → Begins e d → Finds number d T pos least far bound w f → far′ ≤ far → Finds number′ e T pos least′ far′ bound′ w f
-lacks-too {f = f} o b h g = onward-found f o b h g
+lacks-too {f = At p v} o b h g = absurd (omega arith)
+lacks-too {f = Nor r} o b h g = record { how = onward b (h .how) (omega arith) g }
 
 -- what is not read is not written
-unwrote-as : {A : Type 0} {words : A → List ℕ} {d : List Error → Res A} {T : List ℕ} {pos least most at w : ℕ} {X S : List ℕ} (r : Step) → Unread d T pos least w r → Writes words d T pos least most at w X S S r
-unwrote-as (Done p a v) u = absurd (u .how)
-unwrote-as (Fail failure) u = record { how = record { unread = u; text = refl } }
-unwrote-as (Stop n) u = record { how = record { unread = u; text = refl } }
-
 pub unwrote : {A : Type 0} {words : A → List ℕ} {d : List Error → Res A} {T : List ℕ} {pos least most at w : ℕ} {X S : List ℕ} {r : Step} → Unread d T pos least w r → Writes words d T pos least most at w X S S r
-unwrote {r = r} u = unwrote-as r u
+unwrote {r = Done p a v} u = absurd (u .how)
+unwrote {r = Fail failure} u = record { how = record { unread = u; text = refl } }
+unwrote {r = Stop n} u = record { how = record { unread = u; text = refl } }
 
 abbrev same-got : {A : Type 0} {d e : List Error → Res A} {T : List ℕ} {least₁ least p : ℕ} → ((q : List Error) → e q ≡ d q) → Got d T least₁ p → least ≤ least₁ → Got e T least p
 same-got i g h = let on = g .on in record { what = g .what; same = λ q. i q ∙ g .same q; on = omega arith; within = g .within }
 
-writes-as : {A : Type 0} {words : A → List ℕ} {d e : List Error → Res A} {T : List ℕ} {pos least₁ least most at w : ℕ} {X S S′ : List ℕ} (r : Step) → ((q : List Error) → e q ≡ d q) → Writes words d T pos least₁ most at w X S S′ r → least ≤ least₁ → WritesAs words e T pos least most at w X S S′ r
-writes-as (Done p a v) i u h = let s = u .how in record { got = same-got i (s .got) h; waits = s .waits; far = s .far; text = s .text }
-writes-as (Fail failure) i u h = let s = u .how in record { unread = same-unread i (s .unread) (omega arith) h; text = s .text }
-writes-as (Stop n) i u h = let s = u .how in record { unread = same-unread i (s .unread) (omega arith) h; text = s .text }
-
 pub same-writes : {A : Type 0} {words : A → List ℕ} {d e : List Error → Res A} {T : List ℕ} {pos least₁ least most at w : ℕ} {X S S′ : List ℕ} {r : Step} → ((q : List Error) → e q ≡ d q) → Writes words d T pos least₁ most at w X S S′ r → least ≤ least₁ → Writes words e T pos least most at w X S S′ r
-same-writes {r = r} i u h = record { how = writes-as r i u h }
-
-heads-as : {T : List ℕ} {pos₁ least₁ pos least w : ℕ} {d e : List Error → Res Header} (r : Head) → ((q : List Error) → e q ≡ d q) → Heads d T pos₁ least₁ w r → pos ≤ pos₁ → least ≤ least₁ → HeadsAs e T pos least w r
-heads-as (HRequired p v) i u h g = let s = u .how in record { got = same-got i (s .got) g; is = s .is; below = s .below }
-heads-as (HVariadic p v) i u h g = let s = u .how in record { got = same-got i (s .got) g; is = s .is; below = s .below }
-heads-as (HDefault p v) i u h g = let s = u .how in record { got = same-got i (s .got) g; is = s .is; below = s .below }
-heads-as (HNot r) i u h g = same-unread i (u .how) h h
+same-writes {r = Done p a v} i u h = let s = u .how in record { how = record { got = same-got i (s .got) h; waits = s .waits; far = s .far; text = s .text } }
+same-writes {r = Fail failure} i u h = let s = u .how in record { how = record { unread = same-unread i (s .unread) (omega arith) h; text = s .text } }
+same-writes {r = Stop n} i u h = let s = u .how in record { how = record { unread = same-unread i (s .unread) (omega arith) h; text = s .text } }
 
 pub same-heads : {T : List ℕ} {pos₁ least₁ pos least w : ℕ} {d e : List Error → Res Header} {r : Head} → ((q : List Error) → e q ≡ d q) → Heads d T pos₁ least₁ w r → pos ≤ pos₁ → least ≤ least₁ → Heads e T pos least w r
-same-heads {r = r} i u h g = record { how = heads-as r i u h g }
+same-heads {r = HRequired p v} i u h g = let s = u .how in record { how = record { got = same-got i (s .got) g; is = s .is; below = s .below } }
+same-heads {r = HVariadic p v} i u h g = let s = u .how in record { how = record { got = same-got i (s .got) g; is = s .is; below = s .below } }
+same-heads {r = HDefault p v} i u h g = let s = u .how in record { how = record { got = same-got i (s .got) g; is = s .is; below = s .below } }
+same-heads {r = HNot r} i u h g = record { how = same-unread i (u .how) h h }
 
 -- THE RECORD of a node without children
 pub leaf : (k : ℕ) {at v v′ word r : ℕ} {S S′ : List ℕ} → Emitted at word v r S S′ → v′ ≡ v → word ≡ k → take r S′ ≡ take at S ++ records (node k v′ none)
@@ -239,15 +224,12 @@ join-stops : (ps : Params) (p : Param) (q : List Error) (ts : List ℕ) {n : ℕ
 unfolding join then
 join-stops ps p q ts l = rw l
 
-unjoined-as : {T : List ℕ} {pos w : ℕ} (ps : Params) (p : Param) (r : Step) → Unread (λ q. separator q (drop pos T)) T pos pos w r → UnreadAs (λ q. join ps p q (drop pos T)) T pos pos w r
-unjoined-as ps p (Done p′ a v) u = u .how
-unjoined-as ps p (Fail failure) u =
-    let l = u .how in
-    record { same = λ q. join-lacks ps p q _ (neither q _ (l .same q)); waits = l .waits; on = l .on; within = l .within; far = l .far }
-unjoined-as ps p (Stop n) u = λ q. join-stops ps p q _ (look-stopped q _ (u .how q))
-
 pub unjoined : {T : List ℕ} {pos w : ℕ} {r : Step} (ps : Params) (p : Param) → Unread (λ q. separator q (drop pos T)) T pos pos w r → Unread (λ q. join ps p q (drop pos T)) T pos pos w r
-unjoined {r = r} ps p u = record { how = unjoined-as ps p r u }
+unjoined {r = Done p′ a v} ps p u = record { how = u .how }
+unjoined {r = Fail failure} ps p u =
+    let l = u .how in
+    record { how = record { same = λ q. join-lacks ps p q _ (neither q _ (l .same q)); waits = l .waits; on = l .on; within = l .within; far = l .far } }
+unjoined {r = Stop n} ps p u = record { how = λ q. join-stops ps p q _ (look-stopped q _ (u .how q)) }
 
 -- a parameter that is
 abbrev pub with-required : Params → ℕ → Params

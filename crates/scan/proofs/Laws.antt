@@ -7,12 +7,12 @@ use native.Mathlib.Omega.{arith}
 use types.Run.{OneOf}
 use denote.Enum.Declared.{tagOf}
 use lib.ListN.{length, take, drop}
-use lib.Seq.{length-take-le, take-take, take-append-le}
+use lib.Seq.{take-take}
 use Rattle.token.specs.declared.Token.{Token}
 use Rattle.grammar.specs.Reading.Limit.{queue-limit}
 use Rattle.grammar.specs.Reading.Result.{Res, ok, bad, fail, stop, unclean, either, then, Error}
 use Rattle.grammar.specs.Reading.Look.{look}
-use Rattle.scan.specs.Post.{Out, won, lost, halt, out, As, clean, Moved, Room, Lost, FailedAs, Failed, Wrote, AgreesAs, Agrees, Unread, Taken, Missed, Saw, Got, Passed, Reads, Number-at, Finds, waiting-errors}
+use Rattle.scan.specs.Post.{Out, won, lost, halt, out, As, clean, Moved, Room, Lost, FailedAs, Failed, Wrote, Agrees, Unread, Taken, Missed, Saw, Got, Passed, Reads, Number-at, Finds, waiting-errors}
 use Rattle.scan.specs.declared.Failure.{Failure}
 use Rattle.scan.specs.declared.Step.{Step}
 use Rattle.scan.specs.declared.Step.the-variants.{Done, Fail, Stop}
@@ -21,6 +21,7 @@ use Rattle.scan.specs.declared.Seen.the-variants.{Token as Took, Not}
 use Rattle.scan.specs.declared.Found.{Found}
 use Rattle.scan.specs.declared.Found.the-variants.{At, Not as Nor}
 use Rattle.scan.proofs.Step.{the-type}
+use Rattle.scan.proofs.Text.{prefix-of}
 
 -- seen as
 pub way : {A : Type 0} {d d′ : Res A} (q : List Error) → d ≡ d′ → As q d q d′
@@ -130,49 +131,34 @@ module _ {A : Type 0} {words : A → List ℕ} {d : Res A} {T : List ℕ} {pos l
   pub missed : {f : Failure} {r : Step} → r ≡ Fail f → Agrees words d T pos least slack at w₀ S Q S′ Q′ r → Lost d T pos least at w₀ S Q f S′ Q′
   missed q h = (rw q at (h .how)) .how
 
-  not-done : (r : Step) → OneOf (1 ∷ 2 ∷ []) (tagOf the-type r) → Agrees words d T pos least slack at w₀ S Q S′ Q′ r → Failed d T pos least at w₀ S Q S′ Q′ r
-  not-done (Done p a w) o h = absurd (⊎-elim (λ e. omega arith) (λ e. omega arith) o)
-  not-done (Fail failure) o h = h .how
-  not-done (Stop n) o h = h .how
-
   pub undone : {r : Step} → OneOf (1 ∷ 2 ∷ []) (tagOf the-type r) → Agrees words d T pos least slack at w₀ S Q S′ Q′ r → Failed d T pos least at w₀ S Q S′ Q′ r
-  undone {r = r} o h = not-done r o h
-
-  is-stop : (r : Step) → OneOf (2 ∷ []) (tagOf the-type r) → Agrees words d T pos least slack at w₀ S Q S′ Q′ r → Failed d T pos least at w₀ S Q S′ Q′ r
-  is-stop (Done p a w) o h = absurd (omega arith)
-  is-stop (Fail failure) o h = absurd (omega arith)
-  is-stop (Stop n) o h = h .how
+  undone {r = Done p a w} o h = absurd (⊎-elim (λ e. omega arith) (λ e. omega arith) o)
+  undone {r = Fail failure} o h = h .how
+  undone {r = Stop n} o h = h .how
 
   pub stopped : {r : Step} → OneOf (2 ∷ []) (tagOf the-type r) → Agrees words d T pos least slack at w₀ S Q S′ Q′ r → Failed d T pos least at w₀ S Q S′ Q′ r
-  stopped {r = r} o h = is-stop r o h
+  stopped {r = Done p a w} o h = absurd (omega arith)
+  stopped {r = Fail failure} o h = absurd (omega arith)
+  stopped {r = Stop n} o h = h .how
 
   -- to what a function answers
   pub did-not : {r : Step} → Failed d T pos least at w₀ S Q S′ Q′ r → Agrees words d T pos least slack at w₀ S Q S′ Q′ r
-  did-not {r = r} h = record { how = to r h }
-    where
-      to : (r : Step) → Failed d T pos least at w₀ S Q S′ Q′ r → AgreesAs words d T pos least slack at w₀ S Q S′ Q′ r
-      to (Done p a w) f = absurd (f .how)
-      to (Fail failure) f = f
-      to (Stop n) f = f
+  did-not {r = Done p a w} f = absurd (f .how)
+  did-not {r = Fail failure} f = record { how = f }
+  did-not {r = Stop n} f = record { how = f }
 
 module _ {A B : Type 0} {words : A → List ℕ} {D : Res B} {d : Res A} {T : List ℕ} {pos least at w₀ : ℕ} {S Q : List ℕ} {pos₁ least₁ slack₁ at₁ w₁ : ℕ} {S₁ Q₁ S′ Q′ : List ℕ} (go : A → List Error → List ℕ → Res B) (or : ℕ → List Error → List ℕ → Res B) where
-  stops-as : As (waiting-errors w₀ Q) D (waiting-errors w₁ Q₁) (either (waiting-errors w₁ Q₁) d go or) → (r : Step) → OneOf (2 ∷ []) (tagOf the-type r) → Agrees words d T pos₁ least₁ slack₁ at₁ w₁ S₁ Q₁ S′ Q′ r → Failed D T pos least at w₀ S Q S′ Q′ r
-  stops-as a (Done p b w) o h = absurd (omega arith)
-  stops-as a (Fail failure) o h = absurd (omega arith)
-  stops-as a (Stop n) o h = record { how = halts go or a (h .how .how) }
-
   -- D goes on from d, by `go` or `or`, and d stopped
   pub stops : {r : Step} → As (waiting-errors w₀ Q) D (waiting-errors w₁ Q₁) (either (waiting-errors w₁ Q₁) d go or) → OneOf (2 ∷ []) (tagOf the-type r) → Agrees words d T pos₁ least₁ slack₁ at₁ w₁ S₁ Q₁ S′ Q′ r → Failed D T pos least at w₀ S Q S′ Q′ r
-  stops {r = r} a o h = stops-as a r o h
+  stops {r = Done p b w} a o h = absurd (omega arith)
+  stops {r = Fail failure} a o h = absurd (omega arith)
+  stops {r = Stop n} a o h = record { how = halts go or a (h .how .how) }
 
 -- what has no store fails with any
-elsewhere-as : {A : Type 0} {d : Res A} {T : List ℕ} {pos least at w₀ : ℕ} {Q Q′ : List ℕ} (S : List ℕ) (r : Step) → Failed d T pos least at w₀ [] Q [] Q′ r → Failed d T pos least at w₀ S Q S Q′ r
-elsewhere-as S (Done p a w) f = record { how = f .how }
-elsewhere-as S (Fail failure) f = record { how = record { same = f .how .same; moved = f .how .moved; far = f .how .far; text = refl } }
-elsewhere-as S (Stop n) f = record { how = f .how }
-
 pub elsewhere : {A : Type 0} {d : Res A} {T : List ℕ} {pos least at w₀ : ℕ} {Q Q′ : List ℕ} {r : Step} (S : List ℕ) → Failed d T pos least at w₀ [] Q [] Q′ r → Failed d T pos least at w₀ S Q S Q′ r
-elsewhere {r = r} S f = elsewhere-as S r f
+elsewhere {r = Done p a w} S f = record { how = f .how }
+elsewhere {r = Fail failure} S f = record { how = record { same = f .how .same; moved = f .how .moved; far = f .how .far; text = refl } }
+elsewhere {r = Stop n} S f = record { how = f .how }
 
 -- TOKENS
 pub taken : {T : List ℕ} {pos w k n v : ℕ} {s : Seen} → s ≡ Took k n v → Saw T pos w s → Taken T pos k n v
@@ -192,17 +178,15 @@ pub shorter : (S S₁ : List ℕ) (at at₁ : ℕ) → at ≤ at₁ → take at�
 shorter S S₁ at at₁ h e = sym (take-take at at₁ S h) ∙ ap (take at) e ∙ take-take at at₁ S₁ h
 
 module _ {B : Type 0} {D : Res B} {T : List ℕ} {pos least at w₀ : ℕ} {S Q : List ℕ} {pos₁ least₁ at₁ w₁ : ℕ} {S₁ Q₁ S′ Q′ : List ℕ} where
-  onto-as : {d : Res B} → As (waiting-errors w₀ Q) D (waiting-errors w₁ Q₁) d → take at S₁ ≡ take at S → Later pos least at w₀ pos₁ least₁ at₁ w₁ → (r : Step) → Failed d T pos₁ least₁ at₁ w₁ S₁ Q₁ S′ Q′ r → Failed D T pos least at w₀ S Q S′ Q′ r
-  onto-as a x l (Done p b w) f = record { how = f .how }
-  onto-as a x l (Fail failure) f =
+  -- D is at last d, which failed
+  pub onto : {d : Res B} {r : Step} → As (waiting-errors w₀ Q) D (waiting-errors w₁ Q₁) d → Failed d T pos₁ least₁ at₁ w₁ S₁ Q₁ S′ Q′ r → take at S₁ ≡ take at S → Later pos least at w₀ pos₁ least₁ at₁ w₁ → Failed D T pos least at w₀ S Q S′ Q′ r
+  onto {r = Done p b w} a f x l = record { how = f .how }
+  onto {r = Fail failure} a f x l =
       let g = f .how in
       let m = g .moved in
       let h = g .far in
       record { how = record { same = link a (g .same); moved = omega arith; far = omega arith; text = shorter S′ S₁ at at₁ (l .at-le) (g .text) ∙ x } }
-  onto-as a x l (Stop n) f = record { how = link a (f .how) }
-
-  pub onto : {d : Res B} {r : Step} → As (waiting-errors w₀ Q) D (waiting-errors w₁ Q₁) d → Failed d T pos₁ least₁ at₁ w₁ S₁ Q₁ S′ Q′ r → take at S₁ ≡ take at S → Later pos least at w₀ pos₁ least₁ at₁ w₁ → Failed D T pos least at w₀ S Q S′ Q′ r
-  onto {r = r} a f x l = onto-as a x l r f
+  onto {r = Stop n} a f x l = record { how = link a (f .how) }
 
 then-failed : {A B : Type 0} {d : Res A} (k : A → List Error → List ℕ → Res B) {T : List ℕ} {pos least at w₀ : ℕ} {S Q S′ Q′ : List ℕ} (r : Step) → Failed d T pos least at w₀ S Q S′ Q′ r → FailedAs (then (waiting-errors w₀ Q) d k) T pos least at w₀ S Q S′ Q′ r
 then-failed k (Done p a w) h = h .how
@@ -252,31 +236,26 @@ pub lacking : {B : Type 0} {D : Res B} {d : List Error → Res B} {T : List ℕ}
     → Beyond pos least w₀ p least₁ w (length Q′) → Failed D T pos least at w₀ S Q S′ Q′ r
 lacking {at = at} {r = r} u a x b = onto a (unread-failed {at = at} (b .few) (b .whole) r u) x (omega arith)
 
-unseen-as : {T : List ℕ} {p w : ℕ} (r : Step) → Saw T p w (Not r) → Unread (λ q. look q (drop p T)) T p (p + 2) w r
-unseen-as (Done p′ a w′) s = record { how = s .how }
-unseen-as (Fail failure) s = record { how = s .how .lacks }
-unseen-as (Stop n) s = record { how = s .how }
-
 -- no token was taken
 pub not-seen : {T : List ℕ} {p w : ℕ} {r : Step} → Saw T p w (Not r) → Unread (λ q. look q (drop p T)) T p (p + 2) w r
-not-seen {r = r} s = unseen-as r s
+not-seen {r = Done p′ a w′} s = record { how = s .how }
+not-seen {r = Fail failure} s = record { how = s .how .lacks }
+not-seen {r = Stop n} s = record { how = s .how }
 
-pub blind : {B : Type 0} {D d : Res B} {T : List ℕ} {pos least at w₀ : ℕ} {S Q : List ℕ} {p w : ℕ} {S′ Q′ : List ℕ} {r : Step} → As (waiting-errors w₀ Q) D (waiting-errors w Q′) d → Looks (waiting-errors w Q′) (drop p T) d → Saw T p w (Not r) → take at S′ ≡ take at S
+-- D is at last d, which looks first, and no token was seen
+pub fails-unseen : {B : Type 0} {D d : Res B} {T : List ℕ} {pos least at w₀ : ℕ} {S Q : List ℕ} {p w : ℕ} {S′ Q′ : List ℕ} {r : Step} → As (waiting-errors w₀ Q) D (waiting-errors w Q′) d → Looks (waiting-errors w Q′) (drop p T) d → Saw T p w (Not r) → take at S′ ≡ take at S
     → Beyond pos least w₀ p (p + 2) w (length Q′) → Failed D T pos least at w₀ S Q S′ Q′ r
-blind {at = at} {r = r} a l f x b = lacks (l .go) (not-seen f) (link a (way _ (l .is))) x b
+fails-unseen {at = at} {r = r} a l f x b = lacks (l .go) (not-seen f) (link a (way _ (l .is))) x b
 
 -- what a function that reads tokens only answers
 module _ {A : Type 0} {d : List Error → Res A} {T : List ℕ} {pos least at w₀ : ℕ} where
   pub passed : {p a w : ℕ} {r : Step} → r ≡ Done p a w → Reads d T pos least at w₀ r → Passed d T least at w₀ p a w
   passed e h = rw e at (h .how)
 
-  not-passed : (r : Step) → OneOf (1 ∷ 2 ∷ []) (tagOf the-type r) → Reads d T pos least at w₀ r → Unread d T pos least w₀ r
-  not-passed (Done p a w) o h = absurd (⊎-elim (λ e. omega arith) (λ e. omega arith) o)
-  not-passed (Fail failure) o h = h .how
-  not-passed (Stop n) o h = h .how
-
   pub unpassed : {r : Step} → OneOf (1 ∷ 2 ∷ []) (tagOf the-type r) → Reads d T pos least at w₀ r → Unread d T pos least w₀ r
-  unpassed {r = r} o h = not-passed r o h
+  unpassed {r = Done p a w} o h = absurd (⊎-elim (λ e. omega arith) (λ e. omega arith) o)
+  unpassed {r = Fail failure} o h = h .how
+  unpassed {r = Stop n} o h = h .how
 
 module _ {A : Type 0} {number : A → ℕ} {d : List Error → Res A} {T : List ℕ} {pos least far bound w₀ : ℕ} {s : Found} where
   pub found : {p v : ℕ} → s ≡ At p v → Finds number d T pos least far bound w₀ s → Number-at number d T least bound p v
@@ -289,16 +268,12 @@ module _ {A : Type 0} {number : A → ℕ} {d : List Error → Res A} {T : List 
 pub gets : {A B : Type 0} {D : Res B} {d : List Error → Res A} {T : List ℕ} {least p : ℕ} {q q₁ : List Error} (k : A → List Error → List ℕ → Res B) (g : Got d T least p) → As q D q₁ (then q₁ (d q₁) k) → As q D q₁ (k (g .what) q₁ (drop p T))
 gets k g a = goes k a (way _ (g .same _))
 
--- a look that stopped, where an error is no end
-stop-only : {B : Type 0} {D d : Res B} {T : List ℕ} {pos least at w₀ : ℕ} {S Q : List ℕ} {p w : ℕ} {S′ Q′ : List ℕ} → As (waiting-errors w₀ Q) D (waiting-errors w Q′) d → ((n : ℕ) → ((q : List Error) → look q (drop p T) ≡ stop n) → d ≡ stop n)
-    → (r : Step) → OneOf (0 ∷ 2 ∷ []) (tagOf the-type r) → Saw T p w (Not r) → Failed D T pos least at w₀ S Q S′ Q′ r
-stop-only a h (Done p′ b w′) o s = record { how = s .how }
-stop-only a h (Fail failure) o s = absurd (⊎-elim (λ e. omega arith) (λ e. omega arith) o)
-stop-only a h (Stop n) o s = record { how = link a (record { is = ap (out _) (h n (s .how)) }) }
-
-pub blinded : {B : Type 0} {D d : Res B} {T : List ℕ} {pos least at w₀ : ℕ} {S Q : List ℕ} {p w : ℕ} {S′ Q′ : List ℕ} {r : Step} → OneOf (0 ∷ 2 ∷ []) (tagOf the-type r) → Saw T p w (Not r) → As (waiting-errors w₀ Q) D (waiting-errors w Q′) d → ((n : ℕ) → ((q : List Error) → look q (drop p T) ≡ stop n) → d ≡ stop n)
+-- D is at last d, and stops where no token was seen: where an error is no end of d, that is what a look that did not fail did
+pub stops-unseen : {B : Type 0} {D d : Res B} {T : List ℕ} {pos least at w₀ : ℕ} {S Q : List ℕ} {p w : ℕ} {S′ Q′ : List ℕ} {r : Step} → OneOf (0 ∷ 2 ∷ []) (tagOf the-type r) → Saw T p w (Not r) → As (waiting-errors w₀ Q) D (waiting-errors w Q′) d → ((n : ℕ) → ((q : List Error) → look q (drop p T) ≡ stop n) → d ≡ stop n)
     → Failed D T pos least at w₀ S Q S′ Q′ r
-blinded {r = r} o s a h = stop-only a h r o s
+stops-unseen {r = Done p′ b w′} o s a h = record { how = s .how }
+stops-unseen {r = Fail failure} o s a h = absurd (⊎-elim (λ e. omega arith) (λ e. omega arith) o)
+stops-unseen {r = Stop n} o s a h = record { how = link a (record { is = ap (out _) (h n (s .how)) }) }
 
 pub unseen : {T : List ℕ} {p w : ℕ} {f : Failure} {r : Step} → r ≡ Fail f → Saw T p w (Not r) → Missed T p w f
 unseen e s = (rw e at s) .how
@@ -312,15 +287,9 @@ pub anew : {A : Type 0} {words : A → List ℕ} {d : Res A} {T : List ℕ} {pos
 anew e h = rw e h
 
 -- a reader leaves what stands before «at» as it was
-prefix-of : (S S′ X : List ℕ) (at a : ℕ) → take a S′ ≡ take at S ++ X → at ≤ a → at ≤ length S → take at S′ ≡ take at S
-prefix-of S S′ X at a e up h =
-    let n : length (take at S) ≡ at = length-take-le at S h in
-    let le′ : at ≤ length (take at S) = omega arith in
-    sym (take-take at a S′ up) ∙ ap (take at) e ∙ take-append-le at (take at S) X le′ ∙ take-take at at S (omega arith)
-
 module _ {A C : Type 0} {words : A → List ℕ} {d : Res C} {k : A → List Error → List ℕ → Res C} {T : List ℕ} {pos least slack at w₀ : ℕ} {S Q : List ℕ} {p a w : ℕ} {S′ Q′ : List ℕ} (g : Wrote words d k T pos least slack at w₀ S Q p a w S′ Q′) where
   pub prefix : at ≤ length S → take at S′ ≡ take at S
-  prefix h = prefix-of S S′ (words (g .what)) at a (g .text) (g .room .up) h
+  prefix h = prefix-of S S′ (words (g .what)) at a (g .text) h
 
   pub rebased : at ≤ length S → take a S′ ≡ take at S′ ++ words (g .what)
   rebased h = rw (prefix h) (g .text)
@@ -339,16 +308,13 @@ module _ {B : Type 0} {D D₁ : Res B} {T : List ℕ} {pos at w₀ : ℕ} {S Q :
 
 -- a last call that starts further on
 pub later : {A : Type 0} {words : A → List ℕ} {D d : Res A} {T : List ℕ} {pos least slack pos′ least′ slack′ at w₀ : ℕ} {S Q S′ Q′ : List ℕ} {r : Step} → D ≡ d → Agrees words d T pos′ least′ slack′ at w₀ S Q S′ Q′ r → pos ≤ pos′ → least ≤ least′ → 8 * pos + slack ≤ 8 * pos′ + slack′ → Agrees words D T pos least slack at w₀ S Q S′ Q′ r
-later {words = words} {D = D} {d = d} {T = T} {pos = pos} {least = least} {slack = slack} {pos′ = pos′} {least′ = least′} {slack′ = slack′} {at = at} {w₀ = w₀} {S = S} {Q = Q} {S′ = S′} {Q′ = Q′} {r = r} e g h i j = record { how = to r g }
-  where
-    to : (r : Step) → Agrees words d T pos′ least′ slack′ at w₀ S Q S′ Q′ r → AgreesAs words D T pos least slack at w₀ S Q S′ Q′ r
-    to (Done p a w) f =
-        let u = f .how in
-        let m = u .moved in
-        let o = u .room in
-        record { what = u .what; same = link (way _ e) (u .same); moved = omega arith; room = omega arith; text = u .text }
-    to (Fail failure) f = onto (way _ e) (f .how) refl (omega arith)
-    to (Stop n) f = record { how = link (way _ e) (f .how .how) }
+later {r = Done p a w} e f h i j =
+    let u = f .how in
+    let m = u .moved in
+    let o = u .room in
+    record { how = record { what = u .what; same = link (way _ e) (u .same); moved = omega arith; room = omega arith; text = u .text } }
+later {r = Fail failure} e f h i j = record { how = onto (way _ e) (f .how) refl (omega arith) }
+later {r = Stop n} e f h i j = record { how = record { how = link (way _ e) (f .how .how) } }
 
 pub halted-as : {A : Type 0} {words : A → List ℕ} {d : Res A} {T : List ℕ} {pos least slack at w₀ n : ℕ} {S Q S′ Q′ : List ℕ} {r : Step} → r ≡ Stop n → Agrees words d T pos least slack at w₀ S Q S′ Q′ r → As (waiting-errors w₀ Q) d [] (stop n)
 halted-as e h = (rw e at (h .how)) .how
@@ -372,17 +338,14 @@ pub record Onward (pos least slack at w₀ pos₁ least₁ slack₁ at₁ w₁ :
   pub w-le : w₀ ≤ w₁
   pub slack-le : at₁ + 8 * pos + slack ≤ at + 8 * pos₁ + slack₁
 
--- a last call whose words stand behind those that g wrote: together they are those of mk x
-module _ {A B C E : Type 0} {words₁ : C → List ℕ} {words₂ : A → List ℕ} {words : B → List ℕ} {d : Res E} {k : C → List Error → List ℕ → Res E} {D : Res B} {d₂ : Res A} {T : List ℕ} {pos′ least′ slack′ at w₀ : ℕ} {S Q : List ℕ} {p a w : ℕ} {S′ Q′ : List ℕ}
-    {pos least slack pos₁ least₁ slack₁ : ℕ} {S₂ Q₂ : List ℕ} (g : Wrote words₁ d k T pos′ least′ slack′ at w₀ S Q p a w S′ Q′) (h : at ≤ length S) (mk : A → B) (text : (x : A) → words (mk x) ≡ words₁ (g .what) ++ words₂ x) where
-  continued-as : As (waiting-errors w₀ Q) D (waiting-errors w Q′) (then (waiting-errors w Q′) d₂ (λ x q r. ok (mk x) r)) → Onward pos least slack at w₀ pos₁ least₁ slack₁ a w → (r : Step) → Agrees words₂ d₂ T pos₁ least₁ slack₁ a w S′ Q′ S₂ Q₂ r → Agrees words D T pos least slack at w₀ S Q S₂ Q₂ r
-  continued-as s o (Done p₁ a₁ w₁) f =
-      let u = f .how in
-      let m = u .moved in
-      let n = u .room in
-      record { how = record { what = mk (u .what); same = goes _ s (u .same); moved = omega arith; room = omega arith; text = u .text ∙ rw (g .text, text, append-assoc) } }
-  continued-as s o (Fail failure) f = record { how = fails _ s (f .how) (prefix g h) (omega arith) }
-  continued-as s o (Stop n) f = record { how = fails _ s (f .how) (prefix g h) (omega arith) }
-
-  pub continued : {r : Step} → As (waiting-errors w₀ Q) D (waiting-errors w Q′) (then (waiting-errors w Q′) d₂ (λ x q r. ok (mk x) r)) → Agrees words₂ d₂ T pos₁ least₁ slack₁ a w S′ Q′ S₂ Q₂ r → Onward pos least slack at w₀ pos₁ least₁ slack₁ a w → Agrees words D T pos least slack at w₀ S Q S₂ Q₂ r
-  continued {r = r} s f o = continued-as s o r f
+-- of what a last call reads, d, D makes something else, whose words are those behind Y
+pub continued : {A B : Type 0} {words : A → List ℕ} {words₁ : B → List ℕ} {D : Res A} {d : Res B} {T : List ℕ} {pos least slack at w₀ : ℕ} {S Q : List ℕ} {pos₁ least₁ slack₁ at₁ w₁ : ℕ} {S₁ Q₁ S′ Q′ : List ℕ} {r : Step} (make : B → A) (Y : List ℕ)
+    → Agrees words₁ d T pos₁ least₁ slack₁ at₁ w₁ S₁ Q₁ S′ Q′ r → As (waiting-errors w₀ Q) D (waiting-errors w₁ Q₁) (then (waiting-errors w₁ Q₁) d (λ x q r. ok (make x) r)) → take at₁ S₁ ≡ take at S ++ Y → ((x : B) → words (make x) ≡ Y ++ words₁ x) → take at S₁ ≡ take at S
+    → Onward pos least slack at w₀ pos₁ least₁ slack₁ at₁ w₁ → Agrees words D T pos least slack at w₀ S Q S′ Q′ r
+continued {at = at} {S = S} {r = Done p b v} make Y h a y is x n =
+    let g = h .how in
+    let m = g .moved in
+    let o = g .room in
+    record { how = record { what = make (g .what); same = goes _ a (g .same); moved = omega arith; room = omega arith; text = g .text ∙ rw (y, is, append-assoc) } }
+continued {r = Fail failure} make Y h a y is x n = record { how = fails _ a (h .how) x (omega arith) }
+continued {r = Stop e} make Y h a y is x n = record { how = fails _ a (h .how) x (omega arith) }

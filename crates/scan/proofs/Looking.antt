@@ -16,25 +16,19 @@ use Rattle.scan.specs.declared.Step.{Step}
 use Rattle.scan.specs.declared.Step.the-variants.{Done, Fail, Stop}
 
 -- a reading that goes on from one that failed
-through-as : {A B : Type 0} {d : List Error → Res A} {D : List Error → Res B} (k : List ℕ → A → List Error → List ℕ → Res B) {T : List ℕ} {pos least w : ℕ} → ((q : List Error) → D q ≡ then q (d q) (k q)) → (r : Step) → Unread d T pos least w r → Unread D T pos least w r
+pub through : {A B : Type 0} {d : List Error → Res A} {D : List Error → Res B} (k : List ℕ → A → List Error → List ℕ → Res B) {T : List ℕ} {pos least w : ℕ} {r : Step} → ((q : List Error) → D q ≡ then q (d q) (k q)) → Unread d T pos least w r → Unread D T pos least w r
 unfolding then
-through-as k e (Done p a w′) u = record { how = u .how }
-through-as k e (Fail failure) u =
+through k {r = Done p a w′} e u = record { how = u .how }
+through k {r = Fail failure} e u =
     let l = u .how in
     record { how = record { same = λ q. e q ∙ rw (l .same q); waits = l .waits; on = l .on; within = l .within; far = l .far } }
-through-as k e (Stop n) u = record { how = λ q. e q ∙ rw (u .how q) }
-
-pub through : {A B : Type 0} {d : List Error → Res A} {D : List Error → Res B} (k : List ℕ → A → List Error → List ℕ → Res B) {T : List ℕ} {pos least w : ℕ} {r : Step} → ((q : List Error) → D q ≡ then q (d q) (k q)) → Unread d T pos least w r → Unread D T pos least w r
-through k {r = r} e u = through-as k e r u
+through k {r = Stop n} e u = record { how = λ q. e q ∙ rw (u .how q) }
 
 -- what a function that reads tokens only answers
 pub unread : {A : Type 0} {d : List Error → Res A} {T : List ℕ} {pos least at w : ℕ} {r : Step} → Unread d T pos least w r → Reads d T pos least at w r
-unread {d = d} {T = T} {pos = pos} {least = least} {at = at} {w = w} {r = r} u = to r u
-  where
-    to : (r : Step) → Unread d T pos least w r → Reads d T pos least at w r
-    to (Done p a w′) u = absurd (u .how)
-    to (Fail failure) u = record { how = u }
-    to (Stop n) u = record { how = u }
+unread {r = Done p a w′} u = absurd (u .how)
+unread {r = Fail failure} u = record { how = u }
+unread {r = Stop n} u = record { how = u }
 
 -- values
 pub name-small : {k v : ℕ} → value-fits k v ≡ true → k ≡ Kind.Identifier → v < 4294967296
@@ -42,6 +36,9 @@ name-small {k} {v} f e = ltb-true v 4294967296 (sym (ap (λ (i : ℕ). value-fit
 
 pub label-small : {k v : ℕ} → value-fits k v ≡ true → k ≡ Kind.Label → v < 4294967296
 label-small {k} {v} f e = ltb-true v 4294967296 (sym (ap (λ (i : ℕ). value-fits i v) e) ∙ f)
+
+pub taken-label : {T : List ℕ} {pos k n v : ℕ} → Taken T pos k n v → k ≡ Kind.Label → v < 4294967296
+taken-label at e = label-small (at .fits) e
 
 module _ {T : List ℕ} {pos k n v : ℕ} (at : Taken T pos k n v) (q : List Error) where
   pub expect-is : (j e : ℕ) → k ≡ j → expect j e q (drop pos T) ≡ ok (record { kind = k; newline = n; value = v }) (drop (pos + 2) T)

@@ -8,7 +8,7 @@ use borrow.Author.Tests.{eq-eqb, ne-eqb}
 use types.Run.{OneOf}
 use denote.Enum.Declared.{tagOf}
 use lib.Dec.{eqb}
-use lib.ListN.{length, drop, length-drop}
+use lib.ListN.{length, drop}
 use Rattle.token.specs.Kind
 use Rattle.token.specs.declared.Token.{Token}
 use Rattle.grammar.specs.Reading.Number
@@ -21,12 +21,7 @@ use Rattle.scan.specs.declared.Step.{Step}
 use Rattle.scan.specs.declared.Step.the-variants.{Done, Fail, Stop}
 use Rattle.scan.specs.declared.Seen.the-variants.{Not}
 use Rattle.scan.proofs.Step.{the-type}
-
-left : (T : List ℕ) (p fuel : ℕ) → length T ≤ p + fuel → length (drop p T) ≤ fuel
-left T p fuel h = rw length-drop (omega arith)
-
-fuel-some : (T : List ℕ) (fuel p : ℕ) → length T ≤ p + fuel → p + 2 ≤ length T → suc (fuel - 1) ≡ fuel
-fuel-some T fuel p enough h = omega arith
+use Rattle.scan.proofs.Text.{left, fuel-some}
 
 abbrev start-go : ℕ → List ℕ → List ℕ → Token → List Error → List ℕ → Res (Unit {0})
 start-go n q ts tok q₁ rest = ifb (eqb (tok .kind) Kind.EOF) (λ _. fail 0 q ts) λ _. ifb (eqb (tok .kind) Kind.Semicolon) (λ _. start n q rest) λ _. ok tt ts
@@ -90,10 +85,7 @@ module _ (q : List Error) where
       start-here e f = start-look ∙ rw (ne-eqb _ _ e, ne-eqb _ _ f)
 
 -- a look that neither took a token nor failed: the reading stops as it does
-stop-reads : {A : Type 0} {d : List Error → Res A} {T : List ℕ} {pos least at w₀ p w : ℕ} → ((n : ℕ) → ((q : List Error) → look q (drop p T) ≡ stop n) → (q : List Error) → d q ≡ stop n) → (r : Step) → OneOf (0 ∷ 2 ∷ []) (tagOf the-type r) → Saw T p w (Not r) → Reads d T pos least at w₀ r
-stop-reads h (Done p′ a w′) o s = absurd (s .how)
-stop-reads h (Fail failure) o s = absurd (⊎-elim (λ e. omega arith) (λ e. omega arith) o)
-stop-reads h (Stop n) o s = record { how = record { how = h n (s .how) } }
-
 pub halted : {A : Type 0} {d : List Error → Res A} {T : List ℕ} {pos least at w₀ p w : ℕ} {r : Step} → OneOf (0 ∷ 2 ∷ []) (tagOf the-type r) → Saw T p w (Not r) → ((n : ℕ) → ((q : List Error) → look q (drop p T) ≡ stop n) → (q : List Error) → d q ≡ stop n) → Reads d T pos least at w₀ r
-halted {r = r} o s h = stop-reads h r o s
+halted {r = Done p′ a w′} o s h = absurd (s .how)
+halted {r = Fail failure} o s h = absurd (⊎-elim (λ e. omega arith) (λ e. omega arith) o)
+halted {r = Stop n} o s h = record { how = record { how = h n (s .how) } }

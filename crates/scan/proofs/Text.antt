@@ -6,16 +6,16 @@ use Prim.Native.Nat.{ℕ, zero, suc, _+_, _-_, _/_, _%_, _≤_, _<_}
 use native.Mathlib.Numerals.{add-one, sub-one}
 use native.Mathlib.Omega.{arith}
 use lib.Dec.{eqb, leb}
-use lib.ListN.{length, take, drop, getD, set, length-drop, length-append}
-use lib.Seq.{drop-cons, take-suc, take-suc-set, length-take-le, getD-append-add, set-at, take-at, getD-drop, drop-drop}
+use lib.ListN.{length, take, drop, getD, set, length-take, length-drop, length-append}
+use lib.Seq.{drop-cons, take-suc, take-suc-set, length-take-le, take-take, take-append-le, getD-append-add, set-at, take-at, getD-drop, drop-drop}
 use Rattle.token.specs.Kind
 use Rattle.token.specs.Look.{value-fits, token-fits, seen}
 use Rattle.token.specs.declared.Token.{Token}
+use Rattle.token.specs.declared.Seen.{Seen}
 use Rattle.token.specs.declared.Seen.the-variants.{Good, LexerError, Nothing, Bad}
-use Rattle.tree.specs.Store.{Emitted}
 use Rattle.grammar.specs.Reading.Limit.{malformed, queue-limit}
 use Rattle.grammar.specs.Reading.Number
-use Rattle.grammar.specs.Reading.Result.{ok, fail, stop}
+use Rattle.grammar.specs.Reading.Result.{ok, fail, stop, Error}
 use Rattle.grammar.specs.Reading.Look.{looked, look}
 use Rattle.scan.specs.Post.{Taken, Missed, Popped, waiting-errors}
 
@@ -47,7 +47,7 @@ first [] w h g = absurd (omega arith)
 first (x ∷ Q) zero h g = absurd (omega arith)
 first (x ∷ Q) (suc w) h g = rw (sub-one (suc w))
 
-pub popped : (Q Q₀ : List ℕ) (w : ℕ) → 1 ≤ w → w ≤ length Q₀ → Q ≡ take (w - 1) (drop 1 Q₀) ++ drop (w - 1) Q₀ → waiting-errors w Q₀ ≡ getD Q₀ 0 0 ∷ take (w - 1) Q
+popped : (Q Q₀ : List ℕ) (w : ℕ) → 1 ≤ w → w ≤ length Q₀ → Q ≡ take (w - 1) (drop 1 Q₀) ++ drop (w - 1) Q₀ → waiting-errors w Q₀ ≡ getD Q₀ 0 0 ∷ take (w - 1) Q
 popped Q Q₀ w h g e =
     let n : length (take (w - 1) (drop 1 Q₀)) ≡ w - 1 = length-take-le (w - 1) (drop 1 Q₀) (rw length-drop (omega arith)) in
     first Q₀ w h (omega arith) ∙ ap (λ (l : List ℕ). getD Q₀ 0 0 ∷ l) (sym (ap (take (w - 1)) e ∙ take-at (take (w - 1) (drop 1 Q₀)) (drop (w - 1) Q₀) (w - 1) n))
@@ -55,7 +55,7 @@ popped Q Q₀ w h g e =
 pub pop-start : (Q : List ℕ) → Q ≡ take (1 - 1) (drop 1 Q) ++ drop (1 - 1) Q
 pop-start Q = refl
 
-pub popped-length : (Q₀ : List ℕ) (j : ℕ) → suc j ≤ length Q₀ → length (take j (drop 1 Q₀) ++ drop j Q₀) ≡ length Q₀
+popped-length : (Q₀ : List ℕ) (j : ℕ) → suc j ≤ length Q₀ → length (take j (drop 1 Q₀) ++ drop j Q₀) ≡ length Q₀
 popped-length Q₀ j h = rw (length-append, length-take-le j (drop 1 Q₀) (rw length-drop (omega arith)), length-drop) (omega arith)
 
 pub pop-all : (Q Q₀ : List ℕ) (w i : ℕ) → i ≤ w → w ≤ i → 1 ≤ w → w ≤ queue-limit → length Q₀ ≡ queue-limit → Q ≡ take (i - 1) (drop 1 Q₀) ++ drop (i - 1) Q₀ → Popped w (getD Q₀ 0 0) Q₀ Q
@@ -64,27 +64,62 @@ pop-all Q Q₀ w i h g o f n e =
     let x : Q ≡ take (w - 1) (drop 1 Q₀) ++ drop (w - 1) Q₀ = rw s at e in
     record { text = popped Q Q₀ w o (omega arith) x; whole = ap length x ∙ popped-length Q₀ (w - 1) (omega arith) ∙ n }
 
--- RECORDS that were written one after the other
-pub two-words : {a w₁ v₁ r₁ w₂ v₂ r₂ : ℕ} {S S₁ S₂ : List ℕ} → Emitted a w₁ v₁ r₁ S S₁ → Emitted r₁ w₂ v₂ r₂ S₁ S₂ → take r₂ S₂ ≡ take a S ++ w₁ ∷ v₁ ∷ w₂ ∷ v₂ ∷ []
-two-words {a} {w₁} {v₁} {r₁} {w₂} {v₂} {r₂} {S} e f = f .text ∙ ap (λ (l : List ℕ). l ++ w₂ ∷ v₂ ∷ []) (e .text) ∙ append-assoc (take a S) (w₁ ∷ v₁ ∷ []) (w₂ ∷ v₂ ∷ [])
+-- WORDS THAT ARE LEFT: a count of at least so many is enough for those behind p, and is not 0 where a token stands
+pub left : (T : List ℕ) (p fuel : ℕ) → length T ≤ p + fuel → length (drop p T) ≤ fuel
+left T p fuel h = rw length-drop (omega arith)
 
-pub three-words : {a w₁ v₁ r₁ w₂ v₂ r₂ w₃ v₃ r₃ : ℕ} {S S₁ S₂ S₃ : List ℕ} → Emitted a w₁ v₁ r₁ S S₁ → Emitted r₁ w₂ v₂ r₂ S₁ S₂ → Emitted r₂ w₃ v₃ r₃ S₂ S₃ → take r₃ S₃ ≡ take a S ++ w₁ ∷ v₁ ∷ w₂ ∷ v₂ ∷ w₃ ∷ v₃ ∷ []
-three-words {a} {w₁} {v₁} {r₁} {w₂} {v₂} {r₂} {w₃} {v₃} {r₃} {S} e f g = g .text ∙ ap (λ (l : List ℕ). l ++ w₃ ∷ v₃ ∷ []) (two-words e f) ∙ append-assoc (take a S) (w₁ ∷ v₁ ∷ w₂ ∷ v₂ ∷ []) (w₃ ∷ v₃ ∷ [])
+pub fuel-some : (T : List ℕ) (fuel p : ℕ) → length T ≤ p + fuel → p + 2 ≤ length T → suc (fuel - 1) ≡ fuel
+fuel-some T fuel p enough h = omega arith
+
+-- TEXT that goes on with X behind «at»
+module _ (S S′ X : List ℕ) (at a : ℕ) (text : take a S′ ≡ take at S ++ X) (within : at ≤ length S) where
+  long : length (take a S′) ≡ at + length X
+  long = ap length text ∙ length-append (take at S) X ∙ ap (λ (n : ℕ). n + length X) (length-take-le at S within)
+
+  -- it reaches that far
+  pub up-of : at + length X ≤ a
+  up-of =
+      let n = long in
+      let m = length-take a S′ in
+      omega arith
+
+  -- it ends there, if the store is long enough
+  pub grown : a ≤ length S′ → a ≡ at + length X
+  grown h = sym (length-take-le a S′ h) ∙ long
+
+  -- what stands before «at» is as it was
+  pub prefix-of : take at S′ ≡ take at S
+  prefix-of =
+      let n : length (take at S) ≡ at = length-take-le at S within in
+      let le′ : at ≤ length (take at S) = omega arith in
+      let up = up-of in
+      sym (take-take at a S′ (omega arith)) ∙ ap (take at) text ∙ take-append-le at (take at S) X le′ ∙ take-take at at S (omega arith)
 
 -- LOOKING at the words of a run
-module _ {t : Token} where
-  seen-good : (l : List ℕ) → Good t ≡ seen l → (q : List ℕ) → look q l ≡ ok t (drop 2 l)
-  unfolding seen look looked
-  seen-good [] e q = absurd (let z : _≡_ {A = ℕ} 0 1 = cc in omega arith)
-  seen-good (w ∷ []) e q = absurd (let z : _≡_ {A = ℕ} 0 1 = cc in omega arith)
-  seen-good (w ∷ (v ∷ r)) e q = ap (looked q r) (sym e)
+-- where something is seen: what the look answers, and that a token's words stand there
+module _ {s : Seen} (some : s ≡ Nothing → ⊥) where
+  seen-looked : (l : List ℕ) → s ≡ seen l → (q : List Error) → look q l ≡ looked q (drop 2 l) s
+  unfolding seen look
+  seen-looked [] e q = absurd (some e)
+  seen-looked (w ∷ []) e q = absurd (some e)
+  seen-looked (w ∷ (v ∷ r)) e q = ap (looked q r) (sym e)
 
-  good-long : (l : List ℕ) → Good t ≡ seen l → 2 ≤ length l
+  seen-long : (l : List ℕ) → s ≡ seen l → 2 ≤ length l
   unfolding seen
-  good-long [] e = absurd (let z : _≡_ {A = ℕ} 0 1 = cc in omega arith)
-  good-long (w ∷ []) e = absurd (let z : _≡_ {A = ℕ} 0 1 = cc in omega arith)
-  good-long (w ∷ (v ∷ r)) e = omega arith
+  seen-long [] e = absurd (some e)
+  seen-long (w ∷ []) e = absurd (some e)
+  seen-long (w ∷ (v ∷ r)) e = omega arith
 
+good-some : {t : Token} → Good t ≡ Nothing → ⊥
+good-some e = let z : _≡_ {A = ℕ} 0 1 = cc in omega arith
+
+lexer-some : LexerError ≡ Nothing → ⊥
+lexer-some e = let z : _≡_ {A = ℕ} 0 1 = cc in omega arith
+
+bad-some : Bad ≡ Nothing → ⊥
+bad-some e = let z : _≡_ {A = ℕ} 0 1 = cc in omega arith
+
+module _ {t : Token} where
   good-token : (k n v : ℕ) (a b : Bool) → token-fits k n v ≡ a → Good t ≡ cond a (cond b LexerError (Good (record { kind = k; newline = n; value = v }))) Bad → value-fits (t .kind) (t .value) ≡ true
   good-token k n v true true f e = absurd (let z : _≡_ {A = ℕ} 0 1 = cc in omega arith)
   good-token k n v true false f e =
@@ -104,55 +139,41 @@ module _ {t : Token} where
   good-fits (w ∷ (v ∷ r)) e = good-token (w % 256) (w / 256) v (token-fits (w % 256) (w / 256) v) (eqb (w % 256) Kind.LexerError) refl e
 
   pub token-taken : (T : List ℕ) (pos : ℕ) → Good t ≡ seen (drop pos T) → Taken T pos (t .kind) (t .newline) (t .value)
+  unfolding looked
   token-taken T pos e =
-      let n = good-long (drop pos T) e in
+      let n = seen-long good-some (drop pos T) e in
       let l : length (drop pos T) ≡ length T - pos = length-drop pos T in
-      record { same = λ q. seen-good (drop pos T) e q ∙ ap (ok t) (drop-drop 2 pos T); within = omega arith; fits = good-fits (drop pos T) e }
-
-seen-lexer : (l : List ℕ) → LexerError ≡ seen l → (q : List ℕ) → look q l ≡ fail Number.lexer-error q (drop 2 l)
-unfolding seen look looked
-seen-lexer [] e q = absurd (let z : _≡_ {A = ℕ} 0 1 = cc in omega arith)
-seen-lexer (w ∷ []) e q = absurd (let z : _≡_ {A = ℕ} 0 1 = cc in omega arith)
-seen-lexer (w ∷ (v ∷ r)) e q = ap (looked q r) (sym e)
-
-lexer-long : (l : List ℕ) → LexerError ≡ seen l → 2 ≤ length l
-unfolding seen
-lexer-long [] e = absurd (let z : _≡_ {A = ℕ} 0 1 = cc in omega arith)
-lexer-long (w ∷ []) e = absurd (let z : _≡_ {A = ℕ} 0 1 = cc in omega arith)
-lexer-long (w ∷ (v ∷ r)) e = omega arith
+      record { same = λ q. seen-looked good-some (drop pos T) e q ∙ ap (ok t) (drop-drop 2 pos T); within = omega arith; fits = good-fits (drop pos T) e }
 
 pub lexer-room : (T : List ℕ) (pos : ℕ) → LexerError ≡ seen (drop pos T) → pos + 2 ≤ length T
 lexer-room T pos e =
-    let n = lexer-long (drop pos T) e in
+    let n = seen-long lexer-some (drop pos T) e in
     let l : length (drop pos T) ≡ length T - pos = length-drop pos T in
     omega arith
 
 pub lexer-missed : (T : List ℕ) (pos w : ℕ) → LexerError ≡ seen (drop pos T) → Missed T pos w (record { error = Number.lexer-error; pos = pos + 2; waiting = w })
+unfolding looked
 lexer-missed T pos w e =
     let r = lexer-room T pos e in
-    record { lacks = record { same = λ q. seen-lexer (drop pos T) e q ∙ ap (fail Number.lexer-error q) (drop-drop 2 pos T); waits = refl; on = omega arith; within = r; far = omega arith }; past = λ h. omega arith }
+    record { lacks = record { same = λ q. seen-looked lexer-some (drop pos T) e q ∙ ap (fail Number.lexer-error q) (drop-drop 2 pos T); waits = refl; on = omega arith; within = r; far = omega arith }; past = λ h. omega arith }
 
-seen-nothing : (l : List ℕ) → Nothing ≡ seen l → (q : List ℕ) → look q l ≡ fail Number.end-of-tokens q l
+-- two words are something
+word-something : (w v : ℕ) (a b : Bool) → Nothing ≡ cond a (cond b LexerError (Good (record { kind = w % 256; newline = w / 256; value = v }))) Bad → ⊥
+word-something w v true true e = let z : _≡_ {A = ℕ} 0 1 = cc in omega arith
+word-something w v true false e = let z : _≡_ {A = ℕ} 0 1 = cc in omega arith
+word-something w v false b e = let z : _≡_ {A = ℕ} 0 1 = cc in omega arith
+
+seen-nothing : (l : List ℕ) → Nothing ≡ seen l → (q : List Error) → look q l ≡ fail Number.end-of-tokens q l
 unfolding seen look
 seen-nothing [] e q = refl
 seen-nothing (w ∷ []) e q = refl
-seen-nothing (w ∷ (v ∷ r)) e q = absurd (word-something (token-fits (w % 256) (w / 256) v) (eqb (w % 256) Kind.LexerError) e)
-  where
-    word-something : (a b : Bool) → Nothing ≡ cond a (cond b LexerError (Good (record { kind = w % 256; newline = w / 256; value = v }))) Bad → ⊥
-    word-something true true e = let z : _≡_ {A = ℕ} 0 1 = cc in omega arith
-    word-something true false e = let z : _≡_ {A = ℕ} 0 1 = cc in omega arith
-    word-something false b e = let z : _≡_ {A = ℕ} 0 1 = cc in omega arith
+seen-nothing (w ∷ (v ∷ r)) e q = absurd (word-something w v (token-fits (w % 256) (w / 256) v) (eqb (w % 256) Kind.LexerError) e)
 
 nothing-short : (l : List ℕ) → Nothing ≡ seen l → length l ≤ 1
 unfolding seen
 nothing-short [] e = omega arith
 nothing-short (w ∷ []) e = omega arith
-nothing-short (w ∷ (v ∷ r)) e = absurd (word-something (token-fits (w % 256) (w / 256) v) (eqb (w % 256) Kind.LexerError) e)
-  where
-    word-something : (a b : Bool) → Nothing ≡ cond a (cond b LexerError (Good (record { kind = w % 256; newline = w / 256; value = v }))) Bad → ⊥
-    word-something true true e = let z : _≡_ {A = ℕ} 0 1 = cc in omega arith
-    word-something true false e = let z : _≡_ {A = ℕ} 0 1 = cc in omega arith
-    word-something false b e = let z : _≡_ {A = ℕ} 0 1 = cc in omega arith
+nothing-short (w ∷ (v ∷ r)) e = absurd (word-something w v (token-fits (w % 256) (w / 256) v) (eqb (w % 256) Kind.LexerError) e)
 
 pub nothing-missed : (T : List ℕ) (pos w : ℕ) → pos ≤ length T → Nothing ≡ seen (drop pos T) → Missed T pos w (record { error = Number.end-of-tokens; pos = pos; waiting = w })
 nothing-missed T pos w h e =
@@ -160,8 +181,6 @@ nothing-missed T pos w h e =
     let l : length (drop pos T) ≡ length T - pos = length-drop pos T in
     record { lacks = record { same = λ q. seen-nothing (drop pos T) e q; waits = refl; on = omega arith; within = h; far = omega arith }; past = λ h. absurd (h refl) }
 
-pub bad-stops : (l : List ℕ) → Bad ≡ seen l → (q : List ℕ) → look q l ≡ stop malformed
-unfolding seen look looked
-bad-stops [] e q = absurd (let z : _≡_ {A = ℕ} 0 1 = cc in omega arith)
-bad-stops (w ∷ []) e q = absurd (let z : _≡_ {A = ℕ} 0 1 = cc in omega arith)
-bad-stops (w ∷ (v ∷ r)) e q = ap (looked q r) (sym e)
+pub bad-stops : (l : List ℕ) → Bad ≡ seen l → (q : List Error) → look q l ≡ stop malformed
+unfolding looked
+bad-stops l e q = seen-looked bad-some l e q

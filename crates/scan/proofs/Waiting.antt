@@ -39,10 +39,7 @@ unfolding pop
 pops q r x = rw x
 
 -- a reading without store that failed
-queues-as : {A : Type 0} {d : Res A} {T : List ℕ} {pos at w : ℕ} {Q Q′ : List ℕ} (r : Step) → Failed d T pos pos at w [] Q [] Q′ r → Queues d T pos at w Q Q′ r
-queues-as (Done p a v) f = absurd (f .how)
-queues-as (Fail failure) f = record { how = f }
-queues-as (Stop n) f = record { how = f }
-
 pub queues-not : {A : Type 0} {d : Res A} {T : List ℕ} {pos at w : ℕ} {Q Q′ : List ℕ} {r : Step} → Failed d T pos pos at w [] Q [] Q′ r → Queues d T pos at w Q Q′ r
-queues-not {r = r} f = queues-as r f
+queues-not {r = Done p a v} f = absurd (f .how)
+queues-not {r = Fail failure} f = record { how = f }
+queues-not {r = Stop n} f = record { how = f }

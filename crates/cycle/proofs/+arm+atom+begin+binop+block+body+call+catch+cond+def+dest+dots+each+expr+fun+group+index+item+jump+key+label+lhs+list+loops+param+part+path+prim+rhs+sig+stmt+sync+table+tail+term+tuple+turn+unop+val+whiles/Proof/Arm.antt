@@ -7,8 +7,10 @@ use Rattle.tree.specs.Tree.{records}
 use Rattle.tree.specs.Node
 use Rattle.grammar.specs.Reading.Expr.{expr}
 use Rattle.scan.proofs.Laws.{way, goes, done, undone, did-not, fails, lacks, passed, unpassed, gets, prefix}
+use Rattle.nodes.proofs.Made.{over-two}
+use Rattle.cycle.proofs.PathsBody.{closable, under}
+use Rattle.cycle.proofs.PathsCond.{arm-step}
 use Rattle.grammar.specs.Reading.Block.{block-of}
-use Rattle.cycle.proofs.PathsStmt.{closable, under, branch-step, two-words}
 use Rattle.cycle.proofs.arm.Reads as reads
 use Rattle.cycle.proofs.+arm+atom+begin+binop+block+body+call+catch+cond+def+dest+dots+each+expr+fun+group+index+item+jump+key+label+lhs+list+loops+param+part+path+prim+rhs+sig+stmt+sync+table+tail+term+tuple+turn+unop+val+whiles.Lts-arm as lts
 use Rattle.cycle.proofs.expr.Reads as expr-reads
@@ -80,7 +82,7 @@ pub same-length : (t : ℕ) → lts.Need-same-length (calls t) (arm-at t) reads.
 same-length t c = search needs
 
 pub returns : (t : ℕ) → lts.Need-returns (calls t) (arm-at t) reads.Post
-returns t c = let path = way _ (branch-step _ _ _) in
+returns t c = let path = way _ (arm-step _ _ _) in
     did-not (fails _ path (undone (c .match .keys2) (known (After-expr t) (search) .expr .ensures)) refl (omega arith))
 
 pub expect-requires : (t : ℕ) → lts.Need-expect-requires (calls t) (arm-at t) reads.Post
@@ -95,7 +97,7 @@ same-length-2 t c = search needs
 
 pub returns-2 : (t : ℕ) → lts.Need-returns-2 (calls t) (arm-at t) reads.Post
 returns-2 t c = let w = done (known (After-r t) (search) .r .given .1) (known (After-expr t) (search) .expr .ensures) in
-    let path = way _ (branch-step _ _ _) in
+    let path = way _ (arm-step _ _ _) in
     let on = goes _ path (w .same) in
     did-not (lacks _ (unpassed (c .match2 .keys2) (known (After-expect t) (search) .expect .ensures)) on (prefix w (omega arith)) (omega arith))
 
@@ -120,10 +122,10 @@ same-length-3 t c = search needs
 
 pub returns-3 : (t : ℕ) → lts.Need-returns-3 (calls t) (arm-at t) reads.Post
 returns-3 t c = let w = done (after-r-of-after-list-arg2 t (search) .r .given .1) (after-expr-of-after-list-arg2 t (search) .expr .ensures) in
-    let path = way _ (branch-step _ _ _) in
+    let path = way _ (arm-step _ _ _) in
     let on = goes _ path (w .same) in
     let ps = passed (after-s-of-after-list-arg2 t (search) .s .given .1) (after-expect-of-after-list-arg2 t (search) .expect .ensures) in
     let g = ps .got in
     let gon = g .on in
     let gwithin = g .within in
-    under (λ s. Node.conditional-branch (w .what) (block-of s)) (records (w .what)) (known (After-list t) (search) .list .ensures) (known (After-block-under t) (search) .block-under .ensures) (gets _ g on) (w .text) (λ s. two-words 23 _ _ _) (prefix w (omega (arith, start-of-after-list-arg2 t (search) .pre, w .moved, w .room, gon, gwithin, after-expr-of-after-list-arg2 t (search) .expr .kept .1 .0))) (omega (arith, start-of-after-list-arg2 t (search) .pre, w .moved, w .room, gon, gwithin, after-expr-of-after-list-arg2 t (search) .expr .kept .1 .0))
+    under (λ s. Node.conditional-branch (w .what) (block-of s)) (records (w .what)) (known (After-list t) (search) .list .ensures) (known (After-block-under t) (search) .block-under .ensures) (gets _ g on) (w .text) (λ s. over-two 23 _ _ _) (prefix w (omega (arith, start-of-after-list-arg2 t (search) .pre, w .moved, w .room, gon, gwithin, after-expr-of-after-list-arg2 t (search) .expr .kept .1 .0))) (omega (arith, start-of-after-list-arg2 t (search) .pre, w .moved, w .room, gon, gwithin, after-expr-of-after-list-arg2 t (search) .expr .kept .1 .0))

@@ -4,11 +4,9 @@ use Prim.Native.Nat.{ℕ}
 use borrow.Author.Needs.{needs}
 use native.Mathlib.Omega.{arith}
 use Rattle.grammar.specs.Reading.Look.{look}
-use Rattle.scan.proofs.Laws.{way, here, did-not, taken, not-taken, blind, later}
-use Rattle.cycle.proofs.Writing.{settled, before}
-use Rattle.cycle.proofs.Shapes.{given}
-use Rattle.cycle.proofs.PathsExpr.{left}
+use Rattle.scan.proofs.Laws.{way, here, did-not, taken, not-taken, fails-unseen, later}
 use Rattle.cycle.proofs.PathsPrimary.{atom-looks, atom-group, atom-literal}
+use Rattle.cycle.proofs.Writing.{written}
 use Rattle.cycle.proofs.atom.Reads as reads
 use Rattle.cycle.proofs.+arm+atom+begin+binop+block+body+call+catch+cond+def+dest+dots+each+expr+fun+group+index+item+jump+key+label+lhs+list+loops+param+part+path+prim+rhs+sig+stmt+sync+table+tail+term+tuple+turn+unop+val+whiles.Lts-atom as lts
 use Rattle.cycle.proofs.group.Reads as group-reads
@@ -94,7 +92,7 @@ same-length-2 t c = search needs
 
 pub returns-2 : (t : ℕ) → lts.Need-returns-2 (calls t) (atom-at t) reads.Post
 returns-2 t c = let tk = taken (known (After-kind t) (search) .kind .given .1) (known (After-look t) (search) .look .ensures) in
-    settled (known (After-literal t) (search) .literal .ensures (start-of-after-literal-arg t (search) .args .tokens .now) (tk .within)) refl (way _ (atom-literal _ _ tk (known (Else1 t) (search) .if1 .left))) refl (omega arith)
+    written (known (After-literal t) (search) .literal .ensures (start-of-after-literal-arg t (search) .args .tokens .now) (tk .within)) refl (way _ (atom-literal _ _ tk (known (Else1 t) (search) .if1 .left))) refl (omega arith)
 
 pub returns-3 : (t : ℕ) → lts.Need-returns-3 (calls t) (atom-at t) reads.Post
-returns-3 t c = did-not (blind here (atom-looks _ _ _) (not-taken (known (After-s t) (search) .s .given .1) (known (After-look t) (search) .look .ensures)) refl (omega arith))
+returns-3 t c = did-not (fails-unseen here (atom-looks _ _ _) (not-taken (known (After-s t) (search) .s .given .1) (known (After-look t) (search) .look .ensures)) refl (omega arith))

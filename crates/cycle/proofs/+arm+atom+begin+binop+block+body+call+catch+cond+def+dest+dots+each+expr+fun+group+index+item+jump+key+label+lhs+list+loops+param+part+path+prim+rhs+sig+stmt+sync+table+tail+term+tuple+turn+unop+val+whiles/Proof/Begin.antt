@@ -3,8 +3,9 @@ use mathlib.Core.Path.{refl}
 use Prim.Native.Nat.{ℕ}
 use borrow.Author.Needs.{needs}
 use native.Mathlib.Omega.{arith}
-use Rattle.scan.proofs.Laws.{here, did-not, taken, not-taken, blind, later}
-use Rattle.cycle.proofs.PathsStmt.{fails-with, begin-looks, begin-is, begin-not}
+use Rattle.scan.proofs.Laws.{here, did-not, taken, not-taken, fails-unseen, later}
+use Rattle.cycle.proofs.PathsStmt.{begin-looks, begin-is, begin-not}
+use Rattle.cycle.proofs.Writing.{fails-with}
 use Rattle.cycle.proofs.begin.Reads as reads
 use Rattle.cycle.proofs.+arm+atom+begin+binop+block+body+call+catch+cond+def+dest+dots+each+expr+fun+group+index+item+jump+key+label+lhs+list+loops+param+part+path+prim+rhs+sig+stmt+sync+table+tail+term+tuple+turn+unop+val+whiles.Lts-begin as lts
 use Rattle.cycle.proofs.block.Reads as block-reads
@@ -66,4 +67,4 @@ returns-2 t c = let tk = taken (known (After-kind t) (search) .kind .given .1) (
     fails-with (begin-not _ _ tk _ (c .if1 .left)) (omega arith) (omega arith)
 
 pub returns-3 : (t : ℕ) → lts.Need-returns-3 (calls t) (begin-at t) reads.Post
-returns-3 t c = did-not (blind here (begin-looks _ _ _ _) (not-taken (known (After-s t) (search) .s .given .1) (known (After-look t) (search) .look .ensures)) refl (omega arith))
+returns-3 t c = did-not (fails-unseen here (begin-looks _ _ _ _) (not-taken (known (After-s t) (search) .s .given .1) (known (After-look t) (search) .look .ensures)) refl (omega arith))

@@ -8,10 +8,10 @@ use lib.ListN.{length, take, drop, length-drop}
 use Rattle.tree.specs.Tree.{Tree, more, records}
 use Rattle.grammar.specs.Reading.Depth.{at-depth}
 use Rattle.scan.specs.Post.{Wrote, waiting-errors}
-use Rattle.scan.proofs.Laws.{way, here, link, goes, done, undone, did-not, taken, not-taken, fails, blind, prefix, rebased, relabel, home, as-agrees, anew}
+use Rattle.scan.proofs.Laws.{way, here, link, goes, done, undone, did-not, taken, not-taken, fails, fails-unseen, as-agrees, anew, prefix, rebased, relabel, home}
 use Rattle.nodes.proofs.Made.{made-two}
-use Rattle.cycle.proofs.PathsExpr.{binop-unary, left}
 use Rattle.cycle.proofs.Climb.{climb, binop-step, climb-looks, climb-ends, climb-takes}
+use Rattle.cycle.proofs.PathsExpr.{binop-unary}
 use Rattle.cycle.proofs.binop.Reads as reads
 use Rattle.cycle.proofs.+arm+atom+begin+binop+block+body+call+catch+cond+def+dest+dots+each+expr+fun+group+index+item+jump+key+label+lhs+list+loops+param+part+path+prim+rhs+sig+stmt+sync+table+tail+term+tuple+turn+unop+val+whiles.Lts-binop as lts
 use Rattle.cycle.proofs.unop.Reads as unop-reads
@@ -311,4 +311,4 @@ returns-6 t c = let f = done (known (After-first t) (search) .first .given .1) (
     let path = goes _ (way _ (binop-step _ _ _ _ (else1-of-after-slice-known3 t (search) .if1 .left))) (f .same) in
     let i = known (At-loop t) (search) .loop .inv in
     let g = i .run (f .what) (rebased f (omega (arith, start-of-after-slice-known3 t (search) .pre))) in
-    did-not (blind (link path (g .same)) (climb-looks _ _ (g .what) _ _ (i .fuel) _ (i .enough)) (not-taken (known (After-s t) (search) .s .given .1) (known (After-look t) (search) .look .ensures)) (prefix g (omega arith) ∙ prefix f (omega arith)) (omega arith))
+    did-not (fails-unseen (link path (g .same)) (climb-looks _ _ (g .what) _ _ (i .fuel) _ (i .enough)) (not-taken (known (After-s t) (search) .s .given .1) (known (After-look t) (search) .look .ensures)) (prefix g (omega arith) ∙ prefix f (omega arith)) (omega arith))

@@ -2,7 +2,7 @@
 use Prim.Native.Nat.{ℕ}
 use borrow.Author.Needs.{needs}
 use native.Mathlib.Omega.{arith}
-use Rattle.cycle.proofs.PathsStmt.{within-of, passes-lists}
+use Rattle.cycle.proofs.PathsBody.{within-of, passes-lists}
 use Rattle.cycle.proofs.body.Reads as reads
 use Rattle.cycle.proofs.+arm+atom+begin+binop+block+body+call+catch+cond+def+dest+dots+each+expr+fun+group+index+item+jump+key+label+lhs+list+loops+param+part+path+prim+rhs+sig+stmt+sync+table+tail+term+tuple+turn+unop+val+whiles.Lts-body as lts
 use Rattle.cycle.proofs.list.Reads as list-reads

@@ -7,12 +7,11 @@ use Rattle.tree.specs.Tree.{none}
 use Rattle.tree.specs.Node
 use Rattle.grammar.specs.Reading.Look.{look, expect}
 use Rattle.grammar.specs.Reading.Expr.{expr}
-use Rattle.scan.proofs.Laws.{way, here, goes, done, undone, did-not, taken, not-taken, fails, lacks, blind, passed, unpassed, gets, prefix}
+use Rattle.scan.proofs.Laws.{way, here, goes, done, undone, did-not, taken, not-taken, fails, lacks, fails-unseen, passed, unpassed, gets, prefix}
 use Rattle.nodes.proofs.Made.{remade}
-use Rattle.cycle.proofs.Writing.{taller, made-added, before}
-use Rattle.cycle.proofs.Shapes.{given, expr-shape}
-use Rattle.cycle.proofs.PathsExpr.{left}
 use Rattle.cycle.proofs.PathsPrimary.{call-looks, call-empty, call-more}
+use Rattle.cycle.proofs.Shapes.{given, expr-shape}
+use Rattle.cycle.proofs.Writing.{taller, made-added}
 use Rattle.cycle.proofs.call.Reads as reads
 use Rattle.cycle.proofs.+arm+atom+begin+binop+block+body+call+catch+cond+def+dest+dots+each+expr+fun+group+index+item+jump+key+label+lhs+list+loops+param+part+path+prim+rhs+sig+stmt+sync+table+tail+term+tuple+turn+unop+val+whiles.Lts-call as lts
 use Rattle.cycle.proofs.expr.Reads as expr-reads
@@ -176,4 +175,4 @@ returns-4 t c = let tk = taken (after-kind-of-after-expect t (search) .kind .giv
     record { how = remade w e (given (expr-shape _ _ _) (w .same)) (gets _ (y .got) s1) (omega (arith, start-of-after-expect t (search) .pre, w .moved, yo, yw)) (omega (arith, start-of-after-expect t (search) .pre, w .moved, w .room, yo, yw, e .up, e .far)) }
 
 pub returns-5 : (t : ℕ) → lts.Need-returns-5 (calls t) (call-at t) reads.Post
-returns-5 t c = did-not (blind here (call-looks _ _ _) (not-taken (known (After-s2 t) (search) .s2 .given .1) (known (After-look t) (search) .look .ensures)) refl (omega arith))
+returns-5 t c = did-not (fails-unseen here (call-looks _ _ _) (not-taken (known (After-s2 t) (search) .s2 .given .1) (known (After-look t) (search) .look .ensures)) refl (omega arith))

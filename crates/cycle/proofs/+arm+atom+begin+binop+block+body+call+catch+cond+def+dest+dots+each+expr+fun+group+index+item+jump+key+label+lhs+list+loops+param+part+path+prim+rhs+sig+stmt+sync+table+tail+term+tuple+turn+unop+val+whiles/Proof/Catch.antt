@@ -6,15 +6,15 @@ use native.Mathlib.Omega.{arith}
 use lib.ListN.{drop}
 use Rattle.grammar.specs.Reading.Result.{push}
 use Rattle.grammar.specs.Reading.Depth.{at-depth}
-use Rattle.scan.proofs.Laws.{way, link, ends, goes, done, undone, did-not, taken, fails, prefix}
-use Rattle.cycle.proofs.PathsList.{caught-go, caught-out, caught-push, resumes}
+use Rattle.scan.proofs.Laws.{way, link, ends, goes, done, undone, did-not, fails, prefix}
+use Rattle.scan.proofs.Waiting.{push-full, pushes}
+use Rattle.cycle.proofs.PathsControl.{caught-go, caught-out, caught-push, resumes}
 use Rattle.cycle.proofs.catch.Reads as reads
 use Rattle.cycle.proofs.+arm+atom+begin+binop+block+body+call+catch+cond+def+dest+dots+each+expr+fun+group+index+item+jump+key+label+lhs+list+loops+param+part+path+prim+rhs+sig+stmt+sync+table+tail+term+tuple+turn+unop+val+whiles.Lts-catch as lts
 use Rattle.cycle.proofs.sync.Reads as sync-reads
 use Rattle.scan.proofs.queue.push.Reads as push-reads
 use Rattle.scan.proofs.queue.synchronized.Reads as synchronized-reads
 use Rattle.cycle.proofs.+arm+atom+begin+binop+block+body+call+catch+cond+def+dest+dots+each+expr+fun+group+index+item+jump+key+label+lhs+list+loops+param+part+path+prim+rhs+sig+stmt+sync+table+tail+term+tuple+turn+unop+val+whiles.Proof.Below.{catch-at, sync-below}
-use Rattle.scan.proofs.Waiting.{push-full, pushes}
 use Rattle.tree.proofs.Known.{known}
 
 -- what is known of the functions that it calls

@@ -8,9 +8,11 @@ use lib.ListN.{length, take, drop, length-drop}
 use Rattle.tree.specs.Tree.{none, snoc, count, records}
 use Rattle.tree.specs.Node
 use Rattle.cycle.specs.Parts.{arm}
-use Rattle.scan.proofs.Laws.{way, here, link, goes, done, undone, did-not, taken, not-taken, fails, blind, prefix}
+use Rattle.scan.proofs.Laws.{way, here, link, goes, done, undone, did-not, taken, not-taken, fails, fails-unseen, prefix}
+use Rattle.nodes.proofs.Made.{over-two}
+use Rattle.cycle.proofs.PathsBody.{closable, under}
+use Rattle.cycle.proofs.PathsCond.{branches-step, behind-looks, behind-end, behind-else, behind-more, Going, arm-text, arm-count, if-text, else-text, arm-before, else-before}
 use Rattle.grammar.specs.Reading.Block.{block-of}
-use Rattle.cycle.proofs.PathsStmt.{Going, closable, under, two-words, branches-step, behind-looks, behind-end, behind-else, behind-more, branch-text, branch-count, if-text, else-text, branch-before, else-before}
 use Rattle.cycle.proofs.cond.Reads as reads
 use Rattle.cycle.proofs.+arm+atom+begin+binop+block+body+call+catch+cond+def+dest+dots+each+expr+fun+group+index+item+jump+key+label+lhs+list+loops+param+part+path+prim+rhs+sig+stmt+sync+table+tail+term+tuple+turn+unop+val+whiles.Lts-cond as lts
 use Rattle.cycle.proofs.arm.Reads as arm-reads
@@ -264,7 +266,7 @@ returns-3 t c = let g = at-loop-of-after-store4 t (search) .loop .inv in
     let on = goes _ step (b .same) in
     let le = after-list-end-of-after-store4 t (search) .list-end .ensures in
     let y = else-text gr b le (g .many) in
-    under (λ s. Node.if-expr (snoc (gr .what) (b .what)) (block-of s)) (records (Node.list (snoc (gr .what) (b .what)))) (known (After-body t) (search) .body .ensures) (known (After-block-under t) (search) .block-under .ensures) (link on (way _ (behind-else _ _ _ _ _ tk (at-match3-keys2-of-after-store4 t (search) .match3 .keys2)))) y (λ s. two-words 18 _ _ _) (else-before gr b le (g .many) (omega (arith, start-of-after-store4 t (search) .pre))) (omega (arith, start-of-after-store4 t (search) .pre, gr .moved, gr .room, gk, b .moved, b .room, tk .within, le .next, le .whole, after-arm-of-after-store4 t (search) .arm .kept .1 .0, after-list-end-of-after-store4 t (search) .list-end .kept .0))
+    under (λ s. Node.if-expr (snoc (gr .what) (b .what)) (block-of s)) (records (Node.list (snoc (gr .what) (b .what)))) (known (After-body t) (search) .body .ensures) (known (After-block-under t) (search) .block-under .ensures) (link on (way _ (behind-else _ _ _ _ _ tk (at-match3-keys2-of-after-store4 t (search) .match3 .keys2)))) y (λ s. over-two 18 _ _ _) (else-before gr b le (g .many) (omega (arith, start-of-after-store4 t (search) .pre))) (omega (arith, start-of-after-store4 t (search) .pre, gr .moved, gr .room, gk, b .moved, b .room, tk .within, le .next, le .whole, after-arm-of-after-store4 t (search) .arm .kept .1 .0, after-list-end-of-after-store4 t (search) .list-end .kept .0))
 
 pub add-p : (t : ℕ) → lts.Need-add-p (calls t) (cond-at t) reads.Post Inv-loop μ-loop
 add-p t c = let tk = taken (known (After-kind t) (search) .kind .given .1) (known (After-look t) (search) .look .ensures) in
@@ -292,7 +294,7 @@ loop-again t c = let g = at-loop-of-after-slice-known2 t (search) .loop .inv in
     let tk = taken (known (After-kind t) (search) .kind .given .1) (known (After-look t) (search) .look .ensures) in
     let step = link (gr .same) (way _ (branches-step _ (g .fuel) (gr .what) _ _ _ (g .enough))) in
     let on = goes _ step (b .same) in
-    record { fuel = g .fuel - 1; enough = omega (arith, g .enough, b .moved); run = record { what = snoc (gr .what) (b .what); same = link on (way _ (behind-more _ _ _ _ _ tk (c .match3 .rest .0 .1) (c .match3 .rest .1))); moved = omega (arith, gr .moved, b .moved, tk .within); room = omega (arith, gr .moved, gr .room, b .moved, b .room, tk .within); text = branch-text gr b }; many = branch-count gr b (g .many); short = omega (arith, gs, b .moved); kept = omega (arith, gk, after-arm-of-after-slice-known2 t (search) .arm .kept .1 .0) }
+    record { fuel = g .fuel - 1; enough = omega (arith, g .enough, b .moved); run = record { what = snoc (gr .what) (b .what); same = link on (way _ (behind-more _ _ _ _ _ tk (c .match3 .rest .0 .1) (c .match3 .rest .1))); moved = omega (arith, gr .moved, b .moved, tk .within); room = omega (arith, gr .moved, gr .room, b .moved, b .room, tk .within); text = arm-text gr b }; many = arm-count gr b (g .many); short = omega (arith, gs, b .moved); kept = omega (arith, gk, after-arm-of-after-slice-known2 t (search) .arm .kept .1 .0) }
 
 pub enum-known-s : (t : ℕ) → lts.Need-enum-known-s (calls t) (cond-at t) reads.Post Inv-loop μ-loop
 enum-known-s t c = search needs
@@ -308,4 +310,4 @@ returns-4 t c = let g = at-loop-of-after-slice-known2 t (search) .loop .inv in
     let b = done (known (After-r t) (search) .r .given .1) (after-arm-of-after-slice-known2 t (search) .arm .ensures) in
     let step = link (gr .same) (way _ (branches-step _ (g .fuel) (gr .what) _ _ _ (g .enough))) in
     let on = goes _ step (b .same) in
-    did-not (blind on (behind-looks _ _ _ _ _ _) (not-taken (known (After-s t) (search) .s .given .1) (known (After-look t) (search) .look .ensures)) (branch-before gr b (omega (arith, start-of-after-slice-known2 t (search) .pre))) (omega (arith, start-of-after-slice-known2 t (search) .pre, gr .moved, b .moved)))
+    did-not (fails-unseen on (behind-looks _ _ _ _ _ _) (not-taken (known (After-s t) (search) .s .given .1) (known (After-look t) (search) .look .ensures)) (arm-before gr b (omega (arith, start-of-after-slice-known2 t (search) .pre))) (omega (arith, start-of-after-slice-known2 t (search) .pre, gr .moved, b .moved)))

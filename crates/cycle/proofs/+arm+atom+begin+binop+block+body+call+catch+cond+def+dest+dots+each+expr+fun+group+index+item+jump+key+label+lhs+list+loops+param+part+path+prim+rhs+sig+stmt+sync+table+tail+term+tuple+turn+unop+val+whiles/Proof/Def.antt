@@ -1,13 +1,16 @@
 -- The needs of `cycle::def` in its cycle of calls. Assumes nothing.
 use mathlib.Core.Path.{refl, ap, _∙_}
-use Prim.Native.Nat.{ℕ}
+use mathlib.Core.List.{[], _∷_, _++_}
+use Prim.Native.Nat.{ℕ, _≤_}
 use borrow.Author.Needs.{needs}
 use native.Mathlib.Omega.{arith}
-use lib.ListN.{take}
+use lib.ListN.{length, take}
+use Rattle.nodes.specs.Parts.{signature-words}
 use Rattle.scan.proofs.Laws.{way, goes, done, undone, did-not, shorter, fails, lacks, passed, unpassed, gets, prefix}
-use Rattle.scan.proofs.Looking.{unread}
-use Rattle.grammar.specs.Reading.Block.{block-of}
-use Rattle.cycle.proofs.PathsFunction.{closable, under, def-tree, def-step, def-text, stored-prefix, stored-up}
+use Rattle.nodes.proofs.Ends.{joins}
+use Rattle.cycle.proofs.PathsBody.{closable, under}
+use Rattle.cycle.proofs.PathsFunction.{def-tree, def-step, def-words}
+use Rattle.cycle.proofs.Writing.{stored, unstored, stored-prefix, stored-up}
 use Rattle.cycle.proofs.def.Reads as reads
 use Rattle.cycle.proofs.+arm+atom+begin+binop+block+body+call+catch+cond+def+dest+dots+each+expr+fun+group+index+item+jump+key+label+lhs+list+loops+param+part+path+prim+rhs+sig+stmt+sync+table+tail+term+tuple+turn+unop+val+whiles.Lts-def as lts
 use Rattle.cycle.proofs.body.Reads as body-reads
@@ -16,7 +19,6 @@ use Rattle.nodes.proofs.fields.signature_end.Reads as signature-end-reads
 use Rattle.nodes.proofs.records.block_under.Reads as block-under-reads
 use Rattle.scan.proofs.tokens.expect.Reads as expect-reads
 use Rattle.cycle.proofs.+arm+atom+begin+binop+block+body+call+catch+cond+def+dest+dots+each+expr+fun+group+index+item+jump+key+label+lhs+list+loops+param+part+path+prim+rhs+sig+stmt+sync+table+tail+term+tuple+turn+unop+val+whiles.Proof.Below.{def-at, sig-below, body-below}
-use Rattle.cycle.proofs.Writing.{stored, unstored}
 use Rattle.tree.proofs.Known.{known}
 
 -- what is known of the functions that it calls
@@ -159,7 +161,7 @@ block-under-requires t c κs = let o = passed (after-o-of-after-body t (search) 
     let g = done (after-r-of-after-body t (search) .r .given .1) (after-sig-of-after-body t (search) .sig .ensures) in
     let s = stored (known (After-c t) (search) .c .given .1) (after-signature-end-of-after-body t (search) .signature-end .ensures) in
     let sg = s .got in
-    closable 12 (known (After-body t) (search) .body .ensures) (omega (arith, start-of-after-body t (search) .pre)) (omega (arith, start-of-after-body t (search) .pre)) (omega (arith, start-of-after-body t (search) .pre))
+    closable _ (known (After-body t) (search) .body .ensures) (omega (arith, start-of-after-body t (search) .pre, known (After-body t) (search) .body .kept .1 .0))
 
 pub same-length-3 : (t : ℕ) → lts.Need-same-length-3 (calls t) (def-at t) reads.Post
 same-length-3 t c = search needs
@@ -170,7 +172,11 @@ returns-4 t c = let o = passed (after-o-of-after-body t (search) .o .given .1) (
     let g = done (after-r-of-after-body t (search) .r .given .1) (after-sig-of-after-body t (search) .sig .ensures) in
     let s = stored (after-c-of-after-body t (search) .c .given .1) (after-signature-end-of-after-body t (search) .signature-end .ensures) in
     let sg = s .got in
+    let x = start-of-after-body t (search) .args in
+    let store = after-sig-of-after-body t (search) .sig .last .1 .0 in
+    let a = after-r-of-after-body t (search) .r .given .0 .1 .0 in
+    let in-store : a ≤ length store = omega (arith, start-of-after-body t (search) .pre, og .on, g .moved, g .room, s .far, sg .on, sg .within, after-sig-of-after-body t (search) .sig .kept .1 .0, after-signature-end-of-after-body t (search) .signature-end .kept .1 .0) in
+    let u = stored-up a store s in-store in
     let path = gets _ (o .got) (way _ (def-step _ _ _ _)) in
     let on = goes _ path (g .same) in
-    let x = start-of-after-body t (search) .args in
-    under block-of (def-tree (x .name) (g .what)) 532 0 12 (gets _ (s .got) on) (shorter _ _ (x .at) _ (g .room .up) (stored-prefix (after-r-of-after-body t (search) .r .given .0 .1 .0) (after-sig-of-after-body t (search) .sig .last .1 .0) s (omega (arith, start-of-after-body t (search) .pre, og .on, g .moved, g .room, s .far, sg .on, sg .within, after-sig-of-after-body t (search) .sig .kept .1 .0, after-signature-end-of-after-body t (search) .signature-end .kept .1 .0))) ∙ prefix g (omega (arith, start-of-after-body t (search) .pre))) (λ b. def-text (x .name) (g .what) b (take (x .at) (x .store .now)) (s .text) (g .text)) (omega (arith, start-of-after-body t (search) .pre, og .on, g .moved, g .room, s .far, sg .on, sg .within, after-sig-of-after-body t (search) .sig .kept .1 .0, after-signature-end-of-after-body t (search) .signature-end .kept .1 .0)) (let u = stored-up (after-r-of-after-body t (search) .r .given .0 .1 .0) (after-sig-of-after-body t (search) .sig .last .1 .0) s (omega (arith, start-of-after-body t (search) .pre, og .on, g .moved, g .room, s .far, sg .on, sg .within, after-sig-of-after-body t (search) .sig .kept .1 .0, after-signature-end-of-after-body t (search) .signature-end .kept .1 .0)) in omega (arith, start-of-after-body t (search) .pre, og .on, g .moved, g .room, s .far, sg .on, sg .within, after-sig-of-after-body t (search) .sig .kept .1 .0, after-signature-end-of-after-body t (search) .signature-end .kept .1 .0, u)) (omega (arith, start-of-after-body t (search) .pre, og .on, g .moved, g .room, s .far, sg .on, sg .within, after-sig-of-after-body t (search) .sig .kept .1 .0, after-signature-end-of-after-body t (search) .signature-end .kept .1 .0)) (known (After-body t) (search) .body .ensures) (known (After-block-under t) (search) .block-under .ensures)
+    under (def-tree (x .name) (g .what)) (signature-words (g .what) ++ 792 ∷ x .name ∷ []) (known (After-body t) (search) .body .ensures) (known (After-block-under t) (search) .block-under .ensures) (gets _ (s .got) on) (joins (take (x .at) (x .store .now)) (signature-words (g .what)) (792 ∷ x .name ∷ []) (s .text) (g .text)) (def-words (x .name) (g .what)) (shorter _ _ (x .at) _ (g .room .up) (stored-prefix a store s in-store) ∙ prefix g (omega (arith, start-of-after-body t (search) .pre))) (omega (arith, start-of-after-body t (search) .pre, og .on, g .moved, g .room, s .far, sg .on, sg .within, after-sig-of-after-body t (search) .sig .kept .1 .0, after-signature-end-of-after-body t (search) .signature-end .kept .1 .0, u))

@@ -4,8 +4,9 @@ use Prim.Native.Nat.{ℕ}
 use borrow.Author.Needs.{needs}
 use native.Mathlib.Omega.{arith}
 use Rattle.scan.proofs.Laws.{way, goes, done, undone, did-not, shorter, fails, prefix}
+use Rattle.cycle.proofs.PathsFunction.{target-step, target-stands}
+use Rattle.cycle.proofs.Writing.{written}
 use Rattle.grammar.specs.Reading.Primary.{with-path}
-use Rattle.cycle.proofs.PathsFunction.{target-step, stands, written}
 use Rattle.cycle.proofs.dest.Reads as reads
 use Rattle.cycle.proofs.+arm+atom+begin+binop+block+body+call+catch+cond+def+dest+dots+each+expr+fun+group+index+item+jump+key+label+lhs+list+loops+param+part+path+prim+rhs+sig+stmt+sync+table+tail+term+tuple+turn+unop+val+whiles.Lts-dest as lts
 use Rattle.cycle.proofs.atom.Reads as atom-reads
@@ -92,7 +93,7 @@ returns-2 t c = let g = done (known (After-r t) (search) .r .given .1) (after-at
 pub expect-pattern-requires : (t : ℕ) → lts.Need-expect-pattern-requires (calls t) (dest-at t) reads.Post
 expect-pattern-requires t c κs = let g = done (after-r-of-at-match2-keys1 t (search) .r .given .1) (after-atom-of-at-match2-keys1 t (search) .atom .ensures) in
     let h = done (known (After-s t) (search) .s .given .1) (known (After-path t) (search) .path .ensures) in
-    record { tree = with-path (g .what) (h .what); whole = stands (start-of-at-match2-keys1 t (search) .args .depth) g h (omega (arith, start-of-at-match2-keys1 t (search) .pre)) (omega (arith, start-of-at-match2-keys1 t (search) .pre)) (omega (arith, start-of-at-match2-keys1 t (search) .pre)) }
+    record { tree = with-path (g .what) (h .what); whole = target-stands (start-of-at-match2-keys1 t (search) .args .depth) g h (omega (arith, start-of-at-match2-keys1 t (search) .pre)) (omega (arith, start-of-at-match2-keys1 t (search) .pre)) (omega (arith, start-of-at-match2-keys1 t (search) .pre)) }
 
 pub same-length-3 : (t : ℕ) → lts.Need-same-length-3 (calls t) (dest-at t) reads.Post
 same-length-3 t c = search needs
@@ -102,6 +103,7 @@ returns-3 t c = let g = done (after-r-of-at-match2-keys1 t (search) .r .given .1
     let h = done (known (After-s t) (search) .s .given .1) (after-path-of-at-match2-keys1 t (search) .path .ensures) in
     let path = way _ (target-step _ _ _) in
     let on = goes _ path (g .same) in
-    let wh = stands (start-of-at-match2-keys1 t (search) .args .depth) g h (omega (arith, start-of-at-match2-keys1 t (search) .pre)) (omega (arith, start-of-at-match2-keys1 t (search) .pre)) (omega (arith, start-of-at-match2-keys1 t (search) .pre)) in
+    let wh = target-stands (start-of-at-match2-keys1 t (search) .args .depth) g h (omega (arith, start-of-at-match2-keys1 t (search) .pre)) (omega (arith, start-of-at-match2-keys1 t (search) .pre)) (omega (arith, start-of-at-match2-keys1 t (search) .pre)) in
     let at = start-of-at-match2-keys1 t (search) .args .at in
-    written (goes _ on (h .same)) (shorter _ _ at _ (g .room .up) (prefix h (omega (arith, start-of-at-match2-keys1 t (search) .pre))) ∙ prefix g (omega (arith, start-of-at-match2-keys1 t (search) .pre))) (omega (arith, start-of-at-match2-keys1 t (search) .pre)) (omega (arith, start-of-at-match2-keys1 t (search) .pre, g .moved, h .moved)) (omega (arith, start-of-at-match2-keys1 t (search) .pre, g .moved, g .room, h .moved, h .room)) (known (After-expect-pattern t) (search) .expect-pattern .ensures (with-path (g .what) (h .what)) (start-of-at-match2-keys1 t (search) .args .tokens .now) wh (h .moved .within))
+    let before = shorter _ _ at _ (g .room .up) (prefix h (omega (arith, start-of-at-match2-keys1 t (search) .pre))) ∙ prefix g (omega (arith, start-of-at-match2-keys1 t (search) .pre)) in
+    written (known (After-expect-pattern t) (search) .expect-pattern .ensures (with-path (g .what) (h .what)) (start-of-at-match2-keys1 t (search) .args .tokens .now) wh (h .moved .within)) before (goes _ on (h .same)) before (omega (arith, start-of-at-match2-keys1 t (search) .pre, g .moved, g .room, h .moved, h .room))

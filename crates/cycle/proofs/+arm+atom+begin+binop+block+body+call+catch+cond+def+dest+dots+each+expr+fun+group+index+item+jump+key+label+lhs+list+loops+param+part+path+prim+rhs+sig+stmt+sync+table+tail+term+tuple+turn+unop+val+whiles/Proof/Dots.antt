@@ -6,10 +6,11 @@ use native.Mathlib.Omega.{arith}
 use lib.ListN.{take}
 use Rattle.tree.specs.Node
 use Rattle.nodes.specs.Parts.{unpack-end}
-use Rattle.scan.proofs.Laws.{way, here, link, goes, done, undone, did-not, taken, not-taken, fails, blind, prefix, relabel, anew}
-use Rattle.cycle.proofs.Writing.{taller}
+use Rattle.scan.proofs.Laws.{way, here, link, goes, done, undone, did-not, taken, not-taken, fails, fails-unseen, anew, prefix, relabel}
+use Rattle.cycle.proofs.PathsPrimary.{unpack-looks, dots-looks, unpack-lone, unpack-some, dots-more, dots-none}
+use Rattle.cycle.proofs.Shapes.{given}
+use Rattle.cycle.proofs.Writing.{written, taller}
 use Rattle.grammar.specs.Laws.Kinds.{depth-small, primary-small}
-use Rattle.cycle.proofs.PathsPrimary.{writing, unpack-looks, dots-looks, unpack-lone, unpack-some, dots-more, dots-none}
 use Rattle.cycle.proofs.dots.Reads as reads
 use Rattle.cycle.proofs.+arm+atom+begin+binop+block+body+call+catch+cond+def+dest+dots+each+expr+fun+group+index+item+jump+key+label+lhs+list+loops+param+part+path+prim+rhs+sig+stmt+sync+table+tail+term+tuple+turn+unop+val+whiles.Lts-dots as lts
 use Rattle.cycle.proofs.prim.Reads as prim-reads
@@ -18,7 +19,6 @@ use Rattle.nodes.proofs.records.unpack_end.Reads as unpack-end-reads
 use Rattle.scan.proofs.again.Reads as again-reads
 use Rattle.scan.proofs.tokens.look.Reads as look-reads
 use Rattle.cycle.proofs.+arm+atom+begin+binop+block+body+call+catch+cond+def+dest+dots+each+expr+fun+group+index+item+jump+key+label+lhs+list+loops+param+part+path+prim+rhs+sig+stmt+sync+table+tail+term+tuple+turn+unop+val+whiles.Proof.Below.{dots-at, prim-below}
-use Rattle.cycle.proofs.Shapes.{given}
 use Rattle.tree.proofs.Known.{known}
 
 -- what is known of the functions that it calls
@@ -174,7 +174,7 @@ returns-3 t c = let tk = taken (after-kind-of-after-look2 t (search) .kind .give
     let w = done (after-r-of-after-look2 t (search) .r .given .1) (after-prim-of-after-look2 t (search) .prim .ensures) in
     let on = goes _ path (w .same) in
     let tk2 = taken (known (After-next t) (search) .next .given .1) (known (After-look2 t) (search) .look2 .ensures) in
-    writing (known (After-unpack-end t) (search) .unpack-end .ensures (take (start-of-after-look2 t (search) .args .at) (start-of-after-look2 t (search) .args .store .now)) (w .what) (start-of-after-look2 t (search) .args .tokens .now) (given (primary-small _ (depth-small (start-of-after-look2 t (search) .args .depth)) _ _) (w .same)) (w .text) (tk2 .within)) (link on (way _ (dots-more _ _ tk2 (known (Then2 t) (search) .if2 .taken)))) (prefix w (omega (arith, start-of-after-look2 t (search) .pre))) (omega (arith, start-of-after-look2 t (search) .pre, w .moved, tk2 .within)) (omega (arith, start-of-after-look2 t (search) .pre)) (omega (arith, start-of-after-look2 t (search) .pre, w .moved, w .room, tk2 .within, after-prim-of-after-look2 t (search) .prim .kept .1 .0, known (After-unpack-end t) (search) .unpack-end .kept .0)) (omega (arith, w .room))
+    written (known (After-unpack-end t) (search) .unpack-end .ensures (take (start-of-after-look2 t (search) .args .at) (start-of-after-look2 t (search) .args .store .now)) (w .what) (start-of-after-look2 t (search) .args .tokens .now) (given (primary-small _ (depth-small (start-of-after-look2 t (search) .args .depth)) _ _) (w .same)) (w .text) (tk2 .within)) refl (link on (way _ (dots-more _ _ tk2 (known (Then2 t) (search) .if2 .taken)))) (prefix w (omega (arith, start-of-after-look2 t (search) .pre))) (omega (arith, start-of-after-look2 t (search) .pre, w .moved, w .room, tk2 .within))
 
 pub enum-known-s : (t : ℕ) → lts.Need-enum-known-s (calls t) (dots-at t) reads.Post
 enum-known-s t c = search needs
@@ -201,7 +201,7 @@ returns-5 t c = let tk = taken (after-kind-of-after-look2 t (search) .kind .give
     let path = way _ (unpack-some _ _ tk (else1-of-after-look2 t (search) .if1 .left)) in
     let w = done (known (After-r t) (search) .r .given .1) (after-prim-of-after-look2 t (search) .prim .ensures) in
     let on = goes _ path (w .same) in
-    did-not (blind on (dots-looks (w .what) _ _) (not-taken (known (After-s t) (search) .s .given .1) (known (After-look2 t) (search) .look2 .ensures)) (prefix w (omega arith)) (omega arith))
+    did-not (fails-unseen on (dots-looks (w .what) _ _) (not-taken (known (After-s t) (search) .s .given .1) (known (After-look2 t) (search) .look2 .ensures)) (prefix w (omega arith)) (omega arith))
 
 pub returns-6 : (t : ℕ) → lts.Need-returns-6 (calls t) (dots-at t) reads.Post
-returns-6 t c = did-not (blind here (unpack-looks _ _ _) (not-taken (known (After-s2 t) (search) .s2 .given .1) (known (After-look t) (search) .look .ensures)) refl (omega arith))
+returns-6 t c = did-not (fails-unseen here (unpack-looks _ _ _) (not-taken (known (After-s2 t) (search) .s2 .given .1) (known (After-look t) (search) .look .ensures)) refl (omega arith))

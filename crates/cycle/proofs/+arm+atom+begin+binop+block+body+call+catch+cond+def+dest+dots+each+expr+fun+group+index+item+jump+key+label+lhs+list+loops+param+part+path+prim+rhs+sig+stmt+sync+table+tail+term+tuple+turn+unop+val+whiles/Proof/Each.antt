@@ -5,9 +5,10 @@ use borrow.Author.Needs.{needs}
 use native.Mathlib.Omega.{arith}
 use Rattle.tree.specs.Tree.{records}
 use Rattle.tree.specs.Node
-use Rattle.scan.proofs.Laws.{way, link, goes, done, undone, did-not, fails, lacks, passed, unpassed, gets, prefix}
+use Rattle.scan.proofs.Laws.{way, link, goes, done, undone, did-not, fails, lacks, passed, unpassed, gets, prefix, continued}
+use Rattle.nodes.proofs.Made.{over-three}
+use Rattle.cycle.proofs.PathsStmt.{whiles-as, for-step}
 use Rattle.grammar.specs.Reading.Stmt.{stmt-list-of}
-use Rattle.cycle.proofs.PathsStmt.{renamed, three-words, for-step, turning-as}
 use Rattle.cycle.proofs.each.Reads as reads
 use Rattle.cycle.proofs.+arm+atom+begin+binop+block+body+call+catch+cond+def+dest+dots+each+expr+fun+group+index+item+jump+key+label+lhs+list+loops+param+part+path+prim+rhs+sig+stmt+sync+table+tail+term+tuple+turn+unop+val+whiles.Lts-each as lts
 use Rattle.cycle.proofs.lhs.Reads as lhs-reads
@@ -99,4 +100,4 @@ returns-3 t c =
     let g = ps .got in
     let gon = g .on in
     let gwithin = g .within in
-    renamed (λ x. Node.for-loop (start .args .label) (w .what) (x .over) (stmt-list-of (x .run))) (records (w .what)) (after-whiles .whiles .ensures) (link (gets _ g on) (way _ (turning-as _ _ _ (λ iter b. Node.for-loop (start .args .label) (w .what) iter (stmt-list-of b))))) (w .text) (λ x. three-words 5 _ _ _ _) (prefix w (omega (arith, start .pre, w .moved, w .room))) (omega (arith, start .pre, w .moved, w .room, gon, gwithin))
+    continued (λ x. Node.for-loop (start .args .label) (w .what) (x .over) (stmt-list-of (x .run))) (records (w .what)) (after-whiles .whiles .ensures) (link (gets _ g on) (way _ (whiles-as _ _ _ (λ iter b. Node.for-loop (start .args .label) (w .what) iter (stmt-list-of b))))) (w .text) (λ x. over-three 5 _ _ _ _) (prefix w (omega (arith, start .pre, w .moved, w .room))) (omega (arith, start .pre, w .moved, w .room, gon, gwithin))

@@ -11,10 +11,10 @@ use Rattle.tree.specs.Tree.{two, count, records}
 use Rattle.grammar.specs.Reading.Look.{look, expect-pattern, action}
 use Rattle.grammar.specs.Reading.Depth.{at-depth}
 use Rattle.scan.specs.Parts.{unassigned-step}
-use Rattle.scan.proofs.Laws.{way, link, goes, done, undone, did-not, taken, not-taken, fails, lacks, blind, found, unfound, gets, prefix, relabel, anew}
-use Rattle.cycle.proofs.Writing.{stored, unstored, reaches, either-way, told, kids-two, made-over, before, unwrote, stands}
+use Rattle.scan.proofs.Laws.{way, link, goes, done, undone, did-not, taken, not-taken, fails, lacks, fails-unseen, found, unfound, gets, anew, prefix, relabel}
+use Rattle.cycle.proofs.PathsExpr.{expr-step, expr-plain, expr-alone, expr-assign}
 use Rattle.cycle.proofs.Shapes.{given, shape-small, tuple-shape}
-use Rattle.cycle.proofs.PathsExpr.{left, expr-step, expr-plain, expr-alone, expr-assign}
+use Rattle.cycle.proofs.Writing.{stored, unstored, either-way, told, kids-two, made-over, stored-prefix, stored-up, unstored-fails, stands}
 use Rattle.cycle.proofs.expr.Reads as reads
 use Rattle.cycle.proofs.+arm+atom+begin+binop+block+body+call+catch+cond+def+dest+dots+each+expr+fun+group+index+item+jump+key+label+lhs+list+loops+param+part+path+prim+rhs+sig+stmt+sync+table+tail+term+tuple+turn+unop+val+whiles.Lts-expr as lts
 use Rattle.cycle.proofs.rhs.Reads as rhs-reads
@@ -313,7 +313,7 @@ returns-3 t c = let x = found (after-p-of-after-slice-known3 t (search) .p .give
     let whole = stands w small (omega (arith, start-of-after-slice-known3 t (search) .pre)) (omega (arith, start-of-after-slice-known3 t (search) .pre, w .moved, w .room, xo, xw, after-tuple-of-after-slice-known3 t (search) .tuple .kept .1 .0)) in
     let q2 = link s1 (way _ (expr-assign (at-depth (start-of-after-slice-known3 t (search) .args .depth)) (after-p-of-after-slice-known3 t (search) .p .given .0 .1 .0) (w .what) _ tk (known (After-assign-code t) (search) .assign-code .ensures .0) (known (Else1 t) (search) .if1 .left) refl)) in
     let kept = prefix w (omega (arith, start-of-after-slice-known3 t (search) .pre)) in
-    anew (c .again2 .ensures) (did-not (unwrote _ (unstored (known (At-match4-keys2 t) (search) .match4 .keys2) (known (After-expect-pattern t) (search) .expect-pattern .ensures (w .what) (start-of-after-slice-known3 t (search) .args .tokens .now) whole (tk .within))) q2 kept (omega (arith, start-of-after-slice-known3 t (search) .pre, w .moved, xo))))
+    anew (c .again2 .ensures) (did-not (unstored-fails _ (unstored (known (At-match4-keys2 t) (search) .match4 .keys2) (known (After-expect-pattern t) (search) .expect-pattern .ensures (w .what) (start-of-after-slice-known3 t (search) .args .tokens .now) whole (tk .within))) q2 kept (omega (arith, start-of-after-slice-known3 t (search) .pre, w .moved, xo))))
 
 pub rhs-requires : (t : ℕ) → lts.Need-rhs-requires (calls t) (expr-at t) reads.Post
 rhs-requires t c κs = let x = found (after-p-of-after-slice-known3 t (search) .p .given .1) (after-assign-keyword-of-after-slice-known3 t (search) .assign-keyword .ensures) in
@@ -353,8 +353,8 @@ returns-4 t c = let x = found (after-p-of-after-slice-known4 t (search) .p .give
     let q2 = link s1 (way _ (expr-assign (at-depth (start-of-after-slice-known4 t (search) .args .depth)) (after-p-of-after-slice-known4 t (search) .p .given .0 .1 .0) (w .what) _ tk (after-assign-code-of-after-slice-known4 t (search) .assign-code .ensures .0) (else1-of-after-slice-known4 t (search) .if1 .left) refl)) in
     let s3 = gets _ (pt .got) q2 in
     let kept = prefix w (omega (arith, start-of-after-slice-known4 t (search) .pre)) in
-    let stays = before (start-of-after-slice-known4 t (search) .args .at) (after-tuple-of-after-slice-known4 t (search) .tuple .last .1 .0) pt (omega (arith, start-of-after-slice-known4 t (search) .pre, after-tuple-of-after-slice-known4 t (search) .tuple .kept .1 .0)) ∙ kept in
-    let up = reaches (after-tuple-of-after-slice-known4 t (search) .tuple .last .1 .0) (after-expect-pattern-of-after-slice-known4 t (search) .expect-pattern .last .0) (records (pt .got .what)) (start-of-after-slice-known4 t (search) .args .at) (known (After-t t) (search) .t .given .0 .1 .0) (pt .text) (omega (arith, start-of-after-slice-known4 t (search) .pre, after-tuple-of-after-slice-known4 t (search) .tuple .kept .1 .0)) in
+    let stays = stored-prefix (start-of-after-slice-known4 t (search) .args .at) (after-tuple-of-after-slice-known4 t (search) .tuple .last .1 .0) pt (omega (arith, start-of-after-slice-known4 t (search) .pre, after-tuple-of-after-slice-known4 t (search) .tuple .kept .1 .0)) ∙ kept in
+    let up = stored-up (start-of-after-slice-known4 t (search) .args .at) (after-tuple-of-after-slice-known4 t (search) .tuple .last .1 .0) pt (omega (arith, start-of-after-slice-known4 t (search) .pre, after-tuple-of-after-slice-known4 t (search) .tuple .kept .1 .0)) in
     anew (c .again3 .ensures) (did-not (fails _ s3 (undone (known (At-match5-keys2 t) (search) .match5 .keys2) (known (After-rhs t) (search) .rhs .ensures)) stays (omega (arith, start-of-after-slice-known4 t (search) .pre, w .moved, w .room, xo, xw, po, pw, up))))
 
 pub action-requires : (t : ℕ) → lts.Need-action-requires (calls t) (expr-at t) reads.Post
@@ -427,7 +427,7 @@ returns-5 t c =
     let po = pt .got .on in
     let pw = pt .got .within in
     let kept = prefix w (omega (arith, start .pre)) in
-    let up = reaches (after-tuple .tuple .last .1 .0) (after-expect-pattern .expect-pattern .last .0) (records (pt .got .what)) (start .args .at) (after-t .t .given .0 .1 .0) (pt .text) (omega (arith, start .pre, after-tuple .tuple .kept .1 .0)) in
+    let up = stored-up (start .args .at) (after-tuple .tuple .last .1 .0) pt (omega (arith, start .pre, after-tuple .tuple .kept .1 .0)) in
     let u = done (after-r .r .given .1) (after-rhs .rhs .ensures) in
     let q4 = link s1 (way _ (expr-assign (at-depth (start .args .depth)) (after-p .p .given .0 .1 .0) (w .what) _ tk (after-assign-code .assign-code .ensures .0) (else1 .if1 .left) (after-action .action .ensures))) in
     let e = after-emit .emit .ensures in
@@ -445,7 +445,7 @@ returns-6 t c = let x = found (after-p-of-at-match3-keys2 t (search) .p .given .
     let s0 = told _ x (way _ (expr-step _ _ _)) in
     let w = done (known (After-l t) (search) .l .given .1) (after-tuple-of-at-match3-keys2 t (search) .tuple .ensures) in
     let s1 = goes _ s0 (w .same) in
-    did-not (blind s1 (record { go = _; is = refl }) (not-taken (known (After-s t) (search) .s .given .1) (known (After-look t) (search) .look .ensures)) (prefix w (omega (arith, start-of-at-match3-keys2 t (search) .pre))) (omega (arith, start-of-at-match3-keys2 t (search) .pre, w .moved, xo)))
+    did-not (fails-unseen s1 (record { go = _; is = refl }) (not-taken (known (After-s t) (search) .s .given .1) (known (After-look t) (search) .look .ensures)) (prefix w (omega (arith, start-of-at-match3-keys2 t (search) .pre))) (omega (arith, start-of-at-match3-keys2 t (search) .pre, w .moved, xo)))
 
 pub returns-7 : (t : ℕ) → lts.Need-returns-7 (calls t) (expr-at t) reads.Post
 returns-7 t c = did-not (lacks _ (unfound (known (After-s2 t) (search) .s2 .given .1) (known (After-assign-keyword t) (search) .assign-keyword .ensures)) (way _ (expr-step _ _ _)) refl (omega arith))

@@ -4,12 +4,13 @@ use Prim.Native.Nat.{ℕ}
 use borrow.Author.Needs.{needs}
 use native.Mathlib.Omega.{arith}
 use lib.ListN.{take}
-use Rattle.scan.proofs.Laws.{way, here, link, goes, done, undone, did-not, taken, not-taken, fails, blind, prefix, later}
-use Rattle.nodes.proofs.Made.{made-two}
+use Rattle.scan.proofs.Laws.{way, here, link, goes, done, undone, did-not, taken, not-taken, fails, fails-unseen, prefix, later}
 use Rattle.scan.proofs.Looking.{name-small}
+use Rattle.nodes.proofs.Made.{made-two}
+use Rattle.cycle.proofs.PathsFunction.{target-small, decl-looks, decl-open, decl-target, decl-name, target-named}
+use Rattle.cycle.proofs.Shapes.{given}
 use Rattle.cycle.proofs.Writing.{taller}
 use Rattle.nodes.proofs.Ends.{kind-read}
-use Rattle.cycle.proofs.PathsFunction.{target-small, target-named, decl-looks, decl-open, decl-target, decl-name}
 use Rattle.cycle.proofs.fun.Reads as reads
 use Rattle.cycle.proofs.+arm+atom+begin+binop+block+body+call+catch+cond+def+dest+dots+each+expr+fun+group+index+item+jump+key+label+lhs+list+loops+param+part+path+prim+rhs+sig+stmt+sync+table+tail+term+tuple+turn+unop+val+whiles.Lts-fun as lts
 use Rattle.cycle.proofs.def.Reads as def-reads
@@ -18,7 +19,6 @@ use Rattle.nodes.proofs.records.target_name.Reads as target-name-reads
 use Rattle.scan.proofs.tokens.look.Reads as look-reads
 use Rattle.tree.proofs.emit.Reads as emit-reads
 use Rattle.cycle.proofs.+arm+atom+begin+binop+block+body+call+catch+cond+def+dest+dots+each+expr+fun+group+index+item+jump+key+label+lhs+list+loops+param+part+path+prim+rhs+sig+stmt+sync+table+tail+term+tuple+turn+unop+val+whiles.Proof.Below.{fun-at, def-below, dest-below}
-use Rattle.cycle.proofs.Shapes.{given}
 use Rattle.tree.proofs.Known.{known}
 
 -- what is known of the functions that it calls
@@ -214,4 +214,4 @@ returns-4 t c = let tk = taken (after-kind-of-after-r t (search) .kind .given .1
     record { how = made-two 14 g h e (goes _ last (h .same)) (omega (arith, start-of-after-r t (search) .pre, g .moved, h .moved)) (omega (arith, start-of-after-r t (search) .pre, g .moved, g .room, h .moved, h .room, e .next)) refl }
 
 pub returns-5 : (t : ℕ) → lts.Need-returns-5 (calls t) (fun-at t) reads.Post
-returns-5 t c = did-not (blind here (decl-looks _ _ _) (not-taken (known (After-s t) (search) .s .given .1) (known (After-look t) (search) .look .ensures)) refl (omega arith))
+returns-5 t c = did-not (fails-unseen here (decl-looks _ _ _) (not-taken (known (After-s t) (search) .s .given .1) (known (After-look t) (search) .look .ensures)) refl (omega arith))

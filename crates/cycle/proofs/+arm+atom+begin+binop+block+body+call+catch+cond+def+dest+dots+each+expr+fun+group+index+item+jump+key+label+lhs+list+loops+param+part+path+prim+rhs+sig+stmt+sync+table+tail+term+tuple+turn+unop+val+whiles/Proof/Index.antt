@@ -6,9 +6,8 @@ use native.Mathlib.Omega.{arith}
 use Rattle.grammar.specs.Reading.Look.{expect}
 use Rattle.grammar.specs.Reading.Expr.{expr}
 use Rattle.scan.proofs.Laws.{way, goes, done, undone, did-not, fails}
-use Rattle.cycle.proofs.Writing.{closed-by, before}
-use Rattle.cycle.proofs.Shapes.{given}
 use Rattle.cycle.proofs.PathsPrimary.{index-step}
+use Rattle.cycle.proofs.Writing.{closed-by}
 use Rattle.cycle.proofs.index.Reads as reads
 use Rattle.cycle.proofs.+arm+atom+begin+binop+block+body+call+catch+cond+def+dest+dots+each+expr+fun+group+index+item+jump+key+label+lhs+list+loops+param+part+path+prim+rhs+sig+stmt+sync+table+tail+term+tuple+turn+unop+val+whiles.Lts-index as lts
 use Rattle.cycle.proofs.expr.Reads as expr-reads

@@ -3,9 +3,9 @@ use mathlib.Core.Path.{refl}
 use Prim.Native.Nat.{ℕ}
 use borrow.Author.Needs.{needs}
 use native.Mathlib.Omega.{arith}
-use Rattle.scan.proofs.Laws.{way, link, goes, done, undone, did-not, taken, fails, lacks, found, unfound, gets}
+use Rattle.scan.proofs.Laws.{way, link, goes, done, undone, did-not, fails, lacks, found, unfound, gets}
 use Rattle.nodes.proofs.Made.{made-none, made-one}
-use Rattle.cycle.proofs.PathsList.{control-return, control-label, label-continue, label-break}
+use Rattle.cycle.proofs.PathsControl.{control-return, control-label, label-continue, label-break}
 use Rattle.cycle.proofs.jump.Reads as reads
 use Rattle.cycle.proofs.+arm+atom+begin+binop+block+body+call+catch+cond+def+dest+dots+each+expr+fun+group+index+item+jump+key+label+lhs+list+loops+param+part+path+prim+rhs+sig+stmt+sync+table+tail+term+tuple+turn+unop+val+whiles.Lts-jump as lts
 use Rattle.cycle.proofs.val.Reads as val-reads

@@ -4,10 +4,11 @@ use Prim.Native.Nat.{ℕ}
 use borrow.Author.Needs.{needs}
 use native.Mathlib.Omega.{arith}
 use Rattle.nodes.specs.Parts.{named-field}
-use Rattle.scan.proofs.Laws.{way, here, goes, done, undone, did-not, taken, not-taken, fails, blind}
-use Rattle.nodes.proofs.Made.{made-one}
+use Rattle.scan.proofs.Laws.{way, here, goes, done, undone, did-not, taken, not-taken, fails, fails-unseen}
 use Rattle.scan.proofs.Looking.{name-small}
-use Rattle.cycle.proofs.PathsPrimary.{writing, field-looks, field-square, field-named}
+use Rattle.nodes.proofs.Made.{made-one}
+use Rattle.cycle.proofs.PathsPrimary.{field-looks, field-square, field-named}
+use Rattle.cycle.proofs.Writing.{written}
 use Rattle.cycle.proofs.key.Reads as reads
 use Rattle.cycle.proofs.+arm+atom+begin+binop+block+body+call+catch+cond+def+dest+dots+each+expr+fun+group+index+item+jump+key+label+lhs+list+loops+param+part+path+prim+rhs+sig+stmt+sync+table+tail+term+tuple+turn+unop+val+whiles.Lts-key as lts
 use Rattle.cycle.proofs.index.Reads as index-reads
@@ -109,7 +110,7 @@ same-length t c = search needs
 
 pub returns : (t : ℕ) → lts.Need-returns (calls t) (key-at t) reads.Post
 returns t c = let tk = taken (known (After-kind t) (search) .kind .given .1) (known (After-look t) (search) .look .ensures) in
-    writing (known (After-named-field t) (search) .named-field .ensures) (way _ (field-named _ _ tk (known (Then1 t) (search) .if1 .taken))) refl (omega (arith, start-of-after-named-field-arg t (search) .pre, tk .within)) (omega (arith, start-of-after-named-field-arg t (search) .pre)) (omega (arith, start-of-after-named-field-arg t (search) .pre, tk .within, known (After-named-field t) (search) .named-field .kept .1 .0)) (omega arith)
+    written (known (After-named-field t) (search) .named-field .ensures) refl (way _ (field-named _ _ tk (known (Then1 t) (search) .if1 .taken))) refl (omega (arith, start-of-after-named-field-arg t (search) .pre, tk .within))
 
 pub add-index : (t : ℕ) → lts.Need-add-index (calls t) (key-at t) reads.Post
 add-index t c = let tk = taken (known (After-kind t) (search) .kind .given .1) (known (After-look t) (search) .look .ensures) in
@@ -148,4 +149,4 @@ returns-3 t c = let tk = taken (after-kind-of-after-emit-arg t (search) .kind .g
     record { how = made-one 28 w (known (After-emit t) (search) .emit .ensures) (goes _ path (w .same)) (omega (arith, start-of-after-emit-arg t (search) .pre, tk .within, w .moved)) (omega (arith, w .room, known (After-emit t) (search) .emit .ensures .next)) refl }
 
 pub returns-4 : (t : ℕ) → lts.Need-returns-4 (calls t) (key-at t) reads.Post
-returns-4 t c = did-not (blind here (field-looks _ _ _) (not-taken (known (After-s t) (search) .s .given .1) (known (After-look t) (search) .look .ensures)) refl (omega arith))
+returns-4 t c = did-not (fails-unseen here (field-looks _ _ _) (not-taken (known (After-s t) (search) .s .given .1) (known (After-look t) (search) .look .ensures)) refl (omega arith))

@@ -5,9 +5,11 @@ use Prim.Native.Nat.{ℕ}
 use borrow.Author.Needs.{needs}
 use native.Mathlib.Omega.{arith}
 use Rattle.tree.specs.Node
-use Rattle.scan.proofs.Laws.{way, here, did-not, taken, not-taken, blind, later}
+use Rattle.scan.proofs.Laws.{way, here, did-not, taken, not-taken, fails-unseen, later, continued}
+use Rattle.nodes.proofs.Made.{over-two}
+use Rattle.cycle.proofs.PathsStmt.{stmt-label-looks, while-as, label-loop, label-while, label-for, label-alone}
+use Rattle.cycle.proofs.Writing.{fails-with}
 use Rattle.grammar.specs.Reading.Stmt.{stmt-list-of}
-use Rattle.cycle.proofs.PathsStmt.{fails-with, renamed, two-words, while-as, stmt-label-looks, label-loop, label-while, label-for, label-alone}
 use Rattle.cycle.proofs.label.Reads as reads
 use Rattle.cycle.proofs.+arm+atom+begin+binop+block+body+call+catch+cond+def+dest+dots+each+expr+fun+group+index+item+jump+key+label+lhs+list+loops+param+part+path+prim+rhs+sig+stmt+sync+table+tail+term+tuple+turn+unop+val+whiles.Lts-label as lts
 use Rattle.cycle.proofs.each.Reads as each-reads
@@ -117,7 +119,7 @@ same-length-2 t c = search needs
 
 pub returns-2 : (t : ℕ) → lts.Need-returns-2 (calls t) (label-at t) reads.Post
 returns-2 t c = let tk = taken (known (After-kind t) (search) .kind .given .1) (after-look-of-after-whiles-arg t (search) .look .ensures) in
-    renamed (λ x. Node.while-loop (start-of-after-whiles-arg t (search) .args .label) (x .over) (stmt-list-of (x .run))) [] (known (After-whiles t) (search) .whiles .ensures) (way _ (label-while _ _ tk _ (known (At-match2-keys2 t) (search) .match2 .keys2) ∙ while-as _ _ _ _)) (sym (append-nil _)) (λ x. two-words 4 _ _ _) refl (omega arith)
+    continued (λ x. Node.while-loop (start-of-after-whiles-arg t (search) .args .label) (x .over) (stmt-list-of (x .run))) [] (known (After-whiles t) (search) .whiles .ensures) (way _ (label-while _ _ tk _ (known (At-match2-keys2 t) (search) .match2 .keys2) ∙ while-as _ _ _ _)) (sym (append-nil _)) (λ x. over-two 4 _ _ _) refl (omega arith)
 
 pub same-length-3 : (t : ℕ) → lts.Need-same-length-3 (calls t) (label-at t) reads.Post
 same-length-3 t c = search needs
@@ -132,4 +134,4 @@ returns-4 t c = let tk = taken (known (After-kind t) (search) .kind .given .1) (
     fails-with (label-alone _ _ tk _ (r .0 .0 .1) (r .0 .1) (r .1)) (omega arith) (omega arith)
 
 pub returns-5 : (t : ℕ) → lts.Need-returns-5 (calls t) (label-at t) reads.Post
-returns-5 t c = did-not (blind here (stmt-label-looks _ _ _ _) (not-taken (known (After-s t) (search) .s .given .1) (known (After-look t) (search) .look .ensures)) refl (omega arith))
+returns-5 t c = did-not (fails-unseen here (stmt-label-looks _ _ _ _) (not-taken (known (After-s t) (search) .s .given .1) (known (After-look t) (search) .look .ensures)) refl (omega arith))

@@ -5,10 +5,11 @@ use borrow.Author.Needs.{needs}
 use native.Mathlib.Omega.{arith}
 use lib.ListN.{take}
 use Rattle.scan.proofs.Laws.{way, goes, done, undone, did-not, fails, lacks, found, unfound, gets, prefix}
-use Rattle.scan.proofs.Looking.{unread}
+use Rattle.cycle.proofs.PathsStmt.{ended-text, modified-text, lvalue-step}
+use Rattle.cycle.proofs.Shapes.{given}
+use Rattle.cycle.proofs.Writing.{stored, unstored, stored-up, stands}
 use Rattle.grammar.specs.Reading.Pattern.{modified}
 use Rattle.grammar.specs.Laws.Kinds.{tuple-small, depth-small}
-use Rattle.cycle.proofs.PathsStmt.{whole-of, up-of, ended-text, modified-text, lvalue-step}
 use Rattle.cycle.proofs.lhs.Reads as reads
 use Rattle.cycle.proofs.+arm+atom+begin+binop+block+body+call+catch+cond+def+dest+dots+each+expr+fun+group+index+item+jump+key+label+lhs+list+loops+param+part+path+prim+rhs+sig+stmt+sync+table+tail+term+tuple+turn+unop+val+whiles.Lts-lhs as lts
 use Rattle.cycle.proofs.tuple.Reads as tuple-reads
@@ -16,8 +17,6 @@ use Rattle.nodes.proofs.records.expect_pattern.Reads as expect-pattern-reads
 use Rattle.nodes.proofs.records.modified.Reads as modified-reads
 use Rattle.scan.proofs.tokens.assign_keyword.Reads as assign-keyword-reads
 use Rattle.cycle.proofs.+arm+atom+begin+binop+block+body+call+catch+cond+def+dest+dots+each+expr+fun+group+index+item+jump+key+label+lhs+list+loops+param+part+path+prim+rhs+sig+stmt+sync+table+tail+term+tuple+turn+unop+val+whiles.Proof.Below.{lhs-at, tuple-below}
-use Rattle.cycle.proofs.Shapes.{given}
-use Rattle.cycle.proofs.Writing.{stored, unstored}
 use Rattle.tree.proofs.Known.{known}
 
 -- what is known of the functions that it calls
@@ -134,7 +133,7 @@ expect-pattern-requires t c κs = let f = found (after-p-of-after-tuple-arg2 t (
     let gwithin = g .within in
     let w = done (known (After-r t) (search) .r .given .1) (known (After-tuple t) (search) .tuple .ensures) in
     let small = given (tuple-small _ (depth-small _) _ _) (w .same) in
-    record { tree = w .what; whole = whole-of w small (omega (arith, start-of-after-tuple-arg2 t (search) .pre, gon, gwithin)) (omega (arith, start-of-after-tuple-arg2 t (search) .pre, gon, gwithin, w .moved, w .room, known (After-tuple t) (search) .tuple .kept .1 .0)) }
+    record { tree = w .what; whole = stands w small (omega (arith, start-of-after-tuple-arg2 t (search) .pre, gon, gwithin)) (omega (arith, start-of-after-tuple-arg2 t (search) .pre, gon, gwithin, w .moved, w .room, known (After-tuple t) (search) .tuple .kept .1 .0)) }
 
 pub enum-known-t : (t : ℕ) → lts.Need-enum-known-t (calls t) (lhs-at t) reads.Post
 enum-known-t t c = search needs
@@ -152,7 +151,7 @@ returns-2 t c = let f = found (after-p-of-after-expect-pattern t (search) .p .gi
     let w = done (known (After-r t) (search) .r .given .1) (after-tuple-of-after-expect-pattern t (search) .tuple .ensures) in
     let on2 = goes _ on (w .same) in
     let small = given (tuple-small _ (depth-small _) _ _) (w .same) in
-    let inside = whole-of w small (omega (arith, start-of-after-expect-pattern t (search) .pre, gon, gwithin)) (omega (arith, start-of-after-expect-pattern t (search) .pre, gon, gwithin, w .moved, w .room, after-tuple-of-after-expect-pattern t (search) .tuple .kept .1 .0)) in
+    let inside = stands w small (omega (arith, start-of-after-expect-pattern t (search) .pre, gon, gwithin)) (omega (arith, start-of-after-expect-pattern t (search) .pre, gon, gwithin, w .moved, w .room, after-tuple-of-after-expect-pattern t (search) .tuple .kept .1 .0)) in
     let ep = known (After-expect-pattern t) (search) .expect-pattern .ensures (w .what) (start-of-after-expect-pattern t (search) .args .tokens .now) inside (w .moved .within) in
     let u = unstored (c .match3 .keys2) ep in
     did-not (lacks _ (u .unread) on2 (ap (take (start-of-after-expect-pattern t (search) .args .at)) (u .text) ∙ prefix w (omega (arith, start-of-after-expect-pattern t (search) .pre, gon, gwithin))) (omega (arith, start-of-after-expect-pattern t (search) .pre, gon, gwithin, w .moved)))
@@ -164,7 +163,7 @@ modified-requires t c κs = let f = found (after-p-of-after-expect-pattern t (se
     let gwithin = g .within in
     let w = done (after-r-of-after-expect-pattern t (search) .r .given .1) (after-tuple-of-after-expect-pattern t (search) .tuple .ensures) in
     let small = given (tuple-small _ (depth-small _) _ _) (w .same) in
-    let inside = whole-of w small (omega (arith, start-of-after-expect-pattern t (search) .pre, gon, gwithin)) (omega (arith, start-of-after-expect-pattern t (search) .pre, gon, gwithin, w .moved, w .room, after-tuple-of-after-expect-pattern t (search) .tuple .kept .1 .0)) in
+    let inside = stands w small (omega (arith, start-of-after-expect-pattern t (search) .pre, gon, gwithin)) (omega (arith, start-of-after-expect-pattern t (search) .pre, gon, gwithin, w .moved, w .room, after-tuple-of-after-expect-pattern t (search) .tuple .kept .1 .0)) in
     let ep = known (After-expect-pattern t) (search) .expect-pattern .ensures (w .what) (start-of-after-expect-pattern t (search) .args .tokens .now) inside (w .moved .within) in
     let st = stored (known (After-t t) (search) .t .given .1) ep in
     let below = f .below in
@@ -186,11 +185,11 @@ returns-3 t c = let f = found (after-p-of-after-store3 t (search) .p .given .1) 
     let w = done (after-r-of-after-store3 t (search) .r .given .1) (after-tuple-of-after-store3 t (search) .tuple .ensures) in
     let on2 = goes _ on (w .same) in
     let small = given (tuple-small _ (depth-small _) _ _) (w .same) in
-    let inside = whole-of w small (omega (arith, start-of-after-store3 t (search) .pre, gon, gwithin)) (omega (arith, start-of-after-store3 t (search) .pre, gon, gwithin, w .moved, w .room, after-tuple-of-after-store3 t (search) .tuple .kept .1 .0)) in
+    let inside = stands w small (omega (arith, start-of-after-store3 t (search) .pre, gon, gwithin)) (omega (arith, start-of-after-store3 t (search) .pre, gon, gwithin, w .moved, w .room, after-tuple-of-after-store3 t (search) .tuple .kept .1 .0)) in
     let ep = after-expect-pattern-of-after-store3 t (search) .expect-pattern .ensures (w .what) (start-of-after-store3 t (search) .args .tokens .now) inside (w .moved .within) in
     let st = stored (known (After-t t) (search) .t .given .1) ep in
     let md = known (After-modified t) (search) .modified .ensures in
-    let up = up-of w st (omega (arith, start-of-after-store3 t (search) .pre, gon, gwithin, after-tuple-of-after-store3 t (search) .tuple .kept .1 .0)) in
+    let up = stored-up (start-of-after-store3 t (search) .args .at) (after-tuple-of-after-store3 t (search) .tuple .last .1 .0) st (omega (arith, start-of-after-store3 t (search) .pre, gon, gwithin, after-tuple-of-after-store3 t (search) .tuple .kept .1 .0)) in
     let on3 = st .got .on in
     let in3 = st .got .within in
     record { how = record { what = modified (g .what) (st .got .what); same = gets _ (st .got) on2; moved = omega (arith, start-of-after-store3 t (search) .pre, gon, gwithin, w .moved, on3, in3); room = omega (arith, start-of-after-store3 t (search) .pre, gon, gwithin, w .moved, w .room, st .far, md .up, md .far, up, on3, in3); text = modified-text (st .got .what) (ended-text md st) (prefix w (omega (arith, start-of-after-store3 t (search) .pre, gon, gwithin))) (f .is) } }

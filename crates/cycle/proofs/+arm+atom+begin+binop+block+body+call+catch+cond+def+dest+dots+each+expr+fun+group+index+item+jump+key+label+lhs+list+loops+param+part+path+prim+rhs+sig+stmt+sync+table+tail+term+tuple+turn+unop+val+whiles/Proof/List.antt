@@ -9,11 +9,14 @@ use Rattle.tree.specs.Tree.{none, snoc, count, records, all-records}
 use Rattle.tree.specs.Node
 use Rattle.grammar.specs.Reading.Depth.{at-depth}
 use Rattle.scan.specs.Post.{Wrote, waiting-errors}
-use Rattle.scan.proofs.Laws.{way, link, ends, goes, taken, not-taken, fails, blind, prefix, relabel}
-use Rattle.nodes.proofs.Made.{joined, count-snoc}
+use Rattle.scan.proofs.Laws.{way, link, ends, goes, taken, not-taken, fails, fails-unseen, prefix, relabel}
+use Rattle.scan.proofs.Text.{grown}
+use Rattle.nodes.proofs.Made.{count-snoc, joined}
+use Rattle.cycle.proofs.PathsExpr.{list-stops, list-step}
+use Rattle.cycle.proofs.PathsList.{stmts-looks, stmts-semi, stmts-end, stmts-turn, was-stmt, was-control, was-caught, was-not, place-small, split-none, next-ends, mark-le, held-text}
+use Rattle.cycle.proofs.Writing.{taller}
 use Rattle.grammar.specs.Reading.Stmt.{stmts}
 use Rattle.nodes.specs.Lists.{Ends, keeps}
-use Rattle.cycle.proofs.PathsList.{list-ends, list-goes, stmts-looks, stmts-semi, stmts-end, stmts-turn, was-stmt, was-control, was-caught, was-not, place-small, split-none, next-ends, mark-le, place-at, stmt-two, held-text}
 use Rattle.cycle.proofs.list.Reads as reads
 use Rattle.cycle.proofs.+arm+atom+begin+binop+block+body+call+catch+cond+def+dest+dots+each+expr+fun+group+index+item+jump+key+label+lhs+list+loops+param+part+path+prim+rhs+sig+stmt+sync+table+tail+term+tuple+turn+unop+val+whiles.Lts-list as lts
 use Rattle.cycle.proofs.turn.Reads as turn-reads
@@ -129,11 +132,11 @@ abbrev else3-of-after-slice-known2 : (t : ℕ) → After-slice-known2 t → Else
 else3-of-after-slice-known2 t c = search
 
 pub returns : (t : ℕ) → lts.Need-returns (calls t) (list-at t) reads.Post Inv-loop μ-loop
-returns t c = record { how = record { how = ends (list-ends _ _ _ _ (c .if1 .taken)) } }
+returns t c = record { how = record { how = ends (list-stops _ _ _ _ (c .if1 .taken)) } }
 
 pub loop-holds : (t : ℕ) → lts.Need-loop-holds (calls t) (list-at t) reads.Post Inv-loop μ-loop
 unfolding records count
-loop-holds t c = record { fuel = length (drop (known (Start t) (search) .args .pos) (known (Start t) (search) .args .tokens .now)); enough = rw length-drop (omega arith); run = record { what = none; same = way _ (list-goes _ _ _ _ (c .if1 .left)); moved = omega arith; room = omega arith; text = sym (append-nil (take (known (Start t) (search) .args .at) (known (Start t) (search) .args .store .now))) }; many = refl; short = omega arith; back = omega arith; ending = keeps split-none refl; kept = refl }
+loop-holds t c = record { fuel = length (drop (known (Start t) (search) .args .pos) (known (Start t) (search) .args .tokens .now)); enough = rw length-drop (omega arith); run = record { what = none; same = way _ (list-step _ _ _ _ (c .if1 .left)); moved = omega arith; room = omega arith; text = sym (append-nil (take (known (Start t) (search) .args .at) (known (Start t) (search) .args .store .now))) }; many = refl; short = omega arith; back = omega arith; ending = keeps split-none refl; kept = refl }
 
 pub look-requires : (t : ℕ) → lts.Need-look-requires (calls t) (list-at t) reads.Post Inv-loop μ-loop
 look-requires t c κs = c .loop .inv .run .moved .within
@@ -203,7 +206,8 @@ mark-requires t c κs = let g = at-loop-of-after-slice-known2 t (search) .loop .
     let gr = g .run in
     let tk = taken (after-kind-of-after-slice-known2 t (search) .kind .given .1) (after-look-of-after-slice-known2 t (search) .look .ensures) in
     let w1 = was-stmt (known (After-p2 t) (search) .p2 .given .1) (known (After-turn t) (search) .turn .ensures) in
-    (stmt-two w1 (omega (arith, start-of-after-slice-known2 t (search) .pre, g .kept, gr .moved, gr .room)) (omega (arith, start-of-after-slice-known2 t (search) .pre, g .kept, gr .moved, gr .room, w1 .moved, w1 .room)), omega (arith, start-of-after-slice-known2 t (search) .pre, g .kept, gr .moved, gr .room, w1 .moved, w1 .room))
+    let l = taller w1 (omega (arith, start-of-after-slice-known2 t (search) .pre, g .kept, gr .moved, gr .room)) in
+    (omega arith, omega (arith, start-of-after-slice-known2 t (search) .pre, g .kept, gr .moved, gr .room, w1 .moved, w1 .room))
 
 pub add-n : (t : ℕ) → lts.Need-add-n (calls t) (list-at t) reads.Post Inv-loop μ-loop
 add-n t c = let g = at-loop-of-after-slice-known2 t (search) .loop .inv in
@@ -235,7 +239,7 @@ loop-again-2 t c = let g = at-loop-of-after-slice-known2 t (search) .loop .inv i
       many = count-snoc (gr .what) (w1 .what) ∙ ap (λ (i : ℕ). i + 1) (g .many);
       short = omega (arith, g .short, moved);
       back = mark-le mk (w1 .room .up);
-      ending = next-ends (gr .what) mk (place-at (start-of-after-slice-known2 t (search) .args .store .now) (at-loop-of-after-slice-known2 t (search) .loop .store) (all-records (gr .what)) _ _ (gr .text) (omega (arith, start-of-after-slice-known2 t (search) .pre)) (omega (arith, start-of-after-slice-known2 t (search) .pre, g .kept, gr .moved, old)));
+      ending = next-ends (gr .what) mk (grown (start-of-after-slice-known2 t (search) .args .store .now) (at-loop-of-after-slice-known2 t (search) .loop .store) (all-records (gr .what)) _ _ (gr .text) (omega (arith, start-of-after-slice-known2 t (search) .pre)) (omega (arith, start-of-after-slice-known2 t (search) .pre, g .kept, gr .moved, old)));
       kept = omega (arith, g .kept);
     }
 
@@ -307,4 +311,4 @@ same-length-4 t c = search needs
 pub returns-5 : (t : ℕ) → lts.Need-returns-5 (calls t) (list-at t) reads.Post Inv-loop μ-loop
 returns-5 t c = let g = known (At-loop t) (search) .loop .inv in
     let gr = g .run in
-    record { how = blind (gr .same) (stmts-looks _ _ (gr .what) _ _ (g .fuel) _ (g .enough)) (not-taken (known (After-s2 t) (search) .s2 .given .1) (known (After-look t) (search) .look .ensures)) (prefix gr (omega (arith, known (Start t) (search) .pre))) (omega arith) }
+    record { how = fails-unseen (gr .same) (stmts-looks _ _ (gr .what) _ _ (g .fuel) _ (g .enough)) (not-taken (known (After-s2 t) (search) .s2 .given .1) (known (After-look t) (search) .look .ensures)) (prefix gr (omega (arith, known (Start t) (search) .pre))) (omega arith) }

@@ -6,8 +6,10 @@ use borrow.Author.Needs.{needs}
 use native.Mathlib.Omega.{arith}
 use Rattle.tree.specs.Node
 use Rattle.scan.proofs.Laws.{way}
+use Rattle.nodes.proofs.Made.{over-one}
+use Rattle.cycle.proofs.PathsBody.{closable, under}
+use Rattle.cycle.proofs.PathsStmt.{loop-step}
 use Rattle.grammar.specs.Reading.Stmt.{stmt-list-of}
-use Rattle.cycle.proofs.PathsStmt.{closable, under, one-words, loop-step}
 use Rattle.cycle.proofs.loops.Reads as reads
 use Rattle.cycle.proofs.+arm+atom+begin+binop+block+body+call+catch+cond+def+dest+dots+each+expr+fun+group+index+item+jump+key+label+lhs+list+loops+param+part+path+prim+rhs+sig+stmt+sync+table+tail+term+tuple+turn+unop+val+whiles.Lts-loops as lts
 use Rattle.cycle.proofs.body.Reads as body-reads
@@ -44,4 +46,4 @@ pub same-length : (t : ℕ) → lts.Need-same-length (calls t) (loops-at t) read
 same-length t c = search needs
 
 pub returns : (t : ℕ) → lts.Need-returns (calls t) (loops-at t) reads.Post
-returns t c = under (λ s. Node.loop (start-of-after-list-under-arg t (search) .args .label) (stmt-list-of s)) [] (known (After-body t) (search) .body .ensures) (known (After-list-under t) (search) .list-under .ensures) (way _ (loop-step _ _ _ _)) (sym (append-nil _)) (λ s. one-words 3 _ _) refl (omega arith)
+returns t c = under (λ s. Node.loop (start-of-after-list-under-arg t (search) .args .label) (stmt-list-of s)) [] (known (After-body t) (search) .body .ensures) (known (After-list-under t) (search) .list-under .ensures) (way _ (loop-step _ _ _ _)) (sym (append-nil _)) (λ s. over-one 3 _ _) refl (omega arith)

@@ -8,8 +8,9 @@ use lib.ListN.{take}
 use Rattle.grammar.specs.Reading.Expr.{expr}
 use Rattle.nodes.specs.Parts.{h-required, h-variadic, h-default, param-head}
 use Rattle.scan.proofs.Laws.{way, goes, done, undone, fails, lacks}
+use Rattle.cycle.proofs.PathsParams.{param-step, param-got, head-required, head-variadic, head-default, no-head, default-one}
+use Rattle.cycle.proofs.Writing.{added-prefix}
 use Rattle.nodes.specs.Parameters.{required-words}
-use Rattle.cycle.proofs.PathsFunction.{added-prefix, param-step, param-got, head-required, head-variadic, head-default, no-head, default-one}
 use Rattle.cycle.proofs.param.Reads as reads
 use Rattle.cycle.proofs.+arm+atom+begin+binop+block+body+call+catch+cond+def+dest+dots+each+expr+fun+group+index+item+jump+key+label+lhs+list+loops+param+part+path+prim+rhs+sig+stmt+sync+table+tail+term+tuple+turn+unop+val+whiles.Lts-param as lts
 use Rattle.cycle.proofs.expr.Reads as expr-reads

@@ -5,7 +5,8 @@ use borrow.Author.Needs.{needs}
 use native.Mathlib.Omega.{arith}
 use Rattle.scan.proofs.Laws.{way, goes, done, undone, did-not, fails, later}
 use Rattle.nodes.proofs.Made.{made-one}
-use Rattle.cycle.proofs.PathsPrimary.{writing, made-list, access-member, access-index, access-call, access-table}
+use Rattle.cycle.proofs.PathsPrimary.{part-member, part-index, part-call, part-table}
+use Rattle.cycle.proofs.Writing.{written, made-list}
 use Rattle.cycle.proofs.part.Reads as reads
 use Rattle.cycle.proofs.+arm+atom+begin+binop+block+body+call+catch+cond+def+dest+dots+each+expr+fun+group+index+item+jump+key+label+lhs+list+loops+param+part+path+prim+rhs+sig+stmt+sync+table+tail+term+tuple+turn+unop+val+whiles.Lts-part as lts
 use Rattle.cycle.proofs.call.Reads as call-reads
@@ -96,7 +97,7 @@ pub same-length : (t : ℕ) → lts.Need-same-length (calls t) (part-at t) reads
 same-length t c = search needs
 
 pub returns : (t : ℕ) → lts.Need-returns (calls t) (part-at t) reads.Post
-returns t c = let path = way _ (access-index _ _ _ (known (At-match-keys2 t) (search) .match .keys2)) in
+returns t c = let path = way _ (part-index _ _ _ (known (At-match-keys2 t) (search) .match .keys2)) in
     did-not (fails _ path (undone (c .match2 .keys2) (known (After-index t) (search) .index .ensures)) refl (omega arith))
 
 pub emit-requires : (t : ℕ) → lts.Need-emit-requires (calls t) (part-at t) reads.Post
@@ -117,7 +118,7 @@ same-length-2 t c = search needs
 
 pub returns-2 : (t : ℕ) → lts.Need-returns-2 (calls t) (part-at t) reads.Post
 returns-2 t c = let r = known (At-match-rest t) (search) .match .rest in
-    let path2 = way _ (access-table _ _ _ (r .0 .0 .1) (r .0 .1) (r .1)) in
+    let path2 = way _ (part-table _ _ _ (r .0 .0 .1) (r .0 .1) (r .1)) in
     did-not (fails _ path2 (undone (c .match3 .keys2) (known (After-table t) (search) .table .ensures)) refl (omega arith))
 
 pub emit-requires-2 : (t : ℕ) → lts.Need-emit-requires-2 (calls t) (part-at t) reads.Post
@@ -128,13 +129,13 @@ pub same-length-3 : (t : ℕ) → lts.Need-same-length-3 (calls t) (part-at t) r
 same-length-3 t c = search needs
 
 pub returns-3 : (t : ℕ) → lts.Need-returns-3 (calls t) (part-at t) reads.Post
-returns-3 t c = writing (known (After-member t) (search) .member .ensures) (way _ (access-member _ _ _ (known (At-match-keys1 t) (search) .match .keys1))) refl (omega (arith, known (Start t) (search) .pre .0, known (Start t) (search) .pre .1)) (omega (arith, known (Start t) (search) .pre .0, known (Start t) (search) .pre .1)) (omega (arith, known (Start t) (search) .pre .0, known (Start t) (search) .pre .1, known (After-member t) (search) .member .kept .1 .0)) (omega arith)
+returns-3 t c = written (known (After-member t) (search) .member .ensures) refl (way _ (part-member _ _ _ (known (At-match-keys1 t) (search) .match .keys1))) refl (omega (arith, known (Start t) (search) .pre .0, known (Start t) (search) .pre .1))
 
 pub same-length-4 : (t : ℕ) → lts.Need-same-length-4 (calls t) (part-at t) reads.Post
 same-length-4 t c = search needs
 
 pub returns-4 : (t : ℕ) → lts.Need-returns-4 (calls t) (part-at t) reads.Post
-returns-4 t c = let path = way _ (access-index _ _ _ (at-match-keys2-of-after-slice-known3 t (search) .match .keys2)) in
+returns-4 t c = let path = way _ (part-index _ _ _ (at-match-keys2-of-after-slice-known3 t (search) .match .keys2)) in
     let w = done (known (After-r t) (search) .r .given .1) (after-index-of-after-slice-known3 t (search) .index .ensures) in
     record { how = made-one 38 w (known (After-emit t) (search) .emit .ensures) (goes _ path (w .same)) (w .moved) (omega (arith, w .room, known (After-emit t) (search) .emit .ensures .next)) refl }
 
@@ -142,13 +143,13 @@ pub same-length-5 : (t : ℕ) → lts.Need-same-length-5 (calls t) (part-at t) r
 same-length-5 t c = search needs
 
 pub returns-5 : (t : ℕ) → lts.Need-returns-5 (calls t) (part-at t) reads.Post
-returns-5 t c = later (access-call _ _ _ (known (At-match-keys3 t) (search) .match .keys3)) (known (After-call t) (search) .call .ensures) (omega arith) (omega arith) (omega arith)
+returns-5 t c = later (part-call _ _ _ (known (At-match-keys3 t) (search) .match .keys3)) (known (After-call t) (search) .call .ensures) (omega arith) (omega arith) (omega arith)
 
 pub same-length-6 : (t : ℕ) → lts.Need-same-length-6 (calls t) (part-at t) reads.Post
 same-length-6 t c = search needs
 
 pub returns-6 : (t : ℕ) → lts.Need-returns-6 (calls t) (part-at t) reads.Post
 returns-6 t c = let r = at-match-rest-of-after-slice-known6 t (search) .match .rest in
-    let path2 = way _ (access-table _ _ _ (r .0 .0 .1) (r .0 .1) (r .1)) in
+    let path2 = way _ (part-table _ _ _ (r .0 .0 .1) (r .0 .1) (r .1)) in
     let w2 = done (known (After-r2 t) (search) .r2 .given .1) (after-table-of-after-slice-known6 t (search) .table .ensures) in
     record { how = made-list 40 w2 (known (After-emit2 t) (search) .emit2 .ensures) (goes _ path2 (w2 .same)) (w2 .moved) (omega (arith, w2 .room, known (After-emit2 t) (search) .emit2 .ensures .next)) refl }

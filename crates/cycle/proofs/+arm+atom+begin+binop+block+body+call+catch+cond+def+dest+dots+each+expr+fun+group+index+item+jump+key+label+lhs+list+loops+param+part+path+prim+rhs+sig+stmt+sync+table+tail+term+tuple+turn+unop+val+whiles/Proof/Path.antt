@@ -11,10 +11,11 @@ use Rattle.tree.specs.Tree.{none, snoc, count, records, all-records}
 use Rattle.grammar.specs.Reading.Depth.{at-depth}
 use Rattle.scan.specs.Post.{Wrote, waiting-errors}
 use Rattle.cycle.specs.Parts.{part}
-use Rattle.scan.proofs.Laws.{way, here, link, goes, done, undone, did-not, taken, not-taken, fails, blind, prefix}
-use Rattle.nodes.proofs.Made.{joined, count-snoc}
-use Rattle.grammar.specs.Reading.Primary.{path as path-def}
+use Rattle.scan.proofs.Laws.{way, here, link, goes, done, undone, did-not, taken, not-taken, fails, fails-unseen, prefix}
+use Rattle.scan.proofs.Text.{left}
+use Rattle.nodes.proofs.Made.{count-snoc, joined}
 use Rattle.cycle.proofs.PathsPrimary.{path-looks, path-ends, path-more, path-far}
+use Rattle.grammar.specs.Reading.Primary.{path as path-def}
 use Rattle.cycle.proofs.path.Reads as reads
 use Rattle.cycle.proofs.+arm+atom+begin+binop+block+body+call+catch+cond+def+dest+dots+each+expr+fun+group+index+item+jump+key+label+lhs+list+loops+param+part+path+prim+rhs+sig+stmt+sync+table+tail+term+tuple+turn+unop+val+whiles.Lts-path as lts
 use Rattle.cycle.proofs.part.Reads as part-reads
@@ -204,4 +205,4 @@ same-length-3 t c = search needs
 pub returns-3 : (t : ℕ) → lts.Need-returns-3 (calls t) (path-at t) reads.Post Inv-loop μ-loop
 returns-3 t c = let g = known (At-loop t) (search) .loop .inv in
     let gr = g .run in
-    did-not (blind (gr .same) (path-looks _ _ (gr .what) _ _ (g .fuel) _ (g .enough)) (not-taken (known (After-s t) (search) .s .given .1) (known (After-look t) (search) .look .ensures)) (prefix gr (omega (arith, known (Start t) (search) .pre))) (omega (arith, gr .moved)))
+    did-not (fails-unseen (gr .same) (path-looks _ _ (gr .what) _ _ (g .fuel) _ (g .enough)) (not-taken (known (After-s t) (search) .s .given .1) (known (After-look t) (search) .look .ensures)) (prefix gr (omega (arith, known (Start t) (search) .pre))) (omega (arith, gr .moved)))

@@ -3,10 +3,11 @@ use mathlib.Core.Path.{refl}
 use Prim.Native.Nat.{ℕ}
 use borrow.Author.Needs.{needs}
 use native.Mathlib.Omega.{arith}
-use lib.ListN.{take}
-use Rattle.scan.proofs.Laws.{way, goes, done, undone, did-not, fails, prefix, anew}
+use Rattle.tree.specs.Tree.{records}
+use Rattle.scan.proofs.Laws.{way, goes, done, undone, did-not, fails, anew, prefix, continued}
+use Rattle.cycle.proofs.PathsPrimary.{primary-step}
+use Rattle.cycle.proofs.Trees.{path-text}
 use Rattle.grammar.specs.Reading.Primary.{with-path}
-use Rattle.cycle.proofs.PathsPrimary.{mapped, primary-step, path-under}
 use Rattle.cycle.proofs.prim.Reads as reads
 use Rattle.cycle.proofs.+arm+atom+begin+binop+block+body+call+catch+cond+def+dest+dots+each+expr+fun+group+index+item+jump+key+label+lhs+list+loops+param+part+path+prim+rhs+sig+stmt+sync+table+tail+term+tuple+turn+unop+val+whiles.Lts-prim as lts
 use Rattle.cycle.proofs.atom.Reads as atom-reads
@@ -68,4 +69,4 @@ same-length-2 t c = search needs
 pub returns-2 : (t : ℕ) → lts.Need-returns-2 (calls t) (prim-at t) reads.Post
 returns-2 t c = let f = done (known (After-r t) (search) .r .given .1) (after-atom-of-at-match-keys1 t (search) .atom .ensures) in
     let on = goes _ (way _ (primary-step _ _ _)) (f .same) in
-    mapped (with-path (f .what)) on (known (After-path t) (search) .path .ensures) (λ x. path-under (take (start-of-at-match-keys1 t (search) .args .at) (start-of-at-match-keys1 t (search) .args .store .now)) (f .what) x (f .text)) (prefix f (omega (arith, start-of-at-match-keys1 t (search) .pre))) (omega (arith, start-of-at-match-keys1 t (search) .pre, f .moved, f .room)) (omega (arith, start-of-at-match-keys1 t (search) .pre, f .moved, f .room))
+    continued (with-path (f .what)) (records (f .what)) (known (After-path t) (search) .path .ensures) on (f .text) (path-text (f .what)) (prefix f (omega (arith, start-of-at-match-keys1 t (search) .pre))) (omega (arith, start-of-at-match-keys1 t (search) .pre, f .moved, f .room))

@@ -3,8 +3,8 @@ use Prim.Native.Nat.{ℕ}
 use borrow.Author.Needs.{needs}
 use native.Mathlib.Omega.{arith}
 use Rattle.grammar.specs.Reading.Expr.{expr}
-use Rattle.scan.proofs.Laws.{ends, taken, as-agrees}
-use Rattle.cycle.proofs.PathsExpr.{right-stops, right-step, left}
+use Rattle.scan.proofs.Laws.{ends, as-agrees}
+use Rattle.cycle.proofs.PathsExpr.{right-stops, right-step}
 use Rattle.cycle.proofs.rhs.Reads as reads
 use Rattle.cycle.proofs.+arm+atom+begin+binop+block+body+call+catch+cond+def+dest+dots+each+expr+fun+group+index+item+jump+key+label+lhs+list+loops+param+part+path+prim+rhs+sig+stmt+sync+table+tail+term+tuple+turn+unop+val+whiles.Lts-rhs as lts
 use Rattle.cycle.proofs.expr.Reads as expr-reads

@@ -7,11 +7,10 @@ use native.Mathlib.Omega.{arith}
 use lib.ListN.{length, take, drop, length-drop}
 use Rattle.grammar.specs.Reading.Depth.{at-depth}
 use Rattle.scan.specs.Post.{Wrote, waiting-errors}
-use Rattle.scan.proofs.Laws.{way, here, link, did-not, taken, not-taken, blind, prefix}
-use Rattle.nodes.proofs.Made.{joined}
+use Rattle.scan.proofs.Laws.{way, here, link, did-not, taken, not-taken, fails-unseen, prefix}
+use Rattle.cycle.proofs.PathsParams.{params-looks, params-close, params-more, round, unjoined, one-param, no-params, none-fit, no-words-yet}
 use Rattle.grammar.specs.Reading.Function.{params, function-param-list}
 use Rattle.nodes.specs.Parameters.{name-bound, params-words, Fitting}
-use Rattle.cycle.proofs.PathsFunction.{params-looks, params-close, params-more, round, unjoined, one-param, no-params, none-fit, no-words-yet}
 use Rattle.cycle.proofs.sig.Reads as reads
 use Rattle.cycle.proofs.+arm+atom+begin+binop+block+body+call+catch+cond+def+dest+dots+each+expr+fun+group+index+item+jump+key+label+lhs+list+loops+param+part+path+prim+rhs+sig+stmt+sync+table+tail+term+tuple+turn+unop+val+whiles.Lts-sig as lts
 use Rattle.cycle.proofs.param.Reads as param-reads
@@ -196,4 +195,4 @@ same-length-3 t c = search needs
 pub returns-3 : (t : ℕ) → lts.Need-returns-3 (calls t) (sig-at t) reads.Post Inv-loop μ-loop
 returns-3 t c = let i = known (At-loop t) (search) .loop .inv in
     let g = i .run in
-    did-not (blind (g .same) (params-looks _ (g .what) _ _ (i .fuel) _ (i .enough)) (not-taken (known (After-s2 t) (search) .s2 .given .1) (known (After-look t) (search) .look .ensures)) (prefix g (omega arith)) (omega arith))
+    did-not (fails-unseen (g .same) (params-looks _ (g .what) _ _ (i .fuel) _ (i .enough)) (not-taken (known (After-s2 t) (search) .s2 .given .1) (known (After-look t) (search) .look .ensures)) (prefix g (omega arith)) (omega arith))

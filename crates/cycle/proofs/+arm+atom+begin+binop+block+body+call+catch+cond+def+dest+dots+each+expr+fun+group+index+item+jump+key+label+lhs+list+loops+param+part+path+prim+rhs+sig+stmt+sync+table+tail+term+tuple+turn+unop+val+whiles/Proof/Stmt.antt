@@ -9,11 +9,13 @@ use Rattle.tree.specs.Node
 use Rattle.grammar.specs.Reading.Expr.{expr}
 use Rattle.nodes.specs.Parts.{expression-end}
 use Rattle.scan.specs.Parts.{not-allowed}
-use Rattle.scan.proofs.Laws.{way, here, goes, done, undone, did-not, taken, not-taken, fails, blind, prefix, later}
-use Rattle.nodes.proofs.Made.{made-one}
+use Rattle.scan.proofs.Laws.{way, here, goes, done, undone, did-not, taken, not-taken, fails, fails-unseen, prefix, later, continued}
+use Rattle.scan.proofs.Looking.{taken-label}
+use Rattle.nodes.proofs.Made.{over-two, made-one}
+use Rattle.cycle.proofs.PathsStmt.{stmt-looks, while-as, stmt-loop, stmt-while, stmt-for, stmt-labelled, stmt-assert, stmt-control, stmt-expr}
+use Rattle.cycle.proofs.Shapes.{given, expr-shape}
+use Rattle.cycle.proofs.Writing.{written, fails-with}
 use Rattle.grammar.specs.Reading.Stmt.{stmt-list-of}
-use Rattle.cycle.proofs.Shapes.{expr-shape, given}
-use Rattle.cycle.proofs.PathsStmt.{label-fits, fails-with, renamed, written, two-words, while-as, stmt-looks, stmt-loop, stmt-while, stmt-for, stmt-labelled, stmt-assert, stmt-control, stmt-expr}
 use Rattle.cycle.proofs.stmt.Reads as reads
 use Rattle.cycle.proofs.+arm+atom+begin+binop+block+body+call+catch+cond+def+dest+dots+each+expr+fun+group+index+item+jump+key+label+lhs+list+loops+param+part+path+prim+rhs+sig+stmt+sync+table+tail+term+tuple+turn+unop+val+whiles.Lts-stmt as lts
 use Rattle.cycle.proofs.each.Reads as each-reads
@@ -218,7 +220,7 @@ each-requires t c κs = let tk = taken (known (After-kind t) (search) .kind .giv
 
 pub add-label : (t : ℕ) → lts.Need-add-label (calls t) (stmt-at t) reads.Post
 add-label t c = let tk = taken (known (After-kind t) (search) .kind .given .1) (known (After-look t) (search) .look .ensures) in
-    omega (arith, label-fits tk (known (At-match2-keys4 t) (search) .match2 .keys4))
+    omega (arith, taken-label tk (known (At-match2-keys4 t) (search) .match2 .keys4))
 
 pub add-label-2 : (t : ℕ) → lts.Need-add-label-2 (calls t) (stmt-at t) reads.Post
 add-label-2 t c = let tk = taken (known (After-kind t) (search) .kind .given .1) (known (After-look t) (search) .look .ensures) in
@@ -304,7 +306,7 @@ same-length-4 t c = search needs
 
 pub returns-5 : (t : ℕ) → lts.Need-returns-5 (calls t) (stmt-at t) reads.Post
 returns-5 t c = let tk = taken (known (After-kind t) (search) .kind .given .1) (after-look-of-after-whiles-arg t (search) .look .ensures) in
-    renamed (λ x. Node.while-loop 0 (x .over) (stmt-list-of (x .run))) [] (known (After-whiles t) (search) .whiles .ensures) (way _ (stmt-while _ _ tk (known (At-match2-keys2 t) (search) .match2 .keys2) ∙ while-as _ _ _ _)) (sym (append-nil _)) (λ x. two-words 4 _ _ _) refl (omega arith)
+    continued (λ x. Node.while-loop 0 (x .over) (stmt-list-of (x .run))) [] (known (After-whiles t) (search) .whiles .ensures) (way _ (stmt-while _ _ tk (known (At-match2-keys2 t) (search) .match2 .keys2) ∙ while-as _ _ _ _)) (sym (append-nil _)) (λ x. over-two 4 _ _ _) refl (omega arith)
 
 pub same-length-5 : (t : ℕ) → lts.Need-same-length-5 (calls t) (stmt-at t) reads.Post
 same-length-5 t c = search needs
@@ -338,7 +340,7 @@ returns-9 t c = let tk = taken (after-kind-of-after-r2 t (search) .kind .given .
     let r = at-match2-rest-of-after-r2 t (search) .match2 .rest in
     let track = way _ (stmt-expr _ _ tk (r .0 .0 .0 .0 .1) (r .0 .0 .0 .1) (r .0 .0 .1) (r .0 .1) (r .1) (after-is-control-of-after-r2 t (search) .is-control .ensures) (else1-of-after-r2 t (search) .if1 .left)) in
     let sh = given (expr-shape _ _ _) (v .same) in
-    written (known (After-expression-end t) (search) .expression-end .ensures _ _ _ sh (v .text) (v .moved .within)) (goes _ track (v .same)) (prefix v (omega (arith, start-of-after-r2 t (search) .pre, v .moved, v .room))) (omega (arith, start-of-after-r2 t (search) .pre, v .moved, v .room, tk .within))
+    written (known (After-expression-end t) (search) .expression-end .ensures _ _ _ sh (v .text) (v .moved .within)) refl (goes _ track (v .same)) (prefix v (omega (arith, start-of-after-r2 t (search) .pre, v .moved, v .room))) (omega (arith, start-of-after-r2 t (search) .pre, v .moved, v .room, tk .within))
 
 pub returns-10 : (t : ℕ) → lts.Need-returns-10 (calls t) (stmt-at t) reads.Post
-returns-10 t c = did-not (blind here (stmt-looks _ _ _) (not-taken (known (After-s t) (search) .s .given .1) (known (After-look t) (search) .look .ensures)) refl (omega arith))
+returns-10 t c = did-not (fails-unseen here (stmt-looks _ _ _) (not-taken (known (After-s t) (search) .s .given .1) (known (After-look t) (search) .look .ensures)) refl (omega arith))

@@ -9,9 +9,9 @@ use lib.ListN.{length, take, drop, length-drop}
 use Rattle.grammar.specs.Reading.Expr.{expr}
 use Rattle.grammar.specs.Reading.Depth.{at-depth}
 use Rattle.scan.specs.Post.{As, Moved, waiting-errors}
-use Rattle.scan.proofs.Laws.{way, here, link, wins, loses, halts, done, missed, stops, did-not, taken, not-taken, lacks, blinded, unseen, prefix}
+use Rattle.scan.proofs.Laws.{way, here, link, wins, loses, done, missed, did-not, stops, taken, not-taken, stops-unseen, unseen, prefix}
+use Rattle.cycle.proofs.PathsControl.{sync-none, sync-skip, sync-halt, sync-try, sync-stop}
 use Rattle.grammar.specs.Reading.Stmt.{synchronize}
-use Rattle.cycle.proofs.PathsList.{sync-none, sync-skip, sync-halt, sync-try, sync-stop}
 use Rattle.cycle.proofs.sync.Reads as reads
 use Rattle.cycle.proofs.+arm+atom+begin+binop+block+body+call+catch+cond+def+dest+dots+each+expr+fun+group+index+item+jump+key+label+lhs+list+loops+param+part+path+prim+rhs+sig+stmt+sync+table+tail+term+tuple+turn+unop+val+whiles.Lts-sync as lts
 use Rattle.cycle.proofs.expr.Reads as expr-reads
@@ -224,4 +224,4 @@ same-length-5 t c = search needs
 
 pub returns-5 : (t : ℕ) → lts.Need-returns-5 (calls t) (sync-at t) reads.Post Inv-loop μ-loop
 returns-5 t c = let g = known (At-loop t) (search) .loop .inv in
-    did-not (blinded (c .match3 .keys2) (not-taken (known (After-s t) (search) .s .given .1) (known (After-look t) (search) .look .ensures)) (g .same) (sync-stop _ _ _ _ (g .fuel) _ (g .enough)))
+    did-not (stops-unseen (c .match3 .keys2) (not-taken (known (After-s t) (search) .s .given .1) (known (After-look t) (search) .look .ensures)) (g .same) (sync-stop _ _ _ _ (g .fuel) _ (g .enough)))

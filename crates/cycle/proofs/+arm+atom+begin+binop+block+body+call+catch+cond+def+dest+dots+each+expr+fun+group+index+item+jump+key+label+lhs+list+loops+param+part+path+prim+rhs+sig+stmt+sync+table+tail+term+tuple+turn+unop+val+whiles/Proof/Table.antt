@@ -9,10 +9,10 @@ use Rattle.tree.specs.Tree.{none, snoc, count, records, all-records}
 use Rattle.grammar.specs.Reading.Depth.{at-depth}
 use Rattle.scan.specs.Post.{Wrote, waiting-errors}
 use Rattle.nodes.specs.Parts.{item-end}
-use Rattle.scan.proofs.Laws.{way, here, link, goes, done, undone, did-not, taken, not-taken, shorter, fails, lacks, blind, found, unfound, gets, prefix}
-use Rattle.nodes.proofs.Made.{joined, put, count-snoc}
+use Rattle.scan.proofs.Laws.{way, here, link, goes, done, undone, did-not, taken, not-taken, shorter, fails, lacks, fails-unseen, found, unfound, gets, prefix}
+use Rattle.nodes.proofs.Made.{put, count-snoc, joined}
+use Rattle.cycle.proofs.PathsPrimary.{items-looks, items-end, items-more, items-closed, items-again}
 use Rattle.grammar.specs.Reading.Primary.{table-items, table-literal}
-use Rattle.cycle.proofs.PathsPrimary.{items-looks, items-end, items-more, items-closed, items-on}
 use Rattle.cycle.proofs.table.Reads as reads
 use Rattle.cycle.proofs.+arm+atom+begin+binop+block+body+call+catch+cond+def+dest+dots+each+expr+fun+group+index+item+jump+key+label+lhs+list+loops+param+part+path+prim+rhs+sig+stmt+sync+table+tail+term+tuple+turn+unop+val+whiles.Lts-table as lts
 use Rattle.cycle.proofs.item.Reads as item-reads
@@ -276,7 +276,7 @@ loop-again t c = let g = at-loop-of-after-known-told2 t (search) .loop .inv in
     record {
       fuel = g .fuel - 1;
       enough = omega (arith, g .enough, w .moved, ie .got .on, tk .within);
-      run = record { what = snoc (gr .what) (w .what); same = link got (way _ (items-on _ _ _ _ _ (λ i. c .if2 .left (sym (ie .is) ∙ i)))); moved = omega (arith, gr .moved, w .moved, ie .got .on, ie .got .within); room = omega (arith, gr .room, w .room, ie .got .on); text = joined (gr .what) (w .what) (take (start-of-after-known-told2 t (search) .args .at) (start-of-after-known-told2 t (search) .args .store .now)) (w .text) (gr .text) };
+      run = record { what = snoc (gr .what) (w .what); same = link got (way _ (items-again _ _ _ _ _ (λ i. c .if2 .left (sym (ie .is) ∙ i)))); moved = omega (arith, gr .moved, w .moved, ie .got .on, ie .got .within); room = omega (arith, gr .room, w .room, ie .got .on); text = joined (gr .what) (w .what) (take (start-of-after-known-told2 t (search) .args .at) (start-of-after-known-told2 t (search) .args .store .now)) (w .text) (gr .text) };
       many = count-snoc (gr .what) (w .what) ∙ ap (λ (i : ℕ). i + 1) (g .many);
       short = omega (arith, g .short, w .moved, ie .got .on);
       kept = omega (arith, g .kept, after-item-of-after-known-told2 t (search) .item .kept .1 .0);
@@ -306,4 +306,4 @@ same-length-5 t c = search needs
 pub returns-5 : (t : ℕ) → lts.Need-returns-5 (calls t) (table-at t) reads.Post Inv-loop μ-loop
 returns-5 t c = let g = known (At-loop t) (search) .loop .inv in
     let gr = g .run in
-    did-not (blind (gr .same) (items-looks _ (gr .what) _ _ (g .fuel) _ (g .enough)) (not-taken (known (After-s2 t) (search) .s2 .given .1) (known (After-look t) (search) .look .ensures)) (prefix gr (omega (arith, known (Start t) (search) .pre))) (omega (arith, gr .moved)))
+    did-not (fails-unseen (gr .same) (items-looks _ (gr .what) _ _ (g .fuel) _ (g .enough)) (not-taken (known (After-s2 t) (search) .s2 .given .1) (known (After-look t) (search) .look .ensures)) (prefix gr (omega (arith, known (Start t) (search) .pre))) (omega (arith, gr .moved)))

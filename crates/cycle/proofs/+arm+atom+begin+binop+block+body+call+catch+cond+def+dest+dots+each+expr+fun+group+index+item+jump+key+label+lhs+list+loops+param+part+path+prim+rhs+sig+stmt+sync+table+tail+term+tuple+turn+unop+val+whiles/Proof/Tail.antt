@@ -9,9 +9,9 @@ use Rattle.tree.specs.Tree.{none, snoc, count, records, all-records}
 use Rattle.grammar.specs.Reading.Depth.{at-depth}
 use Rattle.scan.specs.Post.{Wrote, waiting-errors}
 use Rattle.cycle.specs.Parts.{tail}
-use Rattle.scan.proofs.Laws.{way, here, link, goes, done, undone, did-not, taken, not-taken, fails, blind, prefix}
-use Rattle.nodes.proofs.Made.{joined, remade, count-snoc}
-use Rattle.cycle.proofs.PathsExpr.{left, commas-looks, commas-end, commas-last, commas-more, commas-comma}
+use Rattle.scan.proofs.Laws.{way, here, link, goes, done, undone, did-not, taken, not-taken, fails, fails-unseen, prefix}
+use Rattle.nodes.proofs.Made.{count-snoc, joined, remade}
+use Rattle.cycle.proofs.PathsExpr.{tail-looks, tail-end, tail-comma, tail-last, tail-more}
 use Rattle.cycle.proofs.tail.Reads as reads
 use Rattle.cycle.proofs.+arm+atom+begin+binop+block+body+call+catch+cond+def+dest+dots+each+expr+fun+group+index+item+jump+key+label+lhs+list+loops+param+part+path+prim+rhs+sig+stmt+sync+table+tail+term+tuple+turn+unop+val+whiles.Lts-tail as lts
 use Rattle.cycle.proofs.binop.Reads as binop-reads
@@ -177,7 +177,7 @@ returns t c = let i = at-loop-of-then1 t (search) .loop .inv in
     let g = i .run in
     let tk = taken (known (After-kind t) (search) .kind .given .1) (known (After-look t) (search) .look .ensures) in
     let e = known (After-tuple-end t) (search) .tuple-end .ensures in
-    record { how = remade g e (i .many) (link (g .same) (way _ (commas-end _ (g .what) _ (i .fuel) _ (i .enough) tk (known (Then1 t) (search) .if1 .taken)))) (g .moved) (omega (arith, start-of-then1 t (search) .pre, g .moved, g .room, e .up, e .far)) }
+    record { how = remade g e (i .many) (link (g .same) (way _ (tail-end _ (g .what) _ (i .fuel) _ (i .enough) tk (known (Then1 t) (search) .if1 .taken)))) (g .moved) (omega (arith, start-of-then1 t (search) .pre, g .moved, g .room, e .up, e .far)) }
 
 pub add-look : (t : ℕ) → lts.Need-add-look (calls t) (tail-at t) reads.Post Inv-loop μ-loop
 add-look t c = let tk = taken (known (After-kind t) (search) .kind .given .1) (known (After-look t) (search) .look .ensures) in
@@ -209,7 +209,7 @@ returns-2 t c = let i = at-loop-of-after-store2 t (search) .loop .inv in
     let tk = taken (after-kind-of-after-store2 t (search) .kind .given .1) (after-look-of-after-store2 t (search) .look .ensures) in
     let tn = taken (known (After-next t) (search) .next .given .1) (known (After-look2 t) (search) .look2 .ensures) in
     let e = known (After-tuple-end2 t) (search) .tuple-end2 .ensures in
-    record { how = remade g e (i .many) (link (g .same) (way _ (commas-last _ (g .what) _ (i .fuel) _ (i .enough) tk (else1-of-after-store2 t (search) .if1 .left) tn (known (Then2 t) (search) .if2 .taken)))) (omega (arith, start-of-after-store2 t (search) .pre, g .moved, tk .within)) (omega (arith, start-of-after-store2 t (search) .pre, g .moved, g .room, e .up, e .far)) }
+    record { how = remade g e (i .many) (link (g .same) (way _ (tail-last _ (g .what) _ (i .fuel) _ (i .enough) tk (else1-of-after-store2 t (search) .if1 .left) tn (known (Then2 t) (search) .if2 .taken)))) (omega (arith, start-of-after-store2 t (search) .pre, g .moved, tk .within)) (omega (arith, start-of-after-store2 t (search) .pre, g .moved, g .room, e .up, e .far)) }
 
 pub add-binop : (t : ℕ) → lts.Need-add-binop (calls t) (tail-at t) reads.Post Inv-loop μ-loop
 add-binop t c = let tk = taken (after-kind-of-else1 t (search) .kind .given .1) (after-look-of-else1 t (search) .look .ensures) in
@@ -232,7 +232,7 @@ returns-3 t c = let i = at-loop-of-after-binop t (search) .loop .inv in
     let g = i .run in
     let tk = taken (after-kind-of-after-binop t (search) .kind .given .1) (after-look-of-after-binop t (search) .look .ensures) in
     let tn = taken (known (After-next t) (search) .next .given .1) (after-look2-of-after-binop t (search) .look2 .ensures) in
-    did-not (fails _ (link (g .same) (way _ (commas-more _ (g .what) _ (i .fuel) _ (i .enough) tk (else1-of-after-binop t (search) .if1 .left) tn (known (Else2 t) (search) .if2 .left)))) (undone (c .match3 .keys2) (known (After-binop t) (search) .binop .ensures)) (prefix g (omega (arith, start-of-after-binop t (search) .pre))) (omega (arith, start-of-after-binop t (search) .pre, g .moved, g .room, tk .within)))
+    did-not (fails _ (link (g .same) (way _ (tail-more _ (g .what) _ (i .fuel) _ (i .enough) tk (else1-of-after-binop t (search) .if1 .left) tn (known (Else2 t) (search) .if2 .left)))) (undone (c .match3 .keys2) (known (After-binop t) (search) .binop .ensures)) (prefix g (omega (arith, start-of-after-binop t (search) .pre))) (omega (arith, start-of-after-binop t (search) .pre, g .moved, g .room, tk .within)))
 
 pub add-n : (t : ℕ) → lts.Need-add-n (calls t) (tail-at t) reads.Post Inv-loop μ-loop
 add-n t c = let i = at-loop-of-after-binop t (search) .loop .inv in
@@ -254,7 +254,7 @@ loop-again t c = let i = at-loop-of-after-binop t (search) .loop .inv in
     record {
       fuel = i .fuel - 1;
       enough = omega arith;
-      run = record { what = snoc (g .what) (w .what); same = goes _ (link (g .same) (way _ (commas-more _ (g .what) _ (i .fuel) _ (i .enough) tk (else1-of-after-binop t (search) .if1 .left) tn (known (Else2 t) (search) .if2 .left)))) (w .same); moved = omega arith; room = omega arith; text = joined (g .what) (w .what) (take (start-of-after-binop t (search) .args .at) (start-of-after-binop t (search) .args .store .now)) (w .text) (g .text) };
+      run = record { what = snoc (g .what) (w .what); same = goes _ (link (g .same) (way _ (tail-more _ (g .what) _ (i .fuel) _ (i .enough) tk (else1-of-after-binop t (search) .if1 .left) tn (known (Else2 t) (search) .if2 .left)))) (w .same); moved = omega arith; room = omega arith; text = joined (g .what) (w .what) (take (start-of-after-binop t (search) .args .at) (start-of-after-binop t (search) .args .store .now)) (w .text) (g .text) };
       many = omega (arith, count-snoc (g .what) (w .what), i .many);
       few = omega arith;
       kept = omega arith;
@@ -270,7 +270,7 @@ pub returns-4 : (t : ℕ) → lts.Need-returns-4 (calls t) (tail-at t) reads.Pos
 returns-4 t c = let i = at-loop-of-else1 t (search) .loop .inv in
     let g = i .run in
     let tk = taken (known (After-kind t) (search) .kind .given .1) (known (After-look t) (search) .look .ensures) in
-    did-not (blind (link (g .same) (way _ (commas-comma _ (g .what) _ (i .fuel) _ (i .enough) tk (known (Else1 t) (search) .if1 .left)))) (record { go = _; is = refl }) (not-taken (known (After-s t) (search) .s .given .1) (known (After-look2 t) (search) .look2 .ensures)) (prefix g (omega arith)) (omega arith))
+    did-not (fails-unseen (link (g .same) (way _ (tail-comma _ (g .what) _ (i .fuel) _ (i .enough) tk (known (Else1 t) (search) .if1 .left)))) (record { go = _; is = refl }) (not-taken (known (After-s t) (search) .s .given .1) (known (After-look2 t) (search) .look2 .ensures)) (prefix g (omega arith)) (omega arith))
 
 pub enum-known-s-2 : (t : ℕ) → lts.Need-enum-known-s-2 (calls t) (tail-at t) reads.Post Inv-loop μ-loop
 enum-known-s-2 t c = search needs
@@ -281,4 +281,4 @@ same-length-5 t c = search needs
 pub returns-5 : (t : ℕ) → lts.Need-returns-5 (calls t) (tail-at t) reads.Post Inv-loop μ-loop
 returns-5 t c = let i = known (At-loop t) (search) .loop .inv in
     let g = i .run in
-    did-not (blind (g .same) (commas-looks _ (g .what) _ _ (i .fuel) _ (i .enough)) (not-taken (known (After-s2 t) (search) .s2 .given .1) (known (After-look t) (search) .look .ensures)) (prefix g (omega arith)) (omega arith))
+    did-not (fails-unseen (g .same) (tail-looks _ (g .what) _ _ (i .fuel) _ (i .enough)) (not-taken (known (After-s2 t) (search) .s2 .given .1) (known (After-look t) (search) .look .ensures)) (prefix g (omega arith)) (omega arith))

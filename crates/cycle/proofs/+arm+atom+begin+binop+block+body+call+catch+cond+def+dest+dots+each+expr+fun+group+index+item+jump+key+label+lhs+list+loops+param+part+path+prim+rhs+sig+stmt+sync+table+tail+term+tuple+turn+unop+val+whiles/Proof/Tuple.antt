@@ -3,9 +3,10 @@ use mathlib.Core.Path.{refl}
 use Prim.Native.Nat.{ℕ}
 use borrow.Author.Needs.{needs}
 use native.Mathlib.Omega.{arith}
+use Rattle.tree.specs.Tree.{records}
 use Rattle.cycle.specs.Parts.{tail}
-use Rattle.scan.proofs.Laws.{way, link, goes, done, undone, did-not, taken, not-taken, fails, blind, prefix, relabel, continued, anew}
-use Rattle.cycle.proofs.PathsExpr.{left, tuple-step, tuple-looks, tuple-one, tuple-more}
+use Rattle.scan.proofs.Laws.{way, link, goes, done, undone, did-not, taken, not-taken, fails, fails-unseen, anew, prefix, relabel, continued}
+use Rattle.cycle.proofs.PathsExpr.{tuple-step, tuple-looks, tuple-one, tuple-more}
 use Rattle.cycle.proofs.Trees.{tuple-text}
 use Rattle.cycle.proofs.tuple.Reads as reads
 use Rattle.cycle.proofs.+arm+atom+begin+binop+block+body+call+catch+cond+def+dest+dots+each+expr+fun+group+index+item+jump+key+label+lhs+list+loops+param+part+path+prim+rhs+sig+stmt+sync+table+tail+term+tuple+turn+unop+val+whiles.Lts-tuple as lts
@@ -105,7 +106,7 @@ pub returns-2 : (t : ℕ) → lts.Need-returns-2 (calls t) (tuple-at t) reads.Po
 returns-2 t c = let w = done (after-r-of-after-tail-arg t (search) .r .given .1) (after-binop-of-after-tail-arg t (search) .binop .ensures) in
     let on = goes _ (way _ (tuple-step _ _ _)) (w .same) in
     let tk = taken (known (After-kind t) (search) .kind .given .1) (after-look-of-after-tail-arg t (search) .look .ensures) in
-    continued w (omega (arith, start-of-after-tail-arg t (search) .pre)) _ (tuple-text (w .what)) (link on (way _ (tuple-more _ _ _ tk (known (Then1 t) (search) .if1 .taken)))) (known (After-tail t) (search) .tail .ensures) (omega (arith, start-of-after-tail-arg t (search) .pre, w .moved, w .room))
+    continued _ (records (w .what)) (known (After-tail t) (search) .tail .ensures) (link on (way _ (tuple-more _ _ _ tk (known (Then1 t) (search) .if1 .taken)))) (w .text) (tuple-text (w .what)) (prefix w (omega (arith, start-of-after-tail-arg t (search) .pre))) (omega (arith, start-of-after-tail-arg t (search) .pre, w .moved, w .room))
 
 pub enum-known-s : (t : ℕ) → lts.Need-enum-known-s (calls t) (tuple-at t) reads.Post
 enum-known-s t c = search needs
@@ -125,4 +126,4 @@ same-length-4 t c = search needs
 pub returns-4 : (t : ℕ) → lts.Need-returns-4 (calls t) (tuple-at t) reads.Post
 returns-4 t c = let w = done (known (After-r t) (search) .r .given .1) (after-binop-of-at-match-keys1 t (search) .binop .ensures) in
     let on = goes _ (way _ (tuple-step _ _ _)) (w .same) in
-    did-not (blind on (tuple-looks _ _ _ _) (not-taken (known (After-s t) (search) .s .given .1) (known (After-look t) (search) .look .ensures)) (prefix w (omega arith)) (omega arith))
+    did-not (fails-unseen on (tuple-looks _ _ _ _) (not-taken (known (After-s t) (search) .s .given .1) (known (After-look t) (search) .look .ensures)) (prefix w (omega arith)) (omega arith))

@@ -4,8 +4,11 @@ use Prim.Native.Nat.{ℕ}
 use borrow.Author.Needs.{needs}
 use native.Mathlib.Omega.{arith}
 use lib.ListN.{take}
-use Rattle.scan.proofs.Laws.{way, wins, loses, done, missed, stops, taken, prefix}
-use Rattle.cycle.proofs.PathsList.{control-held, turn-control, turn-stmt, catches, caught-two, emitted-before, control-text, closes}
+use Rattle.scan.proofs.Laws.{way, wins, loses, done, missed, stops, prefix}
+use Rattle.cycle.proofs.PathsControl.{control-held}
+use Rattle.cycle.proofs.PathsList.{turn-control, turn-stmt, caught-two, catches, control-text, closes}
+use Rattle.cycle.proofs.Shapes.{given}
+use Rattle.cycle.proofs.Writing.{emitted-before}
 use Rattle.cycle.proofs.turn.Reads as reads
 use Rattle.cycle.proofs.+arm+atom+begin+binop+block+body+call+catch+cond+def+dest+dots+each+expr+fun+group+index+item+jump+key+label+lhs+list+loops+param+part+path+prim+rhs+sig+stmt+sync+table+tail+term+tuple+turn+unop+val+whiles.Lts-turn as lts
 use Rattle.cycle.proofs.catch.Reads as catch-reads
@@ -17,7 +20,6 @@ use Rattle.scan.proofs.queue.control_last.Reads as control-last-reads
 use Rattle.scan.proofs.resumed.Reads as resumed-reads
 use Rattle.scan.proofs.tokens.is_control.Reads as is-control-reads
 use Rattle.cycle.proofs.+arm+atom+begin+binop+block+body+call+catch+cond+def+dest+dots+each+expr+fun+group+index+item+jump+key+label+lhs+list+loops+param+part+path+prim+rhs+sig+stmt+sync+table+tail+term+tuple+turn+unop+val+whiles.Proof.Below.{turn-at, jump-below, catch-below, stmt-below}
-use Rattle.cycle.proofs.Shapes.{given}
 use Rattle.tree.proofs.Known.{known}
 
 -- what is known of the functions that it calls

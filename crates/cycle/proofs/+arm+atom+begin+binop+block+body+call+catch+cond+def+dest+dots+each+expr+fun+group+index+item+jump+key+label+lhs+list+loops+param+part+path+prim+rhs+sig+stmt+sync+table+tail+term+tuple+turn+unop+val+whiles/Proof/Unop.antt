@@ -3,9 +3,9 @@ use mathlib.Core.Path.{refl, _∙_}
 use Prim.Native.Nat.{ℕ}
 use borrow.Author.Needs.{needs}
 use native.Mathlib.Omega.{arith}
-use Rattle.scan.proofs.Laws.{way, ends, goes, done, undone, did-not, taken, not-taken, fails, blind, as-agrees, anew}
+use Rattle.scan.proofs.Laws.{way, ends, goes, done, undone, did-not, taken, not-taken, fails, fails-unseen, as-agrees, anew}
 use Rattle.nodes.proofs.Made.{made-one}
-use Rattle.cycle.proofs.PathsExpr.{unary-stops, unary-step, unary-looks, unary-none, unary-some, left}
+use Rattle.cycle.proofs.PathsExpr.{unary-stops, unary-step, unary-looks, unary-none, unary-some}
 use Rattle.cycle.proofs.unop.Reads as reads
 use Rattle.cycle.proofs.+arm+atom+begin+binop+block+body+call+catch+cond+def+dest+dots+each+expr+fun+group+index+item+jump+key+label+lhs+list+loops+param+part+path+prim+rhs+sig+stmt+sync+table+tail+term+tuple+turn+unop+val+whiles.Lts-unop as lts
 use Rattle.cycle.proofs.term.Reads as term-reads
@@ -154,4 +154,4 @@ returns-4 t c = let tk = taken (after-kind-of-after-r t (search) .kind .given .1
     record { how = made-one 12 w (known (After-emit t) (search) .emit .ensures) (goes _ path (w .same)) (omega arith) (omega arith) refl }
 
 pub returns-5 : (t : ℕ) → lts.Need-returns-5 (calls t) (unop-at t) reads.Post
-returns-5 t c = did-not (blind (way _ (unary-step _ _ _ (known (Else1 t) (search) .if1 .left))) (unary-looks _ _ _) (not-taken (known (After-s t) (search) .s .given .1) (known (After-look t) (search) .look .ensures)) refl (omega arith))
+returns-5 t c = did-not (fails-unseen (way _ (unary-step _ _ _ (known (Else1 t) (search) .if1 .left))) (unary-looks _ _ _) (not-taken (known (After-s t) (search) .s .given .1) (known (After-look t) (search) .look .ensures)) refl (omega arith))

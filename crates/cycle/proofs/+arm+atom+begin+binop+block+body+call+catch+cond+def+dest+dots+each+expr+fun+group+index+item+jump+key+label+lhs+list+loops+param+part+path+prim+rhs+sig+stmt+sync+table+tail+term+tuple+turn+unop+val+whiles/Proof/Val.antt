@@ -4,9 +4,9 @@ use Prim.Native.Nat.{ℕ}
 use borrow.Author.Needs.{needs}
 use native.Mathlib.Omega.{arith}
 use Rattle.grammar.specs.Reading.Expr.{expr}
-use Rattle.scan.proofs.Laws.{way, here, did-not, taken, not-taken, blind, later}
+use Rattle.scan.proofs.Laws.{way, here, did-not, taken, not-taken, fails-unseen, later}
 use Rattle.nodes.proofs.Made.{made-none}
-use Rattle.cycle.proofs.PathsList.{value-looks, value-none, value-some}
+use Rattle.cycle.proofs.PathsControl.{value-looks, value-none, value-some}
 use Rattle.cycle.proofs.val.Reads as reads
 use Rattle.cycle.proofs.+arm+atom+begin+binop+block+body+call+catch+cond+def+dest+dots+each+expr+fun+group+index+item+jump+key+label+lhs+list+loops+param+part+path+prim+rhs+sig+stmt+sync+table+tail+term+tuple+turn+unop+val+whiles.Lts-val as lts
 use Rattle.cycle.proofs.expr.Reads as expr-reads
@@ -90,4 +90,4 @@ returns-2 t c = let tk = taken (known (After-kind t) (search) .kind .given .1) (
     later (value-some _ _ tk (sym (known (After-ends-control t) (search) .ends-control .ensures) ∙ known (Else1 t) (search) .if1 .left)) (known (After-expr t) (search) .expr .ensures) (omega arith) (omega arith) (omega arith)
 
 pub returns-3 : (t : ℕ) → lts.Need-returns-3 (calls t) (val-at t) reads.Post
-returns-3 t c = did-not (blind here (value-looks _ _ _) (not-taken (known (After-s t) (search) .s .given .1) (known (After-look t) (search) .look .ensures)) refl (omega arith))
+returns-3 t c = did-not (fails-unseen here (value-looks _ _ _) (not-taken (known (After-s t) (search) .s .given .1) (known (After-look t) (search) .look .ensures)) refl (omega arith))

@@ -6,7 +6,8 @@ use native.Mathlib.Omega.{arith}
 use Rattle.tree.specs.Tree.{records}
 use Rattle.grammar.specs.Reading.Expr.{expr}
 use Rattle.scan.proofs.Laws.{way, goes, done, undone, did-not, fails, lacks, passed, unpassed, gets, prefix}
-use Rattle.cycle.proofs.PathsStmt.{closable, under, turning-step}
+use Rattle.cycle.proofs.PathsBody.{closable, under}
+use Rattle.cycle.proofs.PathsStmt.{whiles-step}
 use Rattle.cycle.proofs.whiles.Reads as reads
 use Rattle.cycle.proofs.+arm+atom+begin+binop+block+body+call+catch+cond+def+dest+dots+each+expr+fun+group+index+item+jump+key+label+lhs+list+loops+param+part+path+prim+rhs+sig+stmt+sync+table+tail+term+tuple+turn+unop+val+whiles.Lts-whiles as lts
 use Rattle.cycle.proofs.body.Reads as body-reads
@@ -78,7 +79,7 @@ pub same-length : (t : ℕ) → lts.Need-same-length (calls t) (whiles-at t) rea
 same-length t c = search needs
 
 pub returns : (t : ℕ) → lts.Need-returns (calls t) (whiles-at t) reads.Post
-returns t c = let path = way _ (turning-step _ _ _) in
+returns t c = let path = way _ (whiles-step _ _ _) in
     did-not (fails _ path (undone (c .match .keys2) (known (After-expr t) (search) .expr .ensures)) refl (omega arith))
 
 pub expect-requires : (t : ℕ) → lts.Need-expect-requires (calls t) (whiles-at t) reads.Post
@@ -93,7 +94,7 @@ same-length-2 t c = search needs
 
 pub returns-2 : (t : ℕ) → lts.Need-returns-2 (calls t) (whiles-at t) reads.Post
 returns-2 t c = let w = done (known (After-r t) (search) .r .given .1) (known (After-expr t) (search) .expr .ensures) in
-    let path = way _ (turning-step _ _ _) in
+    let path = way _ (whiles-step _ _ _) in
     let on = goes _ path (w .same) in
     did-not (lacks _ (unpassed (c .match2 .keys2) (known (After-expect t) (search) .expect .ensures)) on (prefix w (omega arith)) (omega arith))
 
@@ -118,7 +119,7 @@ same-length-3 t c = search needs
 
 pub returns-3 : (t : ℕ) → lts.Need-returns-3 (calls t) (whiles-at t) reads.Post
 returns-3 t c = let w = done (after-r-of-after-body-arg2 t (search) .r .given .1) (after-expr-of-after-body-arg2 t (search) .expr .ensures) in
-    let path = way _ (turning-step _ _ _) in
+    let path = way _ (whiles-step _ _ _) in
     let on = goes _ path (w .same) in
     let ps = passed (after-s-of-after-body-arg2 t (search) .s .given .1) (after-expect-of-after-body-arg2 t (search) .expect .ensures) in
     let g = ps .got in

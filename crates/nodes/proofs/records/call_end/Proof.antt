@@ -7,11 +7,12 @@ use Rattle.tree.specs.NodeKind
 use Rattle.tree.specs.Tree.{records}
 use Rattle.tree.specs.Node
 use Rattle.grammar.specs.Reading.Primary.{arguments}
-use Rattle.scan.proofs.Text.{two-words}
-use Rattle.nodes.proofs.Ends.{joins, over-one, call-tuple, call-other}
+use Rattle.nodes.proofs.Ends.{joins, call-tuple, call-other}
+use Rattle.nodes.proofs.Made.{over-one}
 use Rattle.nodes.proofs.records.call_end.Statement.{statement}
 use Rattle.nodes.proofs.records.call_end.Tie as tie
 use Rattle.tree.proofs.Known.{known}
+use Rattle.tree.specs.Written.{two-written}
 
 abbrev start-of-after-slice-known3 : tie.After-slice-known3 → tie.Start
 start-of-after-slice-known3 c = search
@@ -47,7 +48,7 @@ same-length-2 c = search needs
 returns-2 : tie.Need-returns-2
 returns-2 c = let a = known tie.After-list-end (search) .list-end .ensures in
     let b = known tie.After-emit2 (search) .emit2 .ensures in
-    record { up = omega arith; far = omega arith; text = λ X t s text. rw (call-other (start-of-after-slice-known3 (search) .args .store .now) X (start-of-after-slice-known3 (search) .args .a) (omega arith) s (λ x. known tie.Else1 (search) .if1 .left (after-kind-of-of-after-slice-known3 (search) .kind-of .ensures ∙ x)) text) (joins X (records t) (257 ∷ 0 ∷ 295 ∷ 0 ∷ []) (two-words a b) text) }
+    record { up = omega arith; far = omega arith; text = λ X t s text. rw (call-other (start-of-after-slice-known3 (search) .args .store .now) X (start-of-after-slice-known3 (search) .args .a) (omega arith) s (λ x. known tie.Else1 (search) .if1 .left (after-kind-of-of-after-slice-known3 (search) .kind-of .ensures ∙ x)) text) (joins X (records t) (257 ∷ 0 ∷ 295 ∷ 0 ∷ []) (two-written a b) text) }
 
 pub call-end-spec : {M : Type 1} → statement M
 call-end-spec =

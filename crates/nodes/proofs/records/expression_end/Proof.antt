@@ -9,7 +9,8 @@ use Rattle.tree.specs.Node
 use Rattle.grammar.specs.Reading.Result.{ifb}
 use Rattle.grammar.specs.Reading.Stmt.{lone-ellipsis}
 use Rattle.nodes.specs.Parts.{expression-end}
-use Rattle.nodes.proofs.Ends.{joins, over-one, wrote, refused}
+use Rattle.nodes.proofs.Ends.{joins, wrote, refused}
+use Rattle.nodes.proofs.Made.{over-one}
 use Rattle.nodes.proofs.records.expression_end.Statement.{statement}
 use Rattle.nodes.proofs.records.expression_end.Tie as tie
 use Rattle.tree.proofs.Known.{known}

@@ -5,7 +5,8 @@ use native.Mathlib.Omega.{arith}
 use Rattle.tree.specs.NodeKind
 use Rattle.tree.specs.Tree.{records}
 use Rattle.grammar.specs.Reading.Primary.{with-action}
-use Rattle.nodes.proofs.Ends.{joins, over-one}
+use Rattle.nodes.proofs.Ends.{joins}
+use Rattle.nodes.proofs.Made.{over-one}
 use Rattle.nodes.proofs.records.group_end.Statement.{statement}
 use Rattle.nodes.proofs.records.group_end.Tie as tie
 use Rattle.tree.proofs.Known.{known}

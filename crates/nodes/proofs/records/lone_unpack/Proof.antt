@@ -3,10 +3,10 @@ use mathlib.Core.Path.{_∙_}
 use borrow.Author.Needs.{needs}
 use native.Mathlib.Omega.{arith}
 use Rattle.tree.specs.Tree.{count, records}
-use Rattle.scan.proofs.Text.{two-words}
 use Rattle.nodes.proofs.records.lone_unpack.Statement.{statement}
 use Rattle.nodes.proofs.records.lone_unpack.Tie as tie
 use Rattle.tree.proofs.Known.{known}
+use Rattle.tree.specs.Written.{two-written}
 
 emit-requires : tie.Need-emit-requires
 emit-requires c κs = search needs
@@ -21,7 +21,7 @@ returns : tie.Need-returns
 unfolding records count
 returns c = let a = known tie.After-emit (search) .emit .ensures in
     let b = known tie.After-emit2 (search) .emit2 .ensures in
-    record { up = omega arith; far = omega arith; text = two-words a b; whole = b .whole ∙ a .whole }
+    record { up = omega arith; far = omega arith; text = two-written a b; whole = b .whole ∙ a .whole }
 
 pub lone-unpack-spec : {M : Type 1} → statement M
 lone-unpack-spec = tie.close (tie.spec emit-requires emit-requires-2 same-length returns)

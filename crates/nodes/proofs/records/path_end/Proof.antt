@@ -6,11 +6,11 @@ use borrow.Author.Needs.{needs}
 use native.Mathlib.Omega.{arith}
 use Rattle.tree.specs.NodeKind
 use Rattle.tree.specs.Tree.{all-records}
-use Rattle.scan.proofs.Text.{two-words}
 use Rattle.nodes.proofs.Ends.{joins, path-none, path-some}
 use Rattle.nodes.proofs.records.path_end.Statement.{statement}
 use Rattle.nodes.proofs.records.path_end.Tie as tie
 use Rattle.tree.proofs.Known.{known}
+use Rattle.tree.specs.Written.{two-written}
 
 abbrev start-of-after-emit : tie.After-emit → tie.Start
 start-of-after-emit c = search
@@ -31,7 +31,7 @@ returns-2 : tie.Need-returns-2
 returns-2 c = let a = known tie.After-list-end (search) .list-end .ensures in
     let b = known tie.After-emit (search) .emit .ensures in
     let n = start-of-after-emit (search) .args .n in
-    record { up = omega arith; far = omega arith; text = λ X f s text. rw (path-some f n s (known tie.Else1 (search) .if1 .left)) (joins X (all-records f) ((1 + 256 * n) ∷ 0 ∷ (NodeKind.Primary + 512) ∷ 0 ∷ []) (two-words a b) text) }
+    record { up = omega arith; far = omega arith; text = λ X f s text. rw (path-some f n s (known tie.Else1 (search) .if1 .left)) (joins X (all-records f) ((1 + 256 * n) ∷ 0 ∷ (NodeKind.Primary + 512) ∷ 0 ∷ []) (two-written a b) text) }
 
 pub path-end-spec : {M : Type 1} → statement M
 path-end-spec = tie.close (tie.spec returns list-end-requires emit-requires same-length returns-2)

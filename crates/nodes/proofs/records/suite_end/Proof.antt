@@ -2,10 +2,10 @@
 use mathlib.Core.Path.{_∙_}
 use borrow.Author.Needs.{needs}
 use native.Mathlib.Omega.{arith}
-use Rattle.scan.proofs.Text.{three-words}
 use Rattle.nodes.proofs.records.suite_end.Statement.{statement}
 use Rattle.nodes.proofs.records.suite_end.Tie as tie
 use Rattle.tree.proofs.Known.{known}
+use Rattle.tree.specs.Written.{three-written}
 
 abbrev after-list-end-of-after-store2 : tie.After-store2 → tie.After-list-end
 after-list-end-of-after-store2 c = search
@@ -26,7 +26,7 @@ returns : tie.Need-returns
 returns c = let a = after-list-end-of-after-store2 (search) .list-end .ensures in
     let b = known tie.After-emit (search) .emit .ensures in
     let d = known tie.After-emit2 (search) .emit2 .ensures in
-    record { up = omega arith; far = omega arith; text = three-words a b d; whole = d .whole ∙ b .whole ∙ a .whole }
+    record { up = omega arith; far = omega arith; text = three-written a b d; whole = d .whole ∙ b .whole ∙ a .whole }
 
 pub suite-end-spec : {M : Type 1} → statement M
 suite-end-spec =

@@ -9,7 +9,8 @@ use Rattle.tree.specs.Tree.{records}
 use Rattle.tree.specs.Node
 use Rattle.grammar.specs.Reading.Result.{ifb}
 use Rattle.nodes.specs.Parts.{unpack-end}
-use Rattle.nodes.proofs.Ends.{kind-read, joins, over-one, wrote, refused}
+use Rattle.nodes.proofs.Ends.{kind-read, joins, wrote, refused}
+use Rattle.nodes.proofs.Made.{over-one}
 use Rattle.nodes.proofs.records.unpack_end.Statement.{statement}
 use Rattle.nodes.proofs.records.unpack_end.Tie as tie
 use Rattle.tree.proofs.Known.{known}

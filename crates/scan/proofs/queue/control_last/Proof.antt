@@ -6,7 +6,7 @@ use borrow.Author.Needs.{needs}
 use lib.ListN.{drop}
 use Rattle.grammar.specs.Reading.Result.{ok, then}
 use Rattle.grammar.specs.Reading.Stmt.{control-last, not-last as not-last-def}
-use Rattle.scan.proofs.Laws.{way, here, link, ends, taken, not-taken, blind}
+use Rattle.scan.proofs.Laws.{way, here, link, ends, taken, not-taken, fails-unseen}
 use Rattle.scan.proofs.Waiting.{chosen, other, push-full, pushes, queues-not}
 use Rattle.scan.proofs.queue.control_last.Statement.{statement}
 use Rattle.scan.proofs.queue.control_last.Tie as tie
@@ -59,7 +59,7 @@ returns-3 c = let tk = taken (known tie.After-kind (search) .kind .given .1) (af
 
 returns-4 : tie.Need-returns-4
 unfolding control-last
-returns-4 c = queues-not (blind here (record { go = _; is = refl }) (not-taken (known tie.After-s (search) .s .given .1) (known tie.After-look (search) .look .ensures)) refl (omega arith))
+returns-4 c = queues-not (fails-unseen here (record { go = _; is = refl }) (not-taken (known tie.After-s (search) .s .given .1) (known tie.After-look (search) .look .ensures)) refl (omega arith))
 
 pub control-last-spec : {M : Type 1} → statement M
 control-last-spec =

@@ -1,32 +1,23 @@
 -- `parser::queue::wipe` meets its contract. Assumes nothing.
 use mathlib.Core.Path.{_≡_, sym, ap, _∙_}
-use mathlib.Core.List.{List, [], _∷_, _++_, append-nil, append-assoc}
-use Prim.Native.Nat.{ℕ, _+_, _-_, _≤_, _<_}
-use native.Mathlib.Numerals.{add-one}
-use native.Mathlib.Nat.{sub-self}
+use mathlib.Core.List.{List, _++_}
+use Prim.Native.Nat.{ℕ, _-_, _≤_}
 use native.Mathlib.Omega.{arith}
 use borrow.Author.Needs.{needs}
-use lib.ListN.{length, take, set, replicate, length-set, replicate-append-replicate}
-use lib.Seq.{take-suc-set, take-all, length-take-le}
+use lib.ListN.{length, take, replicate, length-set}
+use lib.Seq.{take-all, length-take-le}
 use Rattle.grammar.specs.Reading.Limit.{queue-limit}
 use Rattle.grammar.specs.Reading.Next.{pad}
 use Rattle.scan.proofs.queue.wipe.Statement.{statement}
 use Rattle.scan.proofs.queue.wipe.Tie as tie
 use Rattle.tree.proofs.Known.{known}
+use Rattle.tree.specs.Written.{zeros-none, zeros-next}
 
 abbrev Inv-loop : tie.InvT-loop
 Inv-loop waiting q₀ i₀ q i = (waiting ≤ i) × (i ≤ queue-limit) × (length q ≡ queue-limit) × (length q₀ ≡ queue-limit) × (take i q ≡ take waiting q₀ ++ replicate (i - waiting) 0)
 
 abbrev μ-loop : tie.MeasureT-loop
 μ-loop waiting q₀ i₀ q i = queue-limit - i
-
-none : (S : List ℕ) (from : ℕ) → take from S ≡ take from S ++ replicate (from - from) 0
-none S from = rw sub-self (sym (append-nil (take from S)))
-
-next : (S S₀ : List ℕ) (from i : ℕ) → from ≤ i → i < length S → take i S ≡ take from S₀ ++ replicate (i - from) 0 → take (i + 1) (set S i 0) ≡ take from S₀ ++ replicate (i + 1 - from) 0
-next S S₀ from i h l e =
-    let m : i + 1 - from ≡ i - from + 1 = omega arith in
-    rw (add-one i) (take-suc-set S i 0 l) ∙ ap (λ x. x ++ 0 ∷ []) e ∙ append-assoc (take from S₀) (replicate (i - from) 0) (0 ∷ []) ∙ rw (m, ← replicate-append-replicate {A = ℕ} (i - from) 1 0)
 
 all : (S S₀ : List ℕ) (from i : ℕ) → queue-limit ≤ i → i ≤ queue-limit → from ≤ queue-limit → length S ≡ queue-limit → length S₀ ≡ queue-limit → take i S ≡ take from S₀ ++ replicate (i - from) 0 → S ≡ pad (take from S₀)
 all S S₀ from i h g f n m e =
@@ -41,7 +32,7 @@ abbrev Start : Type 0
 Start = tie.Start Inv-loop μ-loop
 
 loop-holds : tie.Need-loop-holds Inv-loop μ-loop
-loop-holds c = (omega arith, omega arith, search needs, search needs, none (c .args .queue) (c .args .waiting))
+loop-holds c = (omega arith, omega arith, search needs, search needs, zeros-none (c .args .queue) (c .args .waiting))
 
 mul-q : tie.Need-mul-q Inv-loop μ-loop
 mul-q c = search needs
@@ -56,7 +47,7 @@ loop-less : tie.Need-loop-less Inv-loop μ-loop
 loop-less c = search needs
 
 loop-again : tie.Need-loop-again Inv-loop μ-loop
-loop-again c = (omega arith, omega arith, simp length-set (known At-loop (search) .loop .inv .2), known At-loop (search) .loop .inv .3, next _ _ _ _ (known At-loop (search) .loop .inv .0) (omega arith) (known At-loop (search) .loop .inv .4))
+loop-again c = (omega arith, omega arith, simp length-set (known At-loop (search) .loop .inv .2), known At-loop (search) .loop .inv .3, zeros-next _ _ _ _ (known At-loop (search) .loop .inv .0) (omega arith) (known At-loop (search) .loop .inv .4))
 
 returns : tie.Need-returns Inv-loop μ-loop
 returns c = let i = known At-loop (search) .loop .inv in
