@@ -140,15 +140,15 @@ module _ (R : Reader) (T : List ℕ) (m : ℕ) where
           step-reads h = step-goes ∙ other _ _ (le-ltb _ _ z) ∙ other _ _ (le-ltb _ _ v) ∙ other _ _ (le-ltb _ _ h)
 
 -- WHAT A CALL LEAVES
-abbrev left : Stepped → List ℕ → Called
-left s l = record { step = s; store = l }
+abbrev leaves : Stepped → List ℕ → Called
+leaves s l = record { step = s; store = l }
 
 abbrev stands : Answer → ℕ → List ℕ → Stepped
 stands a p q = record { answer = a; reader = reader-at p q }
 
 -- the store is cleared whole
-pub bare-out : {s s′ : Stepped} {X : Called} (S S′ : List ℕ) (m : ℕ) → S′ ≡ take 0 S ++ replicate (length S - 0) 0 → length S ≡ m → s ≡ s′ → X ≡ left s′ (replicate m 0) → left s S′ ≡ X
-bare-out {s} {s′} S S′ m e k i x = ap (left s) (e ∙ rw (sub-zero, k)) ∙ ap (λ (t : Stepped). left t (replicate m 0)) i ∙ sym x
+pub bare-out : {s s′ : Stepped} {X : Called} (S S′ : List ℕ) (m : ℕ) → S′ ≡ take 0 S ++ replicate (length S - 0) 0 → length S ≡ m → s ≡ s′ → X ≡ leaves s′ (replicate m 0) → leaves s S′ ≡ X
+bare-out {s} {s′} S S′ m e k i x = ap (leaves s) (e ∙ rw (sub-zero, k)) ∙ ap (λ (t : Stepped). leaves t (replicate m 0)) i ∙ sym x
 
 called-won : (n m p : ℕ) (d : Res Tree) {t : Tree} {q : List Error} {r : List ℕ} → out [] d ≡ won t q r → called n m p d ≡ tree-called m (n - length r / 2) (records t) q
 called-won n m p (ok u s) {t} {q} {r} e =
@@ -206,31 +206,32 @@ module _ (T : List ℕ) (x m : ℕ) (even : Even T) where
   abbrev comes : Called
   comes = called (x + length T / 2) m x (next depth-limit [] T)
 
-  pub halt-out : {k : ℕ} {s : Stepped} (S S′ : List ℕ) → As [] (next depth-limit [] T) [] (stop k) → S′ ≡ take 0 S ++ replicate (length S - 0) 0 → length S ≡ m → s ≡ halted 0 x k .step → left s S′ ≡ comes
+  pub halt-out : {k : ℕ} {s : Stepped} (S S′ : List ℕ) → As [] (next depth-limit [] T) [] (stop k) → S′ ≡ take 0 S ++ replicate (length S - 0) 0 → length S ≡ m → s ≡ halted 0 x k .step → leaves s S′ ≡ comes
   halt-out S S′ a e l i = bare-out S S′ m e l i (called-halt (x + length T / 2) m x (next depth-limit [] T) (a .is))
 
-  pub lost-out : {f : Failure} {S Q S₁ Q₁ : List ℕ} {a : Answer} {s : Stepped} (S′ : List ℕ) → Lost (next depth-limit [] T) T 0 0 0 0 S Q f S₁ Q₁ → S′ ≡ take 0 S₁ ++ replicate (length S₁ - 0) 0 → length S₁ ≡ m → a ≡ error-answer (f .error) → s ≡ stands a (x + f .pos / 2) (waiting-errors (f .waiting) Q₁) → left s S′ ≡ comes
+  pub lost-out : {f : Failure} {S Q S₁ Q₁ : List ℕ} {a : Answer} {s : Stepped} (S′ : List ℕ) → Lost (next depth-limit [] T) T 0 0 0 0 S Q f S₁ Q₁ → S′ ≡ take 0 S₁ ++ replicate (length S₁ - 0) 0 → length S₁ ≡ m → a ≡ error-answer (f .error) → s ≡ stands a (x + f .pos / 2) (waiting-errors (f .waiting) Q₁) → leaves s S′ ≡ comes
   lost-out {f} {S₁ = S₁} {Q₁ = Q₁} {a = a} S′ l c k n i =
       let d = next depth-limit [] T in
-      let y : comes ≡ bare m (error-answer (f .error)) (reader-at (x + f .pos / 2) (waiting-errors (f .waiting) Q₁)) =
-      called-lost (x + length T / 2) m x d (l .same .is) ∙ ap (λ (j : ℕ). bare m (error-answer (f .error)) (reader-at j (waiting-errors (f .waiting) Q₁))) (place T x (f .pos) even (even-lost (even-next T even) (l .same .is)) (l .moved .within)) in
-      bare-out S₁ S′ m c k (i ∙ ap (λ (b : Answer). stands b (x + f .pos / 2) (waiting-errors (f .waiting) Q₁)) n) y
+      let q = waiting-errors (f .waiting) Q₁ in
+      let y : comes ≡ bare m (error-answer (f .error)) (reader-at (x + f .pos / 2) q) =
+      called-lost (x + length T / 2) m x d (l .same .is) ∙ ap (λ (j : ℕ). bare m (error-answer (f .error)) (reader-at j q)) (place T x (f .pos) even (even-lost (even-next T even) (l .same .is)) (l .moved .within)) in
+      bare-out S₁ S′ m c k (i ∙ ap (λ (b : Answer). stands b (x + f .pos / 2) q) n) y
 
-  pub tree-out : {p a w : ℕ} {S Q S₁ Q₁ : List ℕ} {s : Stepped} (S′ : List ℕ) → (g : Wrote records (next depth-limit [] T) clean T 0 0 8 0 0 S Q p a w S₁ Q₁) → S′ ≡ take a S₁ ++ replicate (length S₁ - a) 0 → length S₁ ≡ m → a ≤ m → s ≡ stands (ATree (a / 2)) (x + p / 2) (waiting-errors w Q₁) → left s S′ ≡ comes
+  pub tree-out : {p a w : ℕ} {S Q S₁ Q₁ : List ℕ} {s : Stepped} (S′ : List ℕ) → (g : Wrote records (next depth-limit [] T) clean T 0 0 8 0 0 S Q p a w S₁ Q₁) → S′ ≡ take a S₁ ++ replicate (length S₁ - a) 0 → length S₁ ≡ m → a ≤ m → s ≡ stands (ATree (a / 2)) (x + p / 2) (waiting-errors w Q₁) → leaves s S′ ≡ comes
   tree-out {p} {a} {w} {S₁ = S₁} {Q₁ = Q₁} {s = s} S′ g c k h i =
       let d = next depth-limit [] T in
       let t : List ℕ = records (g .what) in
       let b : take a S₁ ≡ t = g .text in
       let long : a ≡ length t = sym (length-take-le a S₁ (omega arith)) ∙ ap length b in
-      let y : comes ≡ left (stands (ATree (length t / 2)) (x + p / 2) (waiting-errors w Q₁)) (t ++ replicate (m - length t) 0) =
+      let y : comes ≡ leaves (stands (ATree (length t / 2)) (x + p / 2) (waiting-errors w Q₁)) (t ++ replicate (m - length t) 0) =
       called-won (x + length T / 2) m x d (g .same .is) ∙ ap (λ (j : ℕ). tree-called m j t (waiting-errors w Q₁)) (place T x p even (even-won (even-next T even) (g .same .is)) (g .moved .within)) in
-      ap (λ (l : List ℕ). left s l) (c ∙ ap (λ (l : List ℕ). l ++ replicate (length S₁ - a) 0) b ∙ ap (λ (j : ℕ). t ++ replicate (j - a) 0) k)
-      ∙ ap (λ (r : Stepped). left r (t ++ replicate (m - a) 0)) i
-      ∙ ap (λ (j : ℕ). left (stands (ATree (j / 2)) (x + p / 2) (waiting-errors w Q₁)) (t ++ replicate (m - j) 0)) long
+      ap (λ (l : List ℕ). leaves s l) (c ∙ ap (λ (l : List ℕ). l ++ replicate (length S₁ - a) 0) b ∙ ap (λ (j : ℕ). t ++ replicate (j - a) 0) k)
+      ∙ ap (λ (r : Stepped). leaves r (t ++ replicate (m - a) 0)) i
+      ∙ ap (λ (j : ℕ). leaves (stands (ATree (j / 2)) (x + p / 2) (waiting-errors w Q₁)) (t ++ replicate (m - j) 0)) long
       ∙ sym y
 
 -- the error that waited longest
-pub front-out : {e : ℕ} {k : ErrorKind} {Q : List ℕ} {q : List Error} {s : Stepped} {X : Called} (R : Reader) (S S′ : List ℕ) (m : ℕ) → S′ ≡ take 0 S ++ replicate (length S - 0) 0 → length S ≡ m → X ≡ answered m R Q → Q ≡ e ∷ q → k ≡ error-kind e → s ≡ stands (AError k) (R .position) q → left s S′ ≡ X
+pub front-out : {e : ℕ} {k : ErrorKind} {Q : List ℕ} {q : List Error} {s : Stepped} {X : Called} (R : Reader) (S S′ : List ℕ) (m : ℕ) → S′ ≡ take 0 S ++ replicate (length S - 0) 0 → length S ≡ m → X ≡ answered m R Q → Q ≡ e ∷ q → k ≡ error-kind e → s ≡ stands (AError k) (R .position) q → leaves s S′ ≡ X
 front-out {q = q} R S S′ m c l x t n i = bare-out S S′ m c l (i ∙ ap (λ (k : ErrorKind). stands (AError k) (R .position) q) n) (x ∙ ap (answered m R) t)
 
 -- THE UNREAD TOKENS, from a position on

@@ -35,31 +35,28 @@ started d T p Q a e = rw e a
 
 -- a statement that was read, or a stop
 module _ {D d : Res Tree} (or : ℕ → List Error → List ℕ → Res Tree) {T : List ℕ} {p a w : ℕ} {S Q S′ Q′ : List ℕ} (x : As [] D (waiting-errors w Q) (either (waiting-errors w Q) d (λ t q s. ok t s) or)) (e : a ≡ 0) where
-  ended-as : (r : Step) → OneOf (0 ∷ 2 ∷ []) (tagOf the-type r) → Agrees records d T p (p + 2) 14 a w S Q S′ Q′ r → Agrees records D T 0 0 8 0 0 S Q S′ Q′ r
-  ended-as (Done p′ a′ w′) o h =
+  pub ended : {r : Step} → OneOf (0 ∷ 2 ∷ []) (tagOf the-type r) → Agrees records d T p (p + 2) 14 a w S Q S′ Q′ r → Agrees records D T 0 0 8 0 0 S Q S′ Q′ r
+  ended {r = Done p′ a′ w′} o h =
       let u = h .how in
       let m = u .moved in
       let k = u .room in
       record { how = record { what = u .what; same = wins _ or x (u .same); moved = omega arith; room = omega arith; text = u .text ∙ rw e } }
-  ended-as (Fail failure) o h = absurd (⊎-elim (λ e. omega arith) (λ e. omega arith) o)
-  ended-as (Stop n) o h = record { how = record { how = halts _ or x (h .how .how) } }
-
-  pub ended : {r : Step} → OneOf (0 ∷ 2 ∷ []) (tagOf the-type r) → Agrees records d T p (p + 2) 14 a w S Q S′ Q′ r → Agrees records D T 0 0 8 0 0 S Q S′ Q′ r
-  ended {r = r} o h = ended-as r o h
+  ended {r = Fail failure} o h = absurd (⊎-elim (λ e. omega arith) (λ e. omega arith) o)
+  ended {r = Stop n} o h = record { how = record { how = halts _ or x (h .how .how) } }
 
 pub failed-full : (d e w : ℕ) (Q ts : List ℕ) → w ≡ queue-limit → w ≤ length Q → failed d e (waiting-errors w Q) ts ≡ stop queue-full
 unfolding failed
 failed-full d e w Q ts h g = push-full e w Q _ h g
 
 -- the resynchronization, before the answer f
-abbrev pub shed : ℕ → List ℕ → ℕ → List Error → Res Tree
-shed d ts f q = then q (synchronize (at-depth d) false (length ts) q ts) λ u q₃ r. fail f q₃ r
+abbrev pub sync-fail : ℕ → List ℕ → ℕ → List Error → Res Tree
+sync-fail d ts f q = then q (synchronize (at-depth d) false (length ts) q ts) λ u q₃ r. fail f q₃ r
 
 front-of : {A : Type 0} (q : List Error) {e : ℕ} {q′ : List Error} (k : ℕ → List Error → Res A) → q ≡ e ∷ q′ → front q k ≡ k e q′
 unfolding front
 front-of q k x = rw x
 
-pub failed-step : (d e w : ℕ) (Q ts : List ℕ) {q q′ : List Error} {f : ℕ} → (w ≡ queue-limit → ⊥) → w ≤ length Q → q ≡ waiting-errors w Q ++ e ∷ [] → q ≡ f ∷ q′ → As (waiting-errors w Q) (failed d e (waiting-errors w Q) ts) q′ (shed d ts f q′)
+pub failed-step : (d e w : ℕ) (Q ts : List ℕ) {q q′ : List Error} {f : ℕ} → (w ≡ queue-limit → ⊥) → w ≤ length Q → q ≡ waiting-errors w Q ++ e ∷ [] → q ≡ f ∷ q′ → As (waiting-errors w Q) (failed d e (waiting-errors w Q) ts) q′ (sync-fail d ts f q′)
 unfolding failed
 failed-step d e w Q ts {q} {q′} {f} h g x y =
-    link (pushes e w Q (λ q₁. front q₁ (shed d ts)) h g x) (link (way q (front-of q (shed d ts) y)) (lose-as q q′ q′ f (synchronize (at-depth d) false (length ts) q′ ts)))
+    link (pushes e w Q (λ q₁. front q₁ (sync-fail d ts)) h g x) (link (way q (front-of q (sync-fail d ts) y)) (lose-as q q′ q′ f (synchronize (at-depth d) false (length ts) q′ ts)))
