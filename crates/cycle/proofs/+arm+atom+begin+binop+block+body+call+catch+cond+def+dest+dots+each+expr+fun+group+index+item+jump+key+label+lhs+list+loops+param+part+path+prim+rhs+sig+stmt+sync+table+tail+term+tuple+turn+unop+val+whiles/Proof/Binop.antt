@@ -2,6 +2,7 @@
 use mathlib.Core.Path.{_≡_, refl, _∙_}
 use mathlib.Core.List.{List, _++_}
 use Prim.Native.Nat.{ℕ, _+_, _-_, _≤_}
+use borrow.Fn.Kinds.{In, Out}
 use borrow.Author.Needs.{needs}
 use native.Mathlib.Omega.{arith}
 use lib.ListN.{length, take, drop, length-drop}
@@ -12,6 +13,7 @@ use Rattle.scan.proofs.Laws.{way, here, link, goes, done, undone, did-not, take
 use Rattle.nodes.proofs.Made.{made-two}
 use Rattle.cycle.proofs.Climb.{climb, binop-step, climb-looks, climb-ends, climb-takes}
 use Rattle.cycle.proofs.PathsExpr.{binop-unary}
+use Rattle.cycle.proofs.binop.Kinds as kinds
 use Rattle.cycle.proofs.binop.Reads as reads
 use Rattle.cycle.proofs.+arm+atom+begin+binop+block+body+call+catch+cond+def+dest+dots+each+expr+fun+group+index+item+jump+key+label+lhs+list+loops+param+part+path+prim+rhs+sig+stmt+sync+table+tail+term+tuple+turn+unop+val+whiles.Lts-binop as lts
 use Rattle.cycle.proofs.unop.Reads as unop-reads
@@ -40,133 +42,71 @@ Inv-loop tokens store₀ queue₀ depth l pos at waiting p0 a0 w0 p₀ a₀ w₀
 abbrev pub μ-loop : lts.MeasureT-loop
 μ-loop tokens store₀ queue₀ depth l pos at waiting p0 a0 w0 p₀ a₀ w₀ store queue p a w = length tokens - p
 
-abbrev Then1 : ℕ → Type 0
-Then1 t = lts.Then1 (calls t) (binop-at t) reads.Post Inv-loop μ-loop
+-- a place of its code
+abbrev Place : (lts.Claims → In 3 kinds.ps → Out 3 kinds.ps kinds.r → lts.InvT-loop → lts.MeasureT-loop → Type 0) → ℕ → Type 0
+Place P t = P (calls t) (binop-at t) reads.Post Inv-loop μ-loop
 
-abbrev After-unop : ℕ → Type 0
-After-unop t = lts.After-unop (calls t) (binop-at t) reads.Post Inv-loop μ-loop
-
-abbrev Else1 : ℕ → Type 0
-Else1 t = lts.Else1 (calls t) (binop-at t) reads.Post Inv-loop μ-loop
-
-abbrev At-match-keys2 : ℕ → Type 0
-At-match-keys2 t = lts.At-match-keys2 (calls t) (binop-at t) reads.Post Inv-loop μ-loop
-
-abbrev After-unop2 : ℕ → Type 0
-After-unop2 t = lts.After-unop2 (calls t) (binop-at t) reads.Post Inv-loop μ-loop
-
-abbrev After-first : ℕ → Type 0
-After-first t = lts.After-first (calls t) (binop-at t) reads.Post Inv-loop μ-loop
-
-abbrev After-slice-known3 : ℕ → Type 0
-After-slice-known3 t = lts.After-slice-known3 (calls t) (binop-at t) reads.Post Inv-loop μ-loop
-
-abbrev Start : ℕ → Type 0
-Start t = lts.Start (calls t) (binop-at t) reads.Post Inv-loop μ-loop
-
-abbrev After-known-told2 : ℕ → Type 0
-After-known-told2 t = lts.After-known-told2 (calls t) (binop-at t) reads.Post Inv-loop μ-loop
-
-abbrev At-loop : ℕ → Type 0
-At-loop t = lts.At-loop (calls t) (binop-at t) reads.Post Inv-loop μ-loop
-
-abbrev After-kind : ℕ → Type 0
-After-kind t = lts.After-kind (calls t) (binop-at t) reads.Post Inv-loop μ-loop
-
-abbrev After-look : ℕ → Type 0
-After-look t = lts.After-look (calls t) (binop-at t) reads.Post Inv-loop μ-loop
-
-abbrev After-op-level : ℕ → Type 0
-After-op-level t = lts.After-op-level (calls t) (binop-at t) reads.Post Inv-loop μ-loop
-
-abbrev Else2 : ℕ → Type 0
-Else2 t = lts.Else2 (calls t) (binop-at t) reads.Post Inv-loop μ-loop
-
-abbrev Else3 : ℕ → Type 0
-Else3 t = lts.Else3 (calls t) (binop-at t) reads.Post Inv-loop μ-loop
-
-abbrev After-slice-known4 : ℕ → Type 0
-After-slice-known4 t = lts.After-slice-known4 (calls t) (binop-at t) reads.Post Inv-loop μ-loop
-
-abbrev After-r : ℕ → Type 0
-After-r t = lts.After-r (calls t) (binop-at t) reads.Post Inv-loop μ-loop
-
-abbrev After-binop : ℕ → Type 0
-After-binop t = lts.After-binop (calls t) (binop-at t) reads.Post Inv-loop μ-loop
-
-abbrev After-emit : ℕ → Type 0
-After-emit t = lts.After-emit (calls t) (binop-at t) reads.Post Inv-loop μ-loop
-
-abbrev After-op-number : ℕ → Type 0
-After-op-number t = lts.After-op-number (calls t) (binop-at t) reads.Post Inv-loop μ-loop
-
-abbrev At-match3-keys2 : ℕ → Type 0
-At-match3-keys2 t = lts.At-match3-keys2 (calls t) (binop-at t) reads.Post Inv-loop μ-loop
-
-abbrev After-s : ℕ → Type 0
-After-s t = lts.After-s (calls t) (binop-at t) reads.Post Inv-loop μ-loop
-
-abbrev start-of-after-slice-known3 : (t : ℕ) → After-slice-known3 t → Start t
+abbrev start-of-after-slice-known3 : (t : ℕ) → Place lts.After-slice-known3 t → Place lts.Start t
 start-of-after-slice-known3 t c = search
 
-abbrev after-unop2-of-after-slice-known3 : (t : ℕ) → After-slice-known3 t → After-unop2 t
+abbrev after-unop2-of-after-slice-known3 : (t : ℕ) → Place lts.After-slice-known3 t → Place lts.After-unop2 t
 after-unop2-of-after-slice-known3 t c = search
 
-abbrev after-unop2-of-after-known-told2 : (t : ℕ) → After-known-told2 t → After-unop2 t
+abbrev after-unop2-of-after-known-told2 : (t : ℕ) → Place lts.After-known-told2 t → Place lts.After-unop2 t
 after-unop2-of-after-known-told2 t c = after-unop2-of-after-slice-known3 t (search)
 
-abbrev else1-of-after-slice-known3 : (t : ℕ) → After-slice-known3 t → Else1 t
+abbrev else1-of-after-slice-known3 : (t : ℕ) → Place lts.After-slice-known3 t → Place lts.Else1 t
 else1-of-after-slice-known3 t c = search
 
-abbrev else1-of-after-known-told2 : (t : ℕ) → After-known-told2 t → Else1 t
+abbrev else1-of-after-known-told2 : (t : ℕ) → Place lts.After-known-told2 t → Place lts.Else1 t
 else1-of-after-known-told2 t c = else1-of-after-slice-known3 t (search)
 
-abbrev start-of-after-known-told2 : (t : ℕ) → After-known-told2 t → Start t
+abbrev start-of-after-known-told2 : (t : ℕ) → Place lts.After-known-told2 t → Place lts.Start t
 start-of-after-known-told2 t c = start-of-after-slice-known3 t (search)
 
-abbrev after-first-of-after-known-told2 : (t : ℕ) → After-known-told2 t → After-first t
+abbrev after-first-of-after-known-told2 : (t : ℕ) → Place lts.After-known-told2 t → Place lts.After-first t
 after-first-of-after-known-told2 t c = search
 
-abbrev at-loop-of-after-known-told2 : (t : ℕ) → After-known-told2 t → At-loop t
+abbrev at-loop-of-after-known-told2 : (t : ℕ) → Place lts.After-known-told2 t → Place lts.At-loop t
 at-loop-of-after-known-told2 t c = search
 
-abbrev after-first-of-after-slice-known4 : (t : ℕ) → After-slice-known4 t → After-first t
+abbrev after-first-of-after-slice-known4 : (t : ℕ) → Place lts.After-slice-known4 t → Place lts.After-first t
 after-first-of-after-slice-known4 t c = after-first-of-after-known-told2 t (search)
 
-abbrev after-unop2-of-after-slice-known4 : (t : ℕ) → After-slice-known4 t → After-unop2 t
+abbrev after-unop2-of-after-slice-known4 : (t : ℕ) → Place lts.After-slice-known4 t → Place lts.After-unop2 t
 after-unop2-of-after-slice-known4 t c = after-unop2-of-after-known-told2 t (search)
 
-abbrev at-loop-of-after-slice-known4 : (t : ℕ) → After-slice-known4 t → At-loop t
+abbrev at-loop-of-after-slice-known4 : (t : ℕ) → Place lts.After-slice-known4 t → Place lts.At-loop t
 at-loop-of-after-slice-known4 t c = at-loop-of-after-known-told2 t (search)
 
-abbrev start-of-after-slice-known4 : (t : ℕ) → After-slice-known4 t → Start t
+abbrev start-of-after-slice-known4 : (t : ℕ) → Place lts.After-slice-known4 t → Place lts.Start t
 start-of-after-slice-known4 t c = start-of-after-known-told2 t (search)
 
-abbrev after-kind-of-after-known-told2 : (t : ℕ) → After-known-told2 t → After-kind t
+abbrev after-kind-of-after-known-told2 : (t : ℕ) → Place lts.After-known-told2 t → Place lts.After-kind t
 after-kind-of-after-known-told2 t c = search
 
-abbrev after-kind-of-after-slice-known4 : (t : ℕ) → After-slice-known4 t → After-kind t
+abbrev after-kind-of-after-slice-known4 : (t : ℕ) → Place lts.After-slice-known4 t → Place lts.After-kind t
 after-kind-of-after-slice-known4 t c = after-kind-of-after-known-told2 t (search)
 
-abbrev after-look-of-after-known-told2 : (t : ℕ) → After-known-told2 t → After-look t
+abbrev after-look-of-after-known-told2 : (t : ℕ) → Place lts.After-known-told2 t → Place lts.After-look t
 after-look-of-after-known-told2 t c = search
 
-abbrev after-look-of-after-slice-known4 : (t : ℕ) → After-slice-known4 t → After-look t
+abbrev after-look-of-after-slice-known4 : (t : ℕ) → Place lts.After-slice-known4 t → Place lts.After-look t
 after-look-of-after-slice-known4 t c = after-look-of-after-known-told2 t (search)
 
-abbrev after-binop-of-after-slice-known4 : (t : ℕ) → After-slice-known4 t → After-binop t
+abbrev after-binop-of-after-slice-known4 : (t : ℕ) → Place lts.After-slice-known4 t → Place lts.After-binop t
 after-binop-of-after-slice-known4 t c = search
 
-abbrev after-op-level-of-after-slice-known4 : (t : ℕ) → After-slice-known4 t → After-op-level t
+abbrev after-op-level-of-after-slice-known4 : (t : ℕ) → Place lts.After-slice-known4 t → Place lts.After-op-level t
 after-op-level-of-after-slice-known4 t c = search
 
-abbrev else2-of-after-slice-known4 : (t : ℕ) → After-slice-known4 t → Else2 t
+abbrev else2-of-after-slice-known4 : (t : ℕ) → Place lts.After-slice-known4 t → Place lts.Else2 t
 else2-of-after-slice-known4 t c = search
 
-abbrev else3-of-after-slice-known4 : (t : ℕ) → After-slice-known4 t → Else3 t
+abbrev else3-of-after-slice-known4 : (t : ℕ) → Place lts.After-slice-known4 t → Place lts.Else3 t
 else3-of-after-slice-known4 t c = search
 
-abbrev else1-of-after-slice-known4 : (t : ℕ) → After-slice-known4 t → Else1 t
+abbrev else1-of-after-slice-known4 : (t : ℕ) → Place lts.After-slice-known4 t → Place lts.Else1 t
 else1-of-after-slice-known4 t c = else1-of-after-known-told2 t (search)
 
 pub unop-requires : (t : ℕ) → lts.Need-unop-requires (calls t) (binop-at t) reads.Post Inv-loop μ-loop
@@ -176,7 +116,7 @@ pub same-length : (t : ℕ) → lts.Need-same-length (calls t) (binop-at t) read
 same-length t c = search needs
 
 pub returns : (t : ℕ) → lts.Need-returns (calls t) (binop-at t) reads.Post Inv-loop μ-loop
-returns t c = as-agrees (binop-unary _ _ _ _ (known (Then1 t) (search) .if1 .taken)) (known (After-unop t) (search) .unop .ensures)
+returns t c = as-agrees (binop-unary _ _ _ _ (known (Place lts.Then1 t) (search) .if1 .taken)) (known (Place lts.After-unop t) (search) .unop .ensures)
 
 pub unop-requires-2 : (t : ℕ) → lts.Need-unop-requires-2 (calls t) (binop-at t) reads.Post Inv-loop μ-loop
 unop-requires-2 t c κs = omega arith
@@ -191,19 +131,19 @@ pub same-length-2 : (t : ℕ) → lts.Need-same-length-2 (calls t) (binop-at t) 
 same-length-2 t c = search needs
 
 pub returns-2 : (t : ℕ) → lts.Need-returns-2 (calls t) (binop-at t) reads.Post Inv-loop μ-loop
-returns-2 t c = anew (c .again .ensures) (did-not (fails _ (way _ (binop-step _ _ _ _ (known (Else1 t) (search) .if1 .left))) (undone (known (At-match-keys2 t) (search) .match .keys2) (known (After-unop2 t) (search) .unop2 .ensures)) refl (omega arith)))
+returns-2 t c = anew (c .again .ensures) (did-not (fails _ (way _ (binop-step _ _ _ _ (known (Place lts.Else1 t) (search) .if1 .left))) (undone (known (Place lts.At-match-keys2 t) (search) .match .keys2) (known (Place lts.After-unop2 t) (search) .unop2 .ensures)) refl (omega arith)))
 
 pub loop-holds : (t : ℕ) → lts.Need-loop-holds (calls t) (binop-at t) reads.Post Inv-loop μ-loop
-loop-holds t c = let f = done (known (After-first t) (search) .first .given .1) (known (After-unop2 t) (search) .unop2 .ensures) in
+loop-holds t c = let f = done (known (Place lts.After-first t) (search) .first .given .1) (known (Place lts.After-unop2 t) (search) .unop2 .ensures) in
     record {
-      fuel = length (drop (known (After-first t) (search) .first .given .0 .0) (start-of-after-slice-known3 t (search) .args .tokens .now));
+      fuel = length (drop (known (Place lts.After-first t) (search) .first .given .0 .0) (start-of-after-slice-known3 t (search) .args .tokens .now));
       enough = rw length-drop (omega arith);
       run = λ t x. record { what = t; same = here; moved = omega arith; room = f .room; text = x };
       kept = refl;
     }
 
 pub look-requires : (t : ℕ) → lts.Need-look-requires (calls t) (binop-at t) reads.Post Inv-loop μ-loop
-look-requires t c κs = let f = done (known (After-first t) (search) .first .given .1) (known (After-unop2 t) (search) .unop2 .ensures) in
+look-requires t c κs = let f = done (known (Place lts.After-first t) (search) .first .given .1) (known (Place lts.After-unop2 t) (search) .unop2 .ensures) in
     let i = c .loop .inv in
     let g = i .run (f .what) (rebased f (omega (arith, start-of-after-slice-known3 t (search) .pre))) in
     g .moved .within
@@ -218,12 +158,12 @@ pub same-length-3 : (t : ℕ) → lts.Need-same-length-3 (calls t) (binop-at t) 
 same-length-3 t c = search needs
 
 pub returns-3 : (t : ℕ) → lts.Need-returns-3 (calls t) (binop-at t) reads.Post Inv-loop μ-loop
-returns-3 t c = let f = done (known (After-first t) (search) .first .given .1) (after-unop2-of-after-known-told2 t (search) .unop2 .ensures) in
+returns-3 t c = let f = done (known (Place lts.After-first t) (search) .first .given .1) (after-unop2-of-after-known-told2 t (search) .unop2 .ensures) in
     let path = goes _ (way _ (binop-step _ _ _ _ (else1-of-after-known-told2 t (search) .if1 .left))) (f .same) in
-    let i = known (At-loop t) (search) .loop .inv in
+    let i = known (Place lts.At-loop t) (search) .loop .inv in
     let g = i .run (f .what) (rebased f (omega (arith, start-of-after-known-told2 t (search) .pre))) in
-    let tk = taken (known (After-kind t) (search) .kind .given .1) (known (After-look t) (search) .look .ensures) in
-    record { how = home path (prefix f (omega arith)) (f .moved .more) (relabel g (g .what) refl (link (g .same) (way _ (climb-ends _ _ (g .what) _ (i .fuel) _ (i .enough) tk (known (After-op-level t) (search) .op-level .ensures) (λ h. absurd (h (c .if2 .taken)))))) (g .moved) (g .room)) }
+    let tk = taken (known (Place lts.After-kind t) (search) .kind .given .1) (known (Place lts.After-look t) (search) .look .ensures) in
+    record { how = home path (prefix f (omega arith)) (f .moved .more) (relabel g (g .what) refl (link (g .same) (way _ (climb-ends _ _ (g .what) _ (i .fuel) _ (i .enough) tk (known (Place lts.After-op-level t) (search) .op-level .ensures) (λ h. absurd (h (c .if2 .taken)))))) (g .moved) (g .room)) }
 
 pub same-length-4 : (t : ℕ) → lts.Need-same-length-4 (calls t) (binop-at t) reads.Post Inv-loop μ-loop
 same-length-4 t c = search needs
@@ -231,26 +171,26 @@ same-length-4 t c = search needs
 pub returns-4 : (t : ℕ) → lts.Need-returns-4 (calls t) (binop-at t) reads.Post Inv-loop μ-loop
 returns-4 t c = let f = done (after-first-of-after-known-told2 t (search) .first .given .1) (after-unop2-of-after-known-told2 t (search) .unop2 .ensures) in
     let path = goes _ (way _ (binop-step _ _ _ _ (else1-of-after-known-told2 t (search) .if1 .left))) (f .same) in
-    let i = known (At-loop t) (search) .loop .inv in
+    let i = known (Place lts.At-loop t) (search) .loop .inv in
     let g = i .run (f .what) (rebased f (omega (arith, start-of-after-known-told2 t (search) .pre))) in
-    let tk = taken (known (After-kind t) (search) .kind .given .1) (known (After-look t) (search) .look .ensures) in
-    record { how = home path (prefix f (omega arith)) (f .moved .more) (relabel g (g .what) refl (link (g .same) (way _ (climb-ends _ _ (g .what) _ (i .fuel) _ (i .enough) tk (known (After-op-level t) (search) .op-level .ensures) (λ h. c .if3 .taken)))) (g .moved) (g .room)) }
+    let tk = taken (known (Place lts.After-kind t) (search) .kind .given .1) (known (Place lts.After-look t) (search) .look .ensures) in
+    record { how = home path (prefix f (omega arith)) (f .moved .more) (relabel g (g .what) refl (link (g .same) (way _ (climb-ends _ _ (g .what) _ (i .fuel) _ (i .enough) tk (known (Place lts.After-op-level t) (search) .op-level .ensures) (λ h. c .if3 .taken)))) (g .moved) (g .room)) }
 
 pub sub-binop : (t : ℕ) → lts.Need-sub-binop (calls t) (binop-at t) reads.Post Inv-loop μ-loop
-sub-binop t c = let n = known (Else2 t) (search) .if2 .left in
+sub-binop t c = let n = known (Place lts.Else2 t) (search) .if2 .left in
     omega arith
 
 pub add-binop : (t : ℕ) → lts.Need-add-binop (calls t) (binop-at t) reads.Post Inv-loop μ-loop
-add-binop t c = let tk = taken (known (After-kind t) (search) .kind .given .1) (known (After-look t) (search) .look .ensures) in
+add-binop t c = let tk = taken (known (Place lts.After-kind t) (search) .kind .given .1) (known (Place lts.After-look t) (search) .look .ensures) in
     omega arith
 
 pub binop-requires : (t : ℕ) → lts.Need-binop-requires (calls t) (binop-at t) reads.Post Inv-loop μ-loop
 binop-requires t c κs = let f = done (after-first-of-after-known-told2 t (search) .first .given .1) (after-unop2-of-after-known-told2 t (search) .unop2 .ensures) in
     let i = at-loop-of-after-known-told2 t (search) .loop .inv in
     let g = i .run (f .what) (rebased f (omega (arith, start-of-after-known-told2 t (search) .pre))) in
-    let tk = taken (known (After-kind t) (search) .kind .given .1) (known (After-look t) (search) .look .ensures) in
-    let n = known (Else2 t) (search) .if2 .left in
-    let m = known (Else3 t) (search) .if3 .left in
+    let tk = taken (known (Place lts.After-kind t) (search) .kind .given .1) (known (Place lts.After-look t) (search) .look .ensures) in
+    let n = known (Place lts.Else2 t) (search) .if2 .left in
+    let m = known (Place lts.Else3 t) (search) .if3 .left in
     omega (arith, start-of-after-known-told2 t (search) .pre)
 
 pub enum-known-r : (t : ℕ) → lts.Need-enum-known-r (calls t) (binop-at t) reads.Post Inv-loop μ-loop
@@ -264,24 +204,24 @@ emit-requires t c κs = let f = done (after-first-of-after-slice-known4 t (searc
     let i = at-loop-of-after-slice-known4 t (search) .loop .inv in
     let g = i .run (f .what) (rebased f (omega (arith, start-of-after-slice-known4 t (search) .pre))) in
     let tk = taken (after-kind-of-after-slice-known4 t (search) .kind .given .1) (after-look-of-after-slice-known4 t (search) .look .ensures) in
-    let w = done (known (After-r t) (search) .r .given .1) (known (After-binop t) (search) .binop .ensures) in
-    omega (arith, start-of-after-slice-known4 t (search) .pre, after-unop2-of-after-slice-known4 t (search) .unop2 .kept .1 .0, f .moved, f .room, g .moved, g .room, i .kept, tk .within, w .moved, w .room, known (After-binop t) (search) .binop .kept .1 .0)
+    let w = done (known (Place lts.After-r t) (search) .r .given .1) (known (Place lts.After-binop t) (search) .binop .ensures) in
+    omega (arith, start-of-after-slice-known4 t (search) .pre, after-unop2-of-after-slice-known4 t (search) .unop2 .kept .1 .0, f .moved, f .room, g .moved, g .room, i .kept, tk .within, w .moved, w .room, known (Place lts.After-binop t) (search) .binop .kept .1 .0)
 
 pub loop-less : (t : ℕ) → lts.Need-loop-less (calls t) (binop-at t) reads.Post Inv-loop μ-loop
 loop-less t c = let tk = taken (after-kind-of-after-slice-known4 t (search) .kind .given .1) (after-look-of-after-slice-known4 t (search) .look .ensures) in
-    let w = done (known (After-r t) (search) .r .given .1) (after-binop-of-after-slice-known4 t (search) .binop .ensures) in
+    let w = done (known (Place lts.After-r t) (search) .r .given .1) (after-binop-of-after-slice-known4 t (search) .binop .ensures) in
     omega arith
 
 pub loop-again : (t : ℕ) → lts.Need-loop-again (calls t) (binop-at t) reads.Post Inv-loop μ-loop
 loop-again t c = let f = done (after-first-of-after-slice-known4 t (search) .first .given .1) (after-unop2-of-after-slice-known4 t (search) .unop2 .ensures) in
     let i = at-loop-of-after-slice-known4 t (search) .loop .inv in
     let tk = taken (after-kind-of-after-slice-known4 t (search) .kind .given .1) (after-look-of-after-slice-known4 t (search) .look .ensures) in
-    let w = done (known (After-r t) (search) .r .given .1) (after-binop-of-after-slice-known4 t (search) .binop .ensures) in
-    let e = known (After-emit t) (search) .emit .ensures in
+    let w = done (known (Place lts.After-r t) (search) .r .given .1) (after-binop-of-after-slice-known4 t (search) .binop .ensures) in
+    let e = known (Place lts.After-emit t) (search) .emit .ensures in
     record {
       fuel = i .fuel - 1;
       enough = omega arith;
-      run = λ u x. let g = i .run u x in made-two 13 g w e (goes _ (link (g .same) (way _ (climb-takes _ _ (g .what) _ (i .fuel) _ (i .enough) tk (after-op-level-of-after-slice-known4 t (search) .op-level .ensures) (else2-of-after-slice-known4 t (search) .if2 .left) (else3-of-after-slice-known4 t (search) .if3 .left) (known (After-op-number t) (search) .op-number .ensures)))) (w .same)) (omega arith) (omega arith) refl;
+      run = λ u x. let g = i .run u x in made-two 13 g w e (goes _ (link (g .same) (way _ (climb-takes _ _ (g .what) _ (i .fuel) _ (i .enough) tk (after-op-level-of-after-slice-known4 t (search) .op-level .ensures) (else2-of-after-slice-known4 t (search) .if2 .left) (else3-of-after-slice-known4 t (search) .if3 .left) (known (Place lts.After-op-number t) (search) .op-number .ensures)))) (w .same)) (omega arith) (omega arith) refl;
       kept = omega arith;
     }
 
@@ -297,8 +237,8 @@ returns-5 t c = let f = done (after-first-of-after-slice-known4 t (search) .firs
     let i = at-loop-of-after-slice-known4 t (search) .loop .inv in
     let g = i .run (f .what) (rebased f (omega (arith, start-of-after-slice-known4 t (search) .pre))) in
     let tk = taken (after-kind-of-after-slice-known4 t (search) .kind .given .1) (after-look-of-after-slice-known4 t (search) .look .ensures) in
-    let on = link (g .same) (way _ (climb-takes _ _ (g .what) _ (i .fuel) _ (i .enough) tk (after-op-level-of-after-slice-known4 t (search) .op-level .ensures) (known (Else2 t) (search) .if2 .left) (known (Else3 t) (search) .if3 .left) (refl))) in
-    anew (c .again2 .ensures) (did-not (fails _ (link path on) (undone (known (At-match3-keys2 t) (search) .match3 .keys2) (known (After-binop t) (search) .binop .ensures)) (prefix g (omega (arith, start-of-after-slice-known4 t (search) .pre, after-unop2-of-after-slice-known4 t (search) .unop2 .kept .1 .0, f .moved, f .room, g .moved, g .room, tk .within)) ∙ prefix f (omega (arith, start-of-after-slice-known4 t (search) .pre, after-unop2-of-after-slice-known4 t (search) .unop2 .kept .1 .0, f .moved, f .room, g .moved, g .room, tk .within))) (omega (arith, start-of-after-slice-known4 t (search) .pre, after-unop2-of-after-slice-known4 t (search) .unop2 .kept .1 .0, f .moved, f .room, g .moved, g .room, tk .within))))
+    let on = link (g .same) (way _ (climb-takes _ _ (g .what) _ (i .fuel) _ (i .enough) tk (after-op-level-of-after-slice-known4 t (search) .op-level .ensures) (known (Place lts.Else2 t) (search) .if2 .left) (known (Place lts.Else3 t) (search) .if3 .left) (refl))) in
+    anew (c .again2 .ensures) (did-not (fails _ (link path on) (undone (known (Place lts.At-match3-keys2 t) (search) .match3 .keys2) (known (Place lts.After-binop t) (search) .binop .ensures)) (prefix g (omega (arith, start-of-after-slice-known4 t (search) .pre, after-unop2-of-after-slice-known4 t (search) .unop2 .kept .1 .0, f .moved, f .room, g .moved, g .room, tk .within)) ∙ prefix f (omega (arith, start-of-after-slice-known4 t (search) .pre, after-unop2-of-after-slice-known4 t (search) .unop2 .kept .1 .0, f .moved, f .room, g .moved, g .room, tk .within))) (omega (arith, start-of-after-slice-known4 t (search) .pre, after-unop2-of-after-slice-known4 t (search) .unop2 .kept .1 .0, f .moved, f .room, g .moved, g .room, tk .within))))
 
 pub enum-known-s : (t : ℕ) → lts.Need-enum-known-s (calls t) (binop-at t) reads.Post Inv-loop μ-loop
 enum-known-s t c = search needs
@@ -307,8 +247,8 @@ pub same-length-6 : (t : ℕ) → lts.Need-same-length-6 (calls t) (binop-at t) 
 same-length-6 t c = search needs
 
 pub returns-6 : (t : ℕ) → lts.Need-returns-6 (calls t) (binop-at t) reads.Post Inv-loop μ-loop
-returns-6 t c = let f = done (known (After-first t) (search) .first .given .1) (after-unop2-of-after-slice-known3 t (search) .unop2 .ensures) in
+returns-6 t c = let f = done (known (Place lts.After-first t) (search) .first .given .1) (after-unop2-of-after-slice-known3 t (search) .unop2 .ensures) in
     let path = goes _ (way _ (binop-step _ _ _ _ (else1-of-after-slice-known3 t (search) .if1 .left))) (f .same) in
-    let i = known (At-loop t) (search) .loop .inv in
+    let i = known (Place lts.At-loop t) (search) .loop .inv in
     let g = i .run (f .what) (rebased f (omega (arith, start-of-after-slice-known3 t (search) .pre))) in
-    did-not (fails-unseen (link path (g .same)) (climb-looks _ _ (g .what) _ _ (i .fuel) _ (i .enough)) (not-taken (known (After-s t) (search) .s .given .1) (known (After-look t) (search) .look .ensures)) (prefix g (omega arith) ∙ prefix f (omega arith)) (omega arith))
+    did-not (fails-unseen (link path (g .same)) (climb-looks _ _ (g .what) _ _ (i .fuel) _ (i .enough)) (not-taken (known (Place lts.After-s t) (search) .s .given .1) (known (Place lts.After-look t) (search) .look .ensures)) (prefix g (omega arith) ∙ prefix f (omega arith)) (omega arith))

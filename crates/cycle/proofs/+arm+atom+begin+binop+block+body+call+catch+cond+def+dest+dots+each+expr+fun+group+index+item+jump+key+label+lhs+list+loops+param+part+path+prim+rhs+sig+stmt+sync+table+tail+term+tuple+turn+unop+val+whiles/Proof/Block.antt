@@ -2,6 +2,7 @@
 use mathlib.Core.Path.{refl, sym}
 use mathlib.Core.List.{[], append-nil}
 use Prim.Native.Nat.{ℕ}
+use borrow.Fn.Kinds.{In, Out}
 use borrow.Author.Needs.{needs}
 use native.Mathlib.Omega.{arith}
 use Rattle.tree.specs.Node
@@ -10,6 +11,7 @@ use Rattle.nodes.proofs.Made.{over-one}
 use Rattle.cycle.proofs.PathsBody.{closable, under}
 use Rattle.cycle.proofs.PathsStmt.{block-step}
 use Rattle.grammar.specs.Reading.Block.{block-of}
+use Rattle.cycle.proofs.block.Kinds as kinds
 use Rattle.cycle.proofs.block.Reads as reads
 use Rattle.cycle.proofs.+arm+atom+begin+binop+block+body+call+catch+cond+def+dest+dots+each+expr+fun+group+index+item+jump+key+label+lhs+list+loops+param+part+path+prim+rhs+sig+stmt+sync+table+tail+term+tuple+turn+unop+val+whiles.Lts-block as lts
 use Rattle.cycle.proofs.body.Reads as body-reads
@@ -21,29 +23,21 @@ use Rattle.tree.proofs.Known.{known}
 abbrev pub calls : ℕ → lts.Claims
 calls t = (body-below t, body-reads.Post, block-under-reads.Asked, block-under-reads.Learnt)
 
-abbrev After-body : ℕ → Type 0
-After-body t = lts.After-body (calls t) (block-at t) reads.Post
+-- a place of its code
+abbrev Place : (lts.Claims → In 3 kinds.ps → Out 3 kinds.ps kinds.r → Type 0) → ℕ → Type 0
+Place P t = P (calls t) (block-at t) reads.Post
 
-abbrev After-block-under-arg : ℕ → Type 0
-After-block-under-arg t = lts.After-block-under-arg (calls t) (block-at t) reads.Post
-
-abbrev Start : ℕ → Type 0
-Start t = lts.Start (calls t) (block-at t) reads.Post
-
-abbrev After-block-under : ℕ → Type 0
-After-block-under t = lts.After-block-under (calls t) (block-at t) reads.Post
-
-abbrev start-of-after-block-under-arg : (t : ℕ) → After-block-under-arg t → Start t
+abbrev start-of-after-block-under-arg : (t : ℕ) → Place lts.After-block-under-arg t → Place lts.Start t
 start-of-after-block-under-arg t c = search
 
 pub body-requires : (t : ℕ) → lts.Need-body-requires (calls t) (block-at t) reads.Post
 body-requires t c κs = omega arith
 
 pub block-under-requires : (t : ℕ) → lts.Need-block-under-requires (calls t) (block-at t) reads.Post
-block-under-requires t c κs = closable _ (known (After-body t) (search) .body .ensures) (omega arith)
+block-under-requires t c κs = closable _ (known (Place lts.After-body t) (search) .body .ensures) (omega arith)
 
 pub same-length : (t : ℕ) → lts.Need-same-length (calls t) (block-at t) reads.Post
 same-length t c = search needs
 
 pub returns : (t : ℕ) → lts.Need-returns (calls t) (block-at t) reads.Post
-returns t c = under (λ s. Node.block (start-of-after-block-under-arg t (search) .args .label) (block-of s)) [] (known (After-body t) (search) .body .ensures) (known (After-block-under t) (search) .block-under .ensures) (way _ (block-step _ _ _ _)) (sym (append-nil _)) (λ s. over-one 19 _ _) refl (omega arith)
+returns t c = under (λ s. Node.block (start-of-after-block-under-arg t (search) .args .label) (block-of s)) [] (known (Place lts.After-body t) (search) .body .ensures) (known (Place lts.After-block-under t) (search) .block-under .ensures) (way _ (block-step _ _ _ _)) (sym (append-nil _)) (λ s. over-one 19 _ _) refl (omega arith)

@@ -1,6 +1,7 @@
 -- The needs of `cycle::catch` in its cycle of calls. Assumes nothing.
 use mathlib.Core.Path.{refl}
 use Prim.Native.Nat.{ℕ}
+use borrow.Fn.Kinds.{In, Out}
 use borrow.Author.Needs.{needs}
 use native.Mathlib.Omega.{arith}
 use lib.ListN.{drop}
@@ -9,6 +10,7 @@ use Rattle.grammar.specs.Reading.Depth.{at-depth}
 use Rattle.scan.proofs.Laws.{way, link, ends, goes, done, undone, did-not, fails, prefix}
 use Rattle.scan.proofs.Waiting.{push-full, pushes}
 use Rattle.cycle.proofs.PathsControl.{caught-go, caught-out, caught-push, resumes}
+use Rattle.cycle.proofs.catch.Kinds as kinds
 use Rattle.cycle.proofs.catch.Reads as reads
 use Rattle.cycle.proofs.+arm+atom+begin+binop+block+body+call+catch+cond+def+dest+dots+each+expr+fun+group+index+item+jump+key+label+lhs+list+loops+param+part+path+prim+rhs+sig+stmt+sync+table+tail+term+tuple+turn+unop+val+whiles.Lts-catch as lts
 use Rattle.cycle.proofs.sync.Reads as sync-reads
@@ -21,50 +23,33 @@ use Rattle.tree.proofs.Known.{known}
 abbrev pub calls : ℕ → lts.Claims
 calls t = (push-reads.Asked, push-reads.Learnt, sync-below t, sync-reads.Post, synchronized-reads.Asked, synchronized-reads.Learnt)
 
-abbrev Else1 : ℕ → Type 0
-Else1 t = lts.Else1 (calls t) (catch-at t) reads.Post
+-- a place of its code
+abbrev Place : (lts.Claims → In 3 kinds.ps → Out 3 kinds.ps kinds.r → Type 0) → ℕ → Type 0
+Place P t = P (calls t) (catch-at t) reads.Post
 
-abbrev Start : ℕ → Type 0
-Start t = lts.Start (calls t) (catch-at t) reads.Post
-
-abbrev After-push : ℕ → Type 0
-After-push t = lts.After-push (calls t) (catch-at t) reads.Post
-
-abbrev After-sync-arg2 : ℕ → Type 0
-After-sync-arg2 t = lts.After-sync-arg2 (calls t) (catch-at t) reads.Post
-
-abbrev Else2 : ℕ → Type 0
-Else2 t = lts.Else2 (calls t) (catch-at t) reads.Post
-
-abbrev After-sync : ℕ → Type 0
-After-sync t = lts.After-sync (calls t) (catch-at t) reads.Post
-
-abbrev After-r : ℕ → Type 0
-After-r t = lts.After-r (calls t) (catch-at t) reads.Post
-
-abbrev else1-of-after-sync-arg2 : (t : ℕ) → After-sync-arg2 t → Else1 t
+abbrev else1-of-after-sync-arg2 : (t : ℕ) → Place lts.After-sync-arg2 t → Place lts.Else1 t
 else1-of-after-sync-arg2 t c = search
 
-abbrev start-of-after-sync-arg2 : (t : ℕ) → After-sync-arg2 t → Start t
+abbrev start-of-after-sync-arg2 : (t : ℕ) → Place lts.After-sync-arg2 t → Place lts.Start t
 start-of-after-sync-arg2 t c = search
 
-abbrev after-push-of-after-sync-arg2 : (t : ℕ) → After-sync-arg2 t → After-push t
+abbrev after-push-of-after-sync-arg2 : (t : ℕ) → Place lts.After-sync-arg2 t → Place lts.After-push t
 after-push-of-after-sync-arg2 t c = search
 
-abbrev else2-of-after-sync-arg2 : (t : ℕ) → After-sync-arg2 t → Else2 t
+abbrev else2-of-after-sync-arg2 : (t : ℕ) → Place lts.After-sync-arg2 t → Place lts.Else2 t
 else2-of-after-sync-arg2 t c = search
 
 pub returns : (t : ℕ) → lts.Need-returns (calls t) (catch-at t) reads.Post
 returns t c = record { how = record { how = record { same = way _ (caught-out _ _ _ _ (c .if1 .taken)); moved = omega arith; far = omega arith; text = refl } } }
 
 pub returns-2 : (t : ℕ) → lts.Need-returns-2 (calls t) (catch-at t) reads.Post
-returns-2 t c = record { how = record { how = link (way _ (caught-push _ _ _ _ (known (Else1 t) (search) .if1 .left))) (ends (push-full _ _ (known (Start t) (search) .args .queue .now) _ (c .if2 .taken) (omega arith))) } }
+returns-2 t c = record { how = record { how = link (way _ (caught-push _ _ _ _ (known (Place lts.Else1 t) (search) .if1 .left))) (ends (push-full _ _ (known (Place lts.Start t) (search) .args .queue .now) _ (c .if2 .taken) (omega arith))) } }
 
 pub push-requires : (t : ℕ) → lts.Need-push-requires (calls t) (catch-at t) reads.Post
 push-requires t c κs = omega arith
 
 pub sync-requires : (t : ℕ) → lts.Need-sync-requires (calls t) (catch-at t) reads.Post
-sync-requires t c κs = let u = known (After-push t) (search) .push .ensures in
+sync-requires t c κs = let u = known (Place lts.After-push t) (search) .push .ensures in
     omega arith
 
 pub enum-known-r : (t : ℕ) → lts.Need-enum-known-r (calls t) (catch-at t) reads.Post
@@ -74,13 +59,13 @@ pub same-length : (t : ℕ) → lts.Need-same-length (calls t) (catch-at t) read
 same-length t c = search needs
 
 pub returns-3 : (t : ℕ) → lts.Need-returns-3 (calls t) (catch-at t) reads.Post
-returns-3 t c = let u = known (After-push t) (search) .push .ensures in
-    let path = link (way _ (caught-push _ _ _ _ (else1-of-after-sync-arg2 t (search) .if1 .left))) (pushes (start-of-after-sync-arg2 t (search) .args .f .error) (start-of-after-sync-arg2 t (search) .args .f .waiting) (start-of-after-sync-arg2 t (search) .args .queue .now) (caught-go (at-depth (start-of-after-sync-arg2 t (search) .args .depth)) (drop (start-of-after-sync-arg2 t (search) .args .f .pos) (start-of-after-sync-arg2 t (search) .args .tokens .now))) (known (Else2 t) (search) .if2 .left) (omega (arith, start-of-after-sync-arg2 t (search) .pre)) (u .text)) in
-    did-not (fails _ path (undone (c .match .keys2) (known (After-sync t) (search) .sync .ensures)) refl (omega arith))
+returns-3 t c = let u = known (Place lts.After-push t) (search) .push .ensures in
+    let path = link (way _ (caught-push _ _ _ _ (else1-of-after-sync-arg2 t (search) .if1 .left))) (pushes (start-of-after-sync-arg2 t (search) .args .f .error) (start-of-after-sync-arg2 t (search) .args .f .waiting) (start-of-after-sync-arg2 t (search) .args .queue .now) (caught-go (at-depth (start-of-after-sync-arg2 t (search) .args .depth)) (drop (start-of-after-sync-arg2 t (search) .args .f .pos) (start-of-after-sync-arg2 t (search) .args .tokens .now))) (known (Place lts.Else2 t) (search) .if2 .left) (omega (arith, start-of-after-sync-arg2 t (search) .pre)) (u .text)) in
+    did-not (fails _ path (undone (c .match .keys2) (known (Place lts.After-sync t) (search) .sync .ensures)) refl (omega arith))
 
 pub synchronized-requires : (t : ℕ) → lts.Need-synchronized-requires (calls t) (catch-at t) reads.Post
 synchronized-requires t c κs = let u = after-push-of-after-sync-arg2 t (search) .push .ensures in
-    let s1 = done (known (After-r t) (search) .r .given .1) (known (After-sync t) (search) .sync .ensures) in
+    let s1 = done (known (Place lts.After-r t) (search) .r .given .1) (known (Place lts.After-sync t) (search) .sync .ensures) in
     omega arith
 
 pub same-length-2 : (t : ℕ) → lts.Need-same-length-2 (calls t) (catch-at t) reads.Post
@@ -88,7 +73,7 @@ same-length-2 t c = search needs
 
 pub returns-4 : (t : ℕ) → lts.Need-returns-4 (calls t) (catch-at t) reads.Post
 returns-4 t c = let u = after-push-of-after-sync-arg2 t (search) .push .ensures in
-    let s1 = done (known (After-r t) (search) .r .given .1) (known (After-sync t) (search) .sync .ensures) in
+    let s1 = done (known (Place lts.After-r t) (search) .r .given .1) (known (Place lts.After-sync t) (search) .sync .ensures) in
     let path = link (way _ (caught-push _ _ _ _ (else1-of-after-sync-arg2 t (search) .if1 .left))) (pushes (start-of-after-sync-arg2 t (search) .args .f .error) (start-of-after-sync-arg2 t (search) .args .f .waiting) (start-of-after-sync-arg2 t (search) .args .queue .now) (caught-go (at-depth (start-of-after-sync-arg2 t (search) .args .depth)) (drop (start-of-after-sync-arg2 t (search) .args .f .pos) (start-of-after-sync-arg2 t (search) .args .tokens .now))) (else2-of-after-sync-arg2 t (search) .if2 .left) (omega (arith, start-of-after-sync-arg2 t (search) .pre)) (u .text)) in
     let on = goes _ path (s1 .same) in
     resumes on (prefix s1 (omega (arith, start-of-after-sync-arg2 t (search) .pre))) (omega (arith, start-of-after-sync-arg2 t (search) .pre, u .next, s1 .moved)) (c .synchronized .ensures)

@@ -2,6 +2,7 @@
 use mathlib.Core.Path.{_≡_, refl, sym, ap, _∙_}
 use mathlib.Core.List.{List, append-nil}
 use Prim.Native.Nat.{ℕ, _+_, _*_, _-_, _≤_}
+use borrow.Fn.Kinds.{In, Out}
 use borrow.Author.Needs.{needs}
 use native.Mathlib.Omega.{arith}
 use lib.ListN.{length, take, drop, length-drop}
@@ -17,6 +18,7 @@ use Rattle.cycle.proofs.PathsList.{stmts-looks, stmts-semi, stmts-end, 
 use Rattle.cycle.proofs.Writing.{taller}
 use Rattle.grammar.specs.Reading.Stmt.{stmts}
 use Rattle.nodes.specs.Lists.{Ends, keeps}
+use Rattle.cycle.proofs.list.Kinds as kinds
 use Rattle.cycle.proofs.list.Reads as reads
 use Rattle.cycle.proofs.+arm+atom+begin+binop+block+body+call+catch+cond+def+dest+dots+each+expr+fun+group+index+item+jump+key+label+lhs+list+loops+param+part+path+prim+rhs+sig+stmt+sync+table+tail+term+tuple+turn+unop+val+whiles.Lts-list as lts
 use Rattle.cycle.proofs.turn.Reads as turn-reads
@@ -47,88 +49,44 @@ Inv-loop tokens store₀ queue₀ depth end pos at waiting p₀ a₀ w₀ n₀ l
 abbrev pub μ-loop : lts.MeasureT-loop
 μ-loop tokens store₀ queue₀ depth end pos at waiting p₀ a₀ w₀ n₀ last₀ store queue p a w n last = length tokens - p
 
-abbrev Start : ℕ → Type 0
-Start t = lts.Start (calls t) (list-at t) reads.Post Inv-loop μ-loop
+-- a place of its code
+abbrev Place : (lts.Claims → In 3 kinds.ps → Out 3 kinds.ps kinds.r → lts.InvT-loop → lts.MeasureT-loop → Type 0) → ℕ → Type 0
+Place P t = P (calls t) (list-at t) reads.Post Inv-loop μ-loop
 
-abbrev After-kind : ℕ → Type 0
-After-kind t = lts.After-kind (calls t) (list-at t) reads.Post Inv-loop μ-loop
-
-abbrev After-look : ℕ → Type 0
-After-look t = lts.After-look (calls t) (list-at t) reads.Post Inv-loop μ-loop
-
-abbrev At-loop : ℕ → Type 0
-At-loop t = lts.At-loop (calls t) (list-at t) reads.Post Inv-loop μ-loop
-
-abbrev Else2 : ℕ → Type 0
-Else2 t = lts.Else2 (calls t) (list-at t) reads.Post Inv-loop μ-loop
-
-abbrev After-ends : ℕ → Type 0
-After-ends t = lts.After-ends (calls t) (list-at t) reads.Post Inv-loop μ-loop
-
-abbrev After-known-told : ℕ → Type 0
-After-known-told t = lts.After-known-told (calls t) (list-at t) reads.Post Inv-loop μ-loop
-
-abbrev Else1 : ℕ → Type 0
-Else1 t = lts.Else1 (calls t) (list-at t) reads.Post Inv-loop μ-loop
-
-abbrev After-slice-known2 : ℕ → Type 0
-After-slice-known2 t = lts.After-slice-known2 (calls t) (list-at t) reads.Post Inv-loop μ-loop
-
-abbrev After-p2 : ℕ → Type 0
-After-p2 t = lts.After-p2 (calls t) (list-at t) reads.Post Inv-loop μ-loop
-
-abbrev After-turn : ℕ → Type 0
-After-turn t = lts.After-turn (calls t) (list-at t) reads.Post Inv-loop μ-loop
-
-abbrev Else3 : ℕ → Type 0
-Else3 t = lts.Else3 (calls t) (list-at t) reads.Post Inv-loop μ-loop
-
-abbrev After-p22 : ℕ → Type 0
-After-p22 t = lts.After-p22 (calls t) (list-at t) reads.Post Inv-loop μ-loop
-
-abbrev After-p23 : ℕ → Type 0
-After-p23 t = lts.After-p23 (calls t) (list-at t) reads.Post Inv-loop μ-loop
-
-abbrev After-s : ℕ → Type 0
-After-s t = lts.After-s (calls t) (list-at t) reads.Post Inv-loop μ-loop
-
-abbrev After-s2 : ℕ → Type 0
-After-s2 t = lts.After-s2 (calls t) (list-at t) reads.Post Inv-loop μ-loop
-
-abbrev at-loop-of-after-known-told : (t : ℕ) → After-known-told t → At-loop t
+abbrev at-loop-of-after-known-told : (t : ℕ) → Place lts.After-known-told t → Place lts.At-loop t
 at-loop-of-after-known-told t c = search
 
-abbrev start-of-after-known-told : (t : ℕ) → After-known-told t → Start t
+abbrev start-of-after-known-told : (t : ℕ) → Place lts.After-known-told t → Place lts.Start t
 start-of-after-known-told t c = search
 
-abbrev else1-of-after-known-told : (t : ℕ) → After-known-told t → Else1 t
+abbrev else1-of-after-known-told : (t : ℕ) → Place lts.After-known-told t → Place lts.Else1 t
 else1-of-after-known-told t c = search
 
-abbrev at-loop-of-after-slice-known2 : (t : ℕ) → After-slice-known2 t → At-loop t
+abbrev at-loop-of-after-slice-known2 : (t : ℕ) → Place lts.After-slice-known2 t → Place lts.At-loop t
 at-loop-of-after-slice-known2 t c = at-loop-of-after-known-told t (search)
 
-abbrev after-kind-of-after-known-told : (t : ℕ) → After-known-told t → After-kind t
+abbrev after-kind-of-after-known-told : (t : ℕ) → Place lts.After-known-told t → Place lts.After-kind t
 after-kind-of-after-known-told t c = search
 
-abbrev after-kind-of-after-slice-known2 : (t : ℕ) → After-slice-known2 t → After-kind t
+abbrev after-kind-of-after-slice-known2 : (t : ℕ) → Place lts.After-slice-known2 t → Place lts.After-kind t
 after-kind-of-after-slice-known2 t c = after-kind-of-after-known-told t (search)
 
-abbrev after-look-of-after-known-told : (t : ℕ) → After-known-told t → After-look t
+abbrev after-look-of-after-known-told : (t : ℕ) → Place lts.After-known-told t → Place lts.After-look t
 after-look-of-after-known-told t c = search
 
-abbrev after-look-of-after-slice-known2 : (t : ℕ) → After-slice-known2 t → After-look t
+abbrev after-look-of-after-slice-known2 : (t : ℕ) → Place lts.After-slice-known2 t → Place lts.After-look t
 after-look-of-after-slice-known2 t c = after-look-of-after-known-told t (search)
 
-abbrev start-of-after-slice-known2 : (t : ℕ) → After-slice-known2 t → Start t
+abbrev start-of-after-slice-known2 : (t : ℕ) → Place lts.After-slice-known2 t → Place lts.Start t
 start-of-after-slice-known2 t c = start-of-after-known-told t (search)
 
-abbrev else2-of-after-slice-known2 : (t : ℕ) → After-slice-known2 t → Else2 t
+abbrev else2-of-after-slice-known2 : (t : ℕ) → Place lts.After-slice-known2 t → Place lts.Else2 t
 else2-of-after-slice-known2 t c = search
 
-abbrev after-ends-of-after-slice-known2 : (t : ℕ) → After-slice-known2 t → After-ends t
+abbrev after-ends-of-after-slice-known2 : (t : ℕ) → Place lts.After-slice-known2 t → Place lts.After-ends t
 after-ends-of-after-slice-known2 t c = search
 
-abbrev else3-of-after-slice-known2 : (t : ℕ) → After-slice-known2 t → Else3 t
+abbrev else3-of-after-slice-known2 : (t : ℕ) → Place lts.After-slice-known2 t → Place lts.Else3 t
 else3-of-after-slice-known2 t c = search
 
 pub returns : (t : ℕ) → lts.Need-returns (calls t) (list-at t) reads.Post Inv-loop μ-loop
@@ -136,7 +94,7 @@ returns t c = record { how = record { how = ends (list-stops _ _ _ _ (c .if1 .ta
 
 pub loop-holds : (t : ℕ) → lts.Need-loop-holds (calls t) (list-at t) reads.Post Inv-loop μ-loop
 unfolding records count
-loop-holds t c = record { fuel = length (drop (known (Start t) (search) .args .pos) (known (Start t) (search) .args .tokens .now)); enough = rw length-drop (omega arith); run = record { what = none; same = way _ (list-step _ _ _ _ (c .if1 .left)); moved = omega arith; room = omega arith; text = sym (append-nil (take (known (Start t) (search) .args .at) (known (Start t) (search) .args .store .now))) }; many = refl; short = omega arith; back = omega arith; ending = keeps split-none refl; kept = refl }
+loop-holds t c = record { fuel = length (drop (known (Place lts.Start t) (search) .args .pos) (known (Place lts.Start t) (search) .args .tokens .now)); enough = rw length-drop (omega arith); run = record { what = none; same = way _ (list-step _ _ _ _ (c .if1 .left)); moved = omega arith; room = omega arith; text = sym (append-nil (take (known (Place lts.Start t) (search) .args .at) (known (Place lts.Start t) (search) .args .store .now))) }; many = refl; short = omega arith; back = omega arith; ending = keeps split-none refl; kept = refl }
 
 pub look-requires : (t : ℕ) → lts.Need-look-requires (calls t) (list-at t) reads.Post Inv-loop μ-loop
 look-requires t c κs = c .loop .inv .run .moved .within
@@ -145,18 +103,18 @@ pub enum-known-kind : (t : ℕ) → lts.Need-enum-known-kind (calls t) (list-at 
 enum-known-kind t c = search needs
 
 pub add-p : (t : ℕ) → lts.Need-add-p (calls t) (list-at t) reads.Post Inv-loop μ-loop
-add-p t c = let tk = taken (known (After-kind t) (search) .kind .given .1) (known (After-look t) (search) .look .ensures) in
+add-p t c = let tk = taken (known (Place lts.After-kind t) (search) .kind .given .1) (known (Place lts.After-look t) (search) .look .ensures) in
     omega arith
 
 pub loop-less : (t : ℕ) → lts.Need-loop-less (calls t) (list-at t) reads.Post Inv-loop μ-loop
-loop-less t c = let g = known (At-loop t) (search) .loop .inv in
-    let tk = taken (known (After-kind t) (search) .kind .given .1) (known (After-look t) (search) .look .ensures) in
+loop-less t c = let g = known (Place lts.At-loop t) (search) .loop .inv in
+    let tk = taken (known (Place lts.After-kind t) (search) .kind .given .1) (known (Place lts.After-look t) (search) .look .ensures) in
     omega arith
 
 pub loop-again : (t : ℕ) → lts.Need-loop-again (calls t) (list-at t) reads.Post Inv-loop μ-loop
-loop-again t c = let g = known (At-loop t) (search) .loop .inv in
+loop-again t c = let g = known (Place lts.At-loop t) (search) .loop .inv in
     let gr = g .run in
-    let tk = taken (known (After-kind t) (search) .kind .given .1) (known (After-look t) (search) .look .ensures) in
+    let tk = taken (known (Place lts.After-kind t) (search) .kind .given .1) (known (Place lts.After-look t) (search) .look .ensures) in
     record {
       fuel = g .fuel - 1;
       enough = omega arith;
@@ -175,12 +133,12 @@ pub same-length : (t : ℕ) → lts.Need-same-length (calls t) (list-at t) reads
 same-length t c = search needs
 
 pub returns-2 : (t : ℕ) → lts.Need-returns-2 (calls t) (list-at t) reads.Post Inv-loop μ-loop
-returns-2 t c = let g = known (At-loop t) (search) .loop .inv in
+returns-2 t c = let g = known (Place lts.At-loop t) (search) .loop .inv in
     let gr = g .run in
-    let tk = taken (known (After-kind t) (search) .kind .given .1) (known (After-look t) (search) .look .ensures) in
+    let tk = taken (known (Place lts.After-kind t) (search) .kind .given .1) (known (Place lts.After-look t) (search) .look .ensures) in
     record {
       how = record {
-        run = relabel gr (record { suite = gr .what; control = Node.absent }) refl (link (gr .same) (way _ (stmts-end _ _ (gr .what) _ (g .fuel) _ (g .enough) tk (known (Else2 t) (search) .if2 .left) (sym (known (After-ends t) (search) .ends .ensures) ∙ c .if3 .taken)))) (gr .moved) (gr .room);
+        run = relabel gr (record { suite = gr .what; control = Node.absent }) refl (link (gr .same) (way _ (stmts-end _ _ (gr .what) _ (g .fuel) _ (g .enough) tk (known (Place lts.Else2 t) (search) .if2 .left) (sym (known (Place lts.After-ends t) (search) .ends .ensures) ∙ c .if3 .taken)))) (gr .moved) (gr .room);
         plain = refl;
         many = g .many;
         short = g .short;
@@ -195,7 +153,7 @@ sub-turn t c = search needs
 pub turn-requires : (t : ℕ) → lts.Need-turn-requires (calls t) (list-at t) reads.Post Inv-loop μ-loop
 turn-requires t c κs = let g = at-loop-of-after-known-told t (search) .loop .inv in
     let gr = g .run in
-    let tk = taken (known (After-kind t) (search) .kind .given .1) (known (After-look t) (search) .look .ensures) in
+    let tk = taken (known (Place lts.After-kind t) (search) .kind .given .1) (known (Place lts.After-look t) (search) .look .ensures) in
     omega (arith, start-of-after-known-told t (search) .pre, else1-of-after-known-told t (search) .if1 .left, g .short, g .kept, gr .moved, gr .room, tk .within)
 
 pub enum-known-p2 : (t : ℕ) → lts.Need-enum-known-p2 (calls t) (list-at t) reads.Post Inv-loop μ-loop
@@ -205,7 +163,7 @@ pub mark-requires : (t : ℕ) → lts.Need-mark-requires (calls t) (list-at t) r
 mark-requires t c κs = let g = at-loop-of-after-slice-known2 t (search) .loop .inv in
     let gr = g .run in
     let tk = taken (after-kind-of-after-slice-known2 t (search) .kind .given .1) (after-look-of-after-slice-known2 t (search) .look .ensures) in
-    let w1 = was-stmt (known (After-p2 t) (search) .p2 .given .1) (known (After-turn t) (search) .turn .ensures) in
+    let w1 = was-stmt (known (Place lts.After-p2 t) (search) .p2 .given .1) (known (Place lts.After-turn t) (search) .turn .ensures) in
     let l = taller w1 (omega (arith, start-of-after-slice-known2 t (search) .pre, g .kept, gr .moved, gr .room)) in
     (omega arith, omega (arith, start-of-after-slice-known2 t (search) .pre, g .kept, gr .moved, gr .room, w1 .moved, w1 .room))
 
@@ -213,13 +171,13 @@ pub add-n : (t : ℕ) → lts.Need-add-n (calls t) (list-at t) reads.Post Inv-lo
 add-n t c = let g = at-loop-of-after-slice-known2 t (search) .loop .inv in
     let gr = g .run in
     let tk = taken (after-kind-of-after-slice-known2 t (search) .kind .given .1) (after-look-of-after-slice-known2 t (search) .look .ensures) in
-    let w1 = was-stmt (known (After-p2 t) (search) .p2 .given .1) (known (After-turn t) (search) .turn .ensures) in
+    let w1 = was-stmt (known (Place lts.After-p2 t) (search) .p2 .given .1) (known (Place lts.After-turn t) (search) .turn .ensures) in
     omega (arith, start-of-after-slice-known2 t (search) .pre, g .short, gr .moved)
 
 pub loop-less-2 : (t : ℕ) → lts.Need-loop-less-2 (calls t) (list-at t) reads.Post Inv-loop μ-loop
 loop-less-2 t c = let g = at-loop-of-after-slice-known2 t (search) .loop .inv in
     let tk = taken (after-kind-of-after-slice-known2 t (search) .kind .given .1) (after-look-of-after-slice-known2 t (search) .look .ensures) in
-    let w1 = was-stmt (known (After-p2 t) (search) .p2 .given .1) (known (After-turn t) (search) .turn .ensures) in
+    let w1 = was-stmt (known (Place lts.After-p2 t) (search) .p2 .given .1) (known (Place lts.After-turn t) (search) .turn .ensures) in
     omega (arith, w1 .moved, tk .within)
 
 pub loop-again-2 : (t : ℕ) → lts.Need-loop-again-2 (calls t) (list-at t) reads.Post Inv-loop μ-loop
@@ -227,7 +185,7 @@ loop-again-2 t c = let g = at-loop-of-after-slice-known2 t (search) .loop .inv i
     let gr = g .run in
     let tk = taken (after-kind-of-after-slice-known2 t (search) .kind .given .1) (after-look-of-after-slice-known2 t (search) .look .ensures) in
     let try = link (gr .same) (way _ (stmts-turn _ _ (gr .what) _ (g .fuel) _ (g .enough) tk (else2-of-after-slice-known2 t (search) .if2 .left) (sym (after-ends-of-after-slice-known2 t (search) .ends .ensures) ∙ else3-of-after-slice-known2 t (search) .if3 .left))) in
-    let w1 = was-stmt (known (After-p2 t) (search) .p2 .given .1) (known (After-turn t) (search) .turn .ensures) in
+    let w1 = was-stmt (known (Place lts.After-p2 t) (search) .p2 .given .1) (known (Place lts.After-turn t) (search) .turn .ensures) in
     let mk = c .mark .ensures (take (at-loop-of-after-slice-known2 t (search) .loop .a) (at-loop-of-after-slice-known2 t (search) .loop .store)) (w1 .what) (place-small _ _ _ _ _ _ (w1 .same)) (w1 .text) in
     let room = w1 .room in
     let old = gr .room in
@@ -253,8 +211,8 @@ pub returns-3 : (t : ℕ) → lts.Need-returns-3 (calls t) (list-at t) reads.Pos
 returns-3 t c = let g = at-loop-of-after-slice-known2 t (search) .loop .inv in
     let gr = g .run in
     let tk = taken (after-kind-of-after-slice-known2 t (search) .kind .given .1) (after-look-of-after-slice-known2 t (search) .look .ensures) in
-    let try = link (gr .same) (way _ (stmts-turn _ _ (gr .what) _ (g .fuel) _ (g .enough) tk (else2-of-after-slice-known2 t (search) .if2 .left) (sym (after-ends-of-after-slice-known2 t (search) .ends .ensures) ∙ known (Else3 t) (search) .if3 .left))) in
-    let k1 = was-control (known (After-p22 t) (search) .p22 .given .1) (known (After-turn t) (search) .turn .ensures) in
+    let try = link (gr .same) (way _ (stmts-turn _ _ (gr .what) _ (g .fuel) _ (g .enough) tk (else2-of-after-slice-known2 t (search) .if2 .left) (sym (after-ends-of-after-slice-known2 t (search) .ends .ensures) ∙ known (Place lts.Else3 t) (search) .if3 .left))) in
+    let k1 = was-control (known (Place lts.After-p22 t) (search) .p22 .given .1) (known (Place lts.After-turn t) (search) .turn .ensures) in
     let kr = k1 .run in
     record {
       how = record {
@@ -269,15 +227,15 @@ enum-known-p2-3 t c = search needs
 pub loop-less-3 : (t : ℕ) → lts.Need-loop-less-3 (calls t) (list-at t) reads.Post Inv-loop μ-loop
 loop-less-3 t c = let g = at-loop-of-after-slice-known2 t (search) .loop .inv in
     let tk = taken (after-kind-of-after-slice-known2 t (search) .kind .given .1) (after-look-of-after-slice-known2 t (search) .look .ensures) in
-    let v = was-caught (known (After-p23 t) (search) .p23 .given .1) (known (After-turn t) (search) .turn .ensures) in
+    let v = was-caught (known (Place lts.After-p23 t) (search) .p23 .given .1) (known (Place lts.After-turn t) (search) .turn .ensures) in
     omega (arith, v .moved, tk .within)
 
 pub loop-again-3 : (t : ℕ) → lts.Need-loop-again-3 (calls t) (list-at t) reads.Post Inv-loop μ-loop
 loop-again-3 t c = let g = at-loop-of-after-slice-known2 t (search) .loop .inv in
     let gr = g .run in
     let tk = taken (after-kind-of-after-slice-known2 t (search) .kind .given .1) (after-look-of-after-slice-known2 t (search) .look .ensures) in
-    let try = link (gr .same) (way _ (stmts-turn _ _ (gr .what) _ (g .fuel) _ (g .enough) tk (else2-of-after-slice-known2 t (search) .if2 .left) (sym (after-ends-of-after-slice-known2 t (search) .ends .ensures) ∙ known (Else3 t) (search) .if3 .left))) in
-    let v = was-caught (known (After-p23 t) (search) .p23 .given .1) (known (After-turn t) (search) .turn .ensures) in
+    let try = link (gr .same) (way _ (stmts-turn _ _ (gr .what) _ (g .fuel) _ (g .enough) tk (else2-of-after-slice-known2 t (search) .if2 .left) (sym (after-ends-of-after-slice-known2 t (search) .ends .ensures) ∙ known (Place lts.Else3 t) (search) .if3 .left))) in
+    let v = was-caught (known (Place lts.After-p23 t) (search) .p23 .given .1) (known (Place lts.After-turn t) (search) .turn .ensures) in
     record {
       fuel = g .fuel - 1;
       enough = omega (arith, g .enough, v .moved, tk .within);
@@ -299,8 +257,8 @@ pub returns-4 : (t : ℕ) → lts.Need-returns-4 (calls t) (list-at t) reads.Pos
 returns-4 t c = let g = at-loop-of-after-slice-known2 t (search) .loop .inv in
     let gr = g .run in
     let tk = taken (after-kind-of-after-slice-known2 t (search) .kind .given .1) (after-look-of-after-slice-known2 t (search) .look .ensures) in
-    let try = link (gr .same) (way _ (stmts-turn _ _ (gr .what) _ (g .fuel) _ (g .enough) tk (else2-of-after-slice-known2 t (search) .if2 .left) (sym (after-ends-of-after-slice-known2 t (search) .ends .ensures) ∙ known (Else3 t) (search) .if3 .left))) in
-    record { how = fails _ try (was-not (known (After-s t) (search) .s .given .1) (known (After-turn t) (search) .turn .ensures)) (prefix gr (omega (arith, start-of-after-slice-known2 t (search) .pre))) (omega (arith, gr .moved, gr .room)) }
+    let try = link (gr .same) (way _ (stmts-turn _ _ (gr .what) _ (g .fuel) _ (g .enough) tk (else2-of-after-slice-known2 t (search) .if2 .left) (sym (after-ends-of-after-slice-known2 t (search) .ends .ensures) ∙ known (Place lts.Else3 t) (search) .if3 .left))) in
+    record { how = fails _ try (was-not (known (Place lts.After-s t) (search) .s .given .1) (known (Place lts.After-turn t) (search) .turn .ensures)) (prefix gr (omega (arith, start-of-after-slice-known2 t (search) .pre))) (omega (arith, gr .moved, gr .room)) }
 
 pub enum-known-s-2 : (t : ℕ) → lts.Need-enum-known-s-2 (calls t) (list-at t) reads.Post Inv-loop μ-loop
 enum-known-s-2 t c = search needs
@@ -309,6 +267,6 @@ pub same-length-4 : (t : ℕ) → lts.Need-same-length-4 (calls t) (list-at t) r
 same-length-4 t c = search needs
 
 pub returns-5 : (t : ℕ) → lts.Need-returns-5 (calls t) (list-at t) reads.Post Inv-loop μ-loop
-returns-5 t c = let g = known (At-loop t) (search) .loop .inv in
+returns-5 t c = let g = known (Place lts.At-loop t) (search) .loop .inv in
     let gr = g .run in
-    record { how = fails-unseen (gr .same) (stmts-looks _ _ (gr .what) _ _ (g .fuel) _ (g .enough)) (not-taken (known (After-s2 t) (search) .s2 .given .1) (known (After-look t) (search) .look .ensures)) (prefix gr (omega (arith, known (Start t) (search) .pre))) (omega arith) }
+    record { how = fails-unseen (gr .same) (stmts-looks _ _ (gr .what) _ _ (g .fuel) _ (g .enough)) (not-taken (known (Place lts.After-s2 t) (search) .s2 .given .1) (known (Place lts.After-look t) (search) .look .ensures)) (prefix gr (omega (arith, known (Place lts.Start t) (search) .pre))) (omega arith) }

@@ -2,6 +2,7 @@
 use mathlib.Core.Path.{refl, sym}
 use mathlib.Core.List.{append-nil}
 use Prim.Native.Nat.{ℕ}
+use borrow.Fn.Kinds.{In, Out}
 use borrow.Author.Needs.{needs}
 use native.Mathlib.Omega.{arith}
 use lib.ListN.{take}
@@ -11,6 +12,7 @@ use Rattle.scan.proofs.Laws.{way, goes, done, undone, fails, lacks}
 use Rattle.cycle.proofs.PathsParams.{param-step, param-got, head-required, head-variadic, head-default, no-head, default-one}
 use Rattle.cycle.proofs.Writing.{added-prefix}
 use Rattle.nodes.specs.Parameters.{required-words}
+use Rattle.cycle.proofs.param.Kinds as kinds
 use Rattle.cycle.proofs.param.Reads as reads
 use Rattle.cycle.proofs.+arm+atom+begin+binop+block+body+call+catch+cond+def+dest+dots+each+expr+fun+group+index+item+jump+key+label+lhs+list+loops+param+part+path+prim+rhs+sig+stmt+sync+table+tail+term+tuple+turn+unop+val+whiles.Lts-param as lts
 use Rattle.cycle.proofs.expr.Reads as expr-reads
@@ -24,61 +26,32 @@ use Rattle.tree.proofs.Known.{known}
 abbrev pub calls : ℕ → lts.Claims
 calls t = (param-head-reads.Asked, param-head-reads.Learnt, required-end-reads.Asked, required-end-reads.Learnt, expr-below t, expr-reads.Post, emit-reads.Asked, emit-reads.Learnt)
 
-abbrev After-p3 : ℕ → Type 0
-After-p3 t = lts.After-p3 (calls t) (param-at t) reads.Post
+-- a place of its code
+abbrev Place : (lts.Claims → In 3 kinds.ps → Out 3 kinds.ps kinds.r → Type 0) → ℕ → Type 0
+Place P t = P (calls t) (param-at t) reads.Post
 
-abbrev After-param-head : ℕ → Type 0
-After-param-head t = lts.After-param-head (calls t) (param-at t) reads.Post
-
-abbrev After-required-end : ℕ → Type 0
-After-required-end t = lts.After-required-end (calls t) (param-at t) reads.Post
-
-abbrev Start : ℕ → Type 0
-Start t = lts.Start (calls t) (param-at t) reads.Post
-
-abbrev At-match2-keys1 : ℕ → Type 0
-At-match2-keys1 t = lts.At-match2-keys1 (calls t) (param-at t) reads.Post
-
-abbrev After-r : ℕ → Type 0
-After-r t = lts.After-r (calls t) (param-at t) reads.Post
-
-abbrev After-expr : ℕ → Type 0
-After-expr t = lts.After-expr (calls t) (param-at t) reads.Post
-
-abbrev After-p : ℕ → Type 0
-After-p t = lts.After-p (calls t) (param-at t) reads.Post
-
-abbrev After-p2 : ℕ → Type 0
-After-p2 t = lts.After-p2 (calls t) (param-at t) reads.Post
-
-abbrev After-emit : ℕ → Type 0
-After-emit t = lts.After-emit (calls t) (param-at t) reads.Post
-
-abbrev After-s : ℕ → Type 0
-After-s t = lts.After-s (calls t) (param-at t) reads.Post
-
-abbrev after-param-head-of-after-required-end : (t : ℕ) → After-required-end t → After-param-head t
+abbrev after-param-head-of-after-required-end : (t : ℕ) → Place lts.After-required-end t → Place lts.After-param-head t
 after-param-head-of-after-required-end t c = search
 
-abbrev start-of-after-required-end : (t : ℕ) → After-required-end t → Start t
+abbrev start-of-after-required-end : (t : ℕ) → Place lts.After-required-end t → Place lts.Start t
 start-of-after-required-end t c = search
 
-abbrev after-p3-of-after-required-end : (t : ℕ) → After-required-end t → After-p3 t
+abbrev after-p3-of-after-required-end : (t : ℕ) → Place lts.After-required-end t → Place lts.After-p3 t
 after-p3-of-after-required-end t c = search
 
-abbrev after-p3-of-at-match2-keys1 : (t : ℕ) → At-match2-keys1 t → After-p3 t
+abbrev after-p3-of-at-match2-keys1 : (t : ℕ) → Place lts.At-match2-keys1 t → Place lts.After-p3 t
 after-p3-of-at-match2-keys1 t c = after-p3-of-after-required-end t (search)
 
-abbrev after-param-head-of-at-match2-keys1 : (t : ℕ) → At-match2-keys1 t → After-param-head t
+abbrev after-param-head-of-at-match2-keys1 : (t : ℕ) → Place lts.At-match2-keys1 t → Place lts.After-param-head t
 after-param-head-of-at-match2-keys1 t c = after-param-head-of-after-required-end t (search)
 
-abbrev after-required-end-of-at-match2-keys1 : (t : ℕ) → At-match2-keys1 t → After-required-end t
+abbrev after-required-end-of-at-match2-keys1 : (t : ℕ) → Place lts.At-match2-keys1 t → Place lts.After-required-end t
 after-required-end-of-at-match2-keys1 t c = search
 
-abbrev start-of-at-match2-keys1 : (t : ℕ) → At-match2-keys1 t → Start t
+abbrev start-of-at-match2-keys1 : (t : ℕ) → Place lts.At-match2-keys1 t → Place lts.Start t
 start-of-at-match2-keys1 t c = start-of-after-required-end t (search)
 
-abbrev after-expr-of-at-match2-keys1 : (t : ℕ) → At-match2-keys1 t → After-expr t
+abbrev after-expr-of-at-match2-keys1 : (t : ℕ) → Place lts.At-match2-keys1 t → Place lts.After-expr t
 after-expr-of-at-match2-keys1 t c = search
 
 pub param-head-requires : (t : ℕ) → lts.Need-param-head-requires (calls t) (param-at t) reads.Post
@@ -94,14 +67,14 @@ pub enum-known-p-3 : (t : ℕ) → lts.Need-enum-known-p-3 (calls t) (param-at t
 enum-known-p-3 t c = search needs
 
 pub required-end-requires : (t : ℕ) → lts.Need-required-end-requires (calls t) (param-at t) reads.Post
-required-end-requires t c κs = let h = head-default (known (After-p3 t) (search) .p3 .given .1) (known (After-param-head t) (search) .param-head .ensures) in
+required-end-requires t c κs = let h = head-default (known (Place lts.After-p3 t) (search) .p3 .given .1) (known (Place lts.After-param-head t) (search) .param-head .ensures) in
     let hg = h .got in
     (omega arith, omega arith)
 
 pub expr-requires : (t : ℕ) → lts.Need-expr-requires (calls t) (param-at t) reads.Post
-expr-requires t c κs = let h = head-default (known (After-p3 t) (search) .p3 .given .1) (after-param-head-of-after-required-end t (search) .param-head .ensures) in
+expr-requires t c κs = let h = head-default (known (Place lts.After-p3 t) (search) .p3 .given .1) (after-param-head-of-after-required-end t (search) .param-head .ensures) in
     let hg = h .got in
-    let b = known (After-required-end t) (search) .required-end .ensures in
+    let b = known (Place lts.After-required-end t) (search) .required-end .ensures in
     omega (arith, start-of-after-required-end t (search) .pre)
 
 pub enum-known-r : (t : ℕ) → lts.Need-enum-known-r (calls t) (param-at t) reads.Post
@@ -111,21 +84,21 @@ pub emit-requires : (t : ℕ) → lts.Need-emit-requires (calls t) (param-at t) 
 emit-requires t c κs = let h = head-default (after-p3-of-at-match2-keys1 t (search) .p3 .given .1) (after-param-head-of-at-match2-keys1 t (search) .param-head .ensures) in
     let hg = h .got in
     let b = after-required-end-of-at-match2-keys1 t (search) .required-end .ensures in
-    let w = done (known (After-r t) (search) .r .given .1) (known (After-expr t) (search) .expr .ensures) in
+    let w = done (known (Place lts.After-r t) (search) .r .given .1) (known (Place lts.After-expr t) (search) .expr .ensures) in
     omega (arith, start-of-at-match2-keys1 t (search) .pre)
 
 pub enum-known-s : (t : ℕ) → lts.Need-enum-known-s (calls t) (param-at t) reads.Post
 enum-known-s t c = search needs
 
 pub returns : (t : ℕ) → lts.Need-returns (calls t) (param-at t) reads.Post
-returns t c = let h = head-required (known (After-p t) (search) .p .given .1) (known (After-param-head t) (search) .param-head .ensures) in
+returns t c = let h = head-required (known (Place lts.After-p t) (search) .p .given .1) (known (Place lts.After-param-head t) (search) .param-head .ensures) in
     let g = h .got in
-    record { how = record { run = record { what = tt; same = way _ (param-got _ h-required (known (Start t) (search) .args .pos) h _); moved = omega arith; room = omega arith; text = sym (append-nil (take (known (Start t) (search) .args .at) (known (Start t) (search) .args .store .now))) }; below = h .below } }
+    record { how = record { run = record { what = tt; same = way _ (param-got _ h-required (known (Place lts.Start t) (search) .args .pos) h _); moved = omega arith; room = omega arith; text = sym (append-nil (take (known (Place lts.Start t) (search) .args .at) (known (Place lts.Start t) (search) .args .store .now))) }; below = h .below } }
 
 pub returns-2 : (t : ℕ) → lts.Need-returns-2 (calls t) (param-at t) reads.Post
-returns-2 t c = let h = head-variadic (known (After-p2 t) (search) .p2 .given .1) (known (After-param-head t) (search) .param-head .ensures) in
+returns-2 t c = let h = head-variadic (known (Place lts.After-p2 t) (search) .p2 .given .1) (known (Place lts.After-param-head t) (search) .param-head .ensures) in
     let g = h .got in
-    record { how = record { run = record { what = tt; same = way _ (param-got _ h-variadic (known (Start t) (search) .args .pos) h _); moved = omega arith; room = omega arith; text = sym (append-nil (take (known (Start t) (search) .args .at) (known (Start t) (search) .args .store .now))) }; below = h .below } }
+    record { how = record { run = record { what = tt; same = way _ (param-got _ h-variadic (known (Place lts.Start t) (search) .args .pos) h _); moved = omega arith; room = omega arith; text = sym (append-nil (take (known (Place lts.Start t) (search) .args .at) (known (Place lts.Start t) (search) .args .store .now))) }; below = h .below } }
 
 pub same-length : (t : ℕ) → lts.Need-same-length (calls t) (param-at t) reads.Post
 same-length t c = search needs
@@ -134,10 +107,10 @@ pub returns-3 : (t : ℕ) → lts.Need-returns-3 (calls t) (param-at t) reads.Po
 returns-3 t c = let h = head-default (after-p3-of-at-match2-keys1 t (search) .p3 .given .1) (after-param-head-of-at-match2-keys1 t (search) .param-head .ensures) in
     let hg = h .got in
     let b = after-required-end-of-at-match2-keys1 t (search) .required-end .ensures in
-    let w = done (known (After-r t) (search) .r .given .1) (after-expr-of-at-match2-keys1 t (search) .expr .ensures) in
+    let w = done (known (Place lts.After-r t) (search) .r .given .1) (after-expr-of-at-match2-keys1 t (search) .expr .ensures) in
     let path = way _ (param-got _ h-default (start-of-at-match2-keys1 t (search) .args .pos) h _) in
     let x = start-of-at-match2-keys1 t (search) .args in
-    let e = known (After-emit t) (search) .emit .ensures in
+    let e = known (Place lts.After-emit t) (search) .emit .ensures in
     record { how = record { what = record { name = after-p3-of-at-match2-keys1 t (search) .p3 .given .0 .1 .0; value = w .what }; same = goes _ path (w .same); moved = omega (arith, start-of-at-match2-keys1 t (search) .pre, hg .on, w .moved); room = omega (arith, start-of-at-match2-keys1 t (search) .pre, hg .on, hg .within, b .up, b .far, w .room, w .moved, e .next); text = default-one (take (x .at) (x .store .now)) (required-words (x .required) (x .default)) (after-p3-of-at-match2-keys1 t (search) .p3 .given .0 .1 .0) (w .what) e (w .text) (b .text) } }
 
 pub same-length-2 : (t : ℕ) → lts.Need-same-length-2 (calls t) (param-at t) reads.Post
@@ -146,9 +119,9 @@ same-length-2 t c = search needs
 pub returns-4 : (t : ℕ) → lts.Need-returns-4 (calls t) (param-at t) reads.Post
 returns-4 t c = let h = head-default (after-p3-of-after-required-end t (search) .p3 .given .1) (after-param-head-of-after-required-end t (search) .param-head .ensures) in
     let hg = h .got in
-    let b = known (After-required-end t) (search) .required-end .ensures in
+    let b = known (Place lts.After-required-end t) (search) .required-end .ensures in
     let path = way _ (param-got _ h-default (start-of-after-required-end t (search) .args .pos) h _) in
-    record { how = fails _ path (undone (c .match2 .keys2) (known (After-expr t) (search) .expr .ensures)) (added-prefix b (omega arith)) (omega arith) }
+    record { how = fails _ path (undone (c .match2 .keys2) (known (Place lts.After-expr t) (search) .expr .ensures)) (added-prefix b (omega arith)) (omega arith) }
 
 pub returns-5 : (t : ℕ) → lts.Need-returns-5 (calls t) (param-at t) reads.Post
-returns-5 t c = record { how = lacks _ (no-head (known (After-s t) (search) .s .given .1) (known (After-param-head t) (search) .param-head .ensures)) (way _ (param-step _ _ _)) refl (omega arith) }
+returns-5 t c = record { how = lacks _ (no-head (known (Place lts.After-s t) (search) .s .given .1) (known (Place lts.After-param-head t) (search) .param-head .ensures)) (way _ (param-step _ _ _)) refl (omega arith) }

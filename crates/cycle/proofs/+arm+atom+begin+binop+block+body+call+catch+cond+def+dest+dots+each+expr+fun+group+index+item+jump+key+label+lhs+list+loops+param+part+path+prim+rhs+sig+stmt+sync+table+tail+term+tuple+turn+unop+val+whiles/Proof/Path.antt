@@ -3,6 +3,7 @@ use mathlib.Core.Path.{_≡_, refl, sym, ap, _∙_}
 use mathlib.Core.Bool.{Bool}
 use mathlib.Core.List.{List, append-nil}
 use Prim.Native.Nat.{ℕ, _+_, _*_, _-_, _≤_}
+use borrow.Fn.Kinds.{In, Out}
 use borrow.Author.Needs.{needs}
 use borrow.Author.Tests.{not-true, not-false}
 use native.Mathlib.Omega.{arith}
@@ -16,6 +17,7 @@ use Rattle.scan.proofs.Text.{left}
 use Rattle.nodes.proofs.Made.{count-snoc, joined}
 use Rattle.cycle.proofs.PathsPrimary.{path-looks, path-ends, path-more, path-far}
 use Rattle.grammar.specs.Reading.Primary.{path as path-def}
+use Rattle.cycle.proofs.path.Kinds as kinds
 use Rattle.cycle.proofs.path.Reads as reads
 use Rattle.cycle.proofs.+arm+atom+begin+binop+block+body+call+catch+cond+def+dest+dots+each+expr+fun+group+index+item+jump+key+label+lhs+list+loops+param+part+path+prim+rhs+sig+stmt+sync+table+tail+term+tuple+turn+unop+val+whiles.Lts-path as lts
 use Rattle.cycle.proofs.part.Reads as part-reads
@@ -45,72 +47,43 @@ Inv-loop tokens store₀ queue₀ depth calls pos at waiting p₀ a₀ w₀ n₀
 abbrev pub μ-loop : lts.MeasureT-loop
 μ-loop tokens store₀ queue₀ depth calls pos at waiting p₀ a₀ w₀ n₀ store queue p a w n = length tokens - p
 
-abbrev Start : ℕ → Type 0
-Start t = lts.Start (calls t) (path-at t) reads.Post Inv-loop μ-loop
+-- a place of its code
+abbrev Place : (lts.Claims → In 3 kinds.ps → Out 3 kinds.ps kinds.r → lts.InvT-loop → lts.MeasureT-loop → Type 0) → ℕ → Type 0
+Place P t = P (calls t) (path-at t) reads.Post Inv-loop μ-loop
 
-abbrev At-loop : ℕ → Type 0
-At-loop t = lts.At-loop (calls t) (path-at t) reads.Post Inv-loop μ-loop
-
-abbrev After-kind : ℕ → Type 0
-After-kind t = lts.After-kind (calls t) (path-at t) reads.Post Inv-loop μ-loop
-
-abbrev After-look : ℕ → Type 0
-After-look t = lts.After-look (calls t) (path-at t) reads.Post Inv-loop μ-loop
-
-abbrev After-continues : ℕ → Type 0
-After-continues t = lts.After-continues (calls t) (path-at t) reads.Post Inv-loop μ-loop
-
-abbrev Then1 : ℕ → Type 0
-Then1 t = lts.Then1 (calls t) (path-at t) reads.Post Inv-loop μ-loop
-
-abbrev After-path-end : ℕ → Type 0
-After-path-end t = lts.After-path-end (calls t) (path-at t) reads.Post Inv-loop μ-loop
-
-abbrev After-r : ℕ → Type 0
-After-r t = lts.After-r (calls t) (path-at t) reads.Post Inv-loop μ-loop
-
-abbrev After-part : ℕ → Type 0
-After-part t = lts.After-part (calls t) (path-at t) reads.Post Inv-loop μ-loop
-
-abbrev Else1 : ℕ → Type 0
-Else1 t = lts.Else1 (calls t) (path-at t) reads.Post Inv-loop μ-loop
-
-abbrev After-s : ℕ → Type 0
-After-s t = lts.After-s (calls t) (path-at t) reads.Post Inv-loop μ-loop
-
-abbrev start-of-after-continues : (t : ℕ) → After-continues t → Start t
+abbrev start-of-after-continues : (t : ℕ) → Place lts.After-continues t → Place lts.Start t
 start-of-after-continues t c = search
 
-abbrev at-loop-of-after-continues : (t : ℕ) → After-continues t → At-loop t
+abbrev at-loop-of-after-continues : (t : ℕ) → Place lts.After-continues t → Place lts.At-loop t
 at-loop-of-after-continues t c = search
 
-abbrev after-look-of-after-continues : (t : ℕ) → After-continues t → After-look t
+abbrev after-look-of-after-continues : (t : ℕ) → Place lts.After-continues t → Place lts.After-look t
 after-look-of-after-continues t c = search
 
-abbrev at-loop-of-after-r : (t : ℕ) → After-r t → At-loop t
+abbrev at-loop-of-after-r : (t : ℕ) → Place lts.After-r t → Place lts.At-loop t
 at-loop-of-after-r t c = at-loop-of-after-continues t (search)
 
-abbrev after-kind-of-after-continues : (t : ℕ) → After-continues t → After-kind t
+abbrev after-kind-of-after-continues : (t : ℕ) → Place lts.After-continues t → Place lts.After-kind t
 after-kind-of-after-continues t c = search
 
-abbrev after-kind-of-after-r : (t : ℕ) → After-r t → After-kind t
+abbrev after-kind-of-after-r : (t : ℕ) → Place lts.After-r t → Place lts.After-kind t
 after-kind-of-after-r t c = after-kind-of-after-continues t (search)
 
-abbrev after-look-of-after-r : (t : ℕ) → After-r t → After-look t
+abbrev after-look-of-after-r : (t : ℕ) → Place lts.After-r t → Place lts.After-look t
 after-look-of-after-r t c = after-look-of-after-continues t (search)
 
-abbrev start-of-after-r : (t : ℕ) → After-r t → Start t
+abbrev start-of-after-r : (t : ℕ) → Place lts.After-r t → Place lts.Start t
 start-of-after-r t c = start-of-after-continues t (search)
 
-abbrev after-continues-of-after-r : (t : ℕ) → After-r t → After-continues t
+abbrev after-continues-of-after-r : (t : ℕ) → Place lts.After-r t → Place lts.After-continues t
 after-continues-of-after-r t c = search
 
 pub loop-holds : (t : ℕ) → lts.Need-loop-holds (calls t) (path-at t) reads.Post Inv-loop μ-loop
 unfolding records count
 loop-holds t c = record {
-  fuel = length (drop (known (Start t) (search) .args .pos) (known (Start t) (search) .args .tokens .now));
+  fuel = length (drop (known (Place lts.Start t) (search) .args .pos) (known (Place lts.Start t) (search) .args .tokens .now));
   enough = rw length-drop (omega arith);
-  run = record { what = none; same = here; moved = omega arith; room = omega arith; text = sym (append-nil (take (known (Start t) (search) .args .at) (known (Start t) (search) .args .store .now))) };
+  run = record { what = none; same = here; moved = omega arith; room = omega arith; text = sym (append-nil (take (known (Place lts.Start t) (search) .args .at) (known (Place lts.Start t) (search) .args .store .now))) };
   many = refl;
   short = omega arith;
   spare = omega arith;
@@ -127,9 +100,9 @@ pub continues-requires : (t : ℕ) → lts.Need-continues-requires (calls t) (pa
 continues-requires t c κs = search needs
 
 pub path-end-requires : (t : ℕ) → lts.Need-path-end-requires (calls t) (path-at t) reads.Post Inv-loop μ-loop
-path-end-requires t c κs = let g = known (At-loop t) (search) .loop .inv in
+path-end-requires t c κs = let g = known (Place lts.At-loop t) (search) .loop .inv in
     let gr = g .run in
-    let tk = taken (known (After-kind t) (search) .kind .given .1) (known (After-look t) (search) .look .ensures) in
+    let tk = taken (known (Place lts.After-kind t) (search) .kind .given .1) (known (Place lts.After-look t) (search) .look .ensures) in
     (omega (arith, start-of-after-continues t (search) .pre, g .kept, gr .moved, gr .room, tk .within), omega (arith, start-of-after-continues t (search) .pre, g .short, tk .within))
 
 pub same-length : (t : ℕ) → lts.Need-same-length (calls t) (path-at t) reads.Post Inv-loop μ-loop
@@ -138,22 +111,22 @@ same-length t c = search needs
 pub returns : (t : ℕ) → lts.Need-returns (calls t) (path-at t) reads.Post Inv-loop μ-loop
 returns t c = let g = at-loop-of-after-continues t (search) .loop .inv in
     let gr = g .run in
-    let tk = taken (known (After-kind t) (search) .kind .given .1) (after-look-of-after-continues t (search) .look .ensures) in
-    let out = link (gr .same) (way _ (path-ends _ _ (gr .what) _ (g .fuel) _ (g .enough) tk (sym (known (After-continues t) (search) .continues .ensures) ∙ not-true _ (known (Then1 t) (search) .if1 .taken)))) in
-    let e = known (After-path-end t) (search) .path-end .ensures in
+    let tk = taken (known (Place lts.After-kind t) (search) .kind .given .1) (after-look-of-after-continues t (search) .look .ensures) in
+    let out = link (gr .same) (way _ (path-ends _ _ (gr .what) _ (g .fuel) _ (g .enough) tk (sym (known (Place lts.After-continues t) (search) .continues .ensures) ∙ not-true _ (known (Place lts.Then1 t) (search) .if1 .taken)))) in
+    let e = known (Place lts.After-path-end t) (search) .path-end .ensures in
     let Z = take (start-of-after-continues t (search) .args .at) (start-of-after-continues t (search) .args .store .now) in
     let x = e .text Z (gr .what) (g .many) (gr .text) in
-    let far = path-far (gr .what) _ _ Z _ _ (gr .text) x (omega (arith, start-of-after-continues t (search) .pre, g .kept, gr .moved, gr .room, tk .within)) (omega (arith, start-of-after-continues t (search) .pre, g .kept, gr .moved, gr .room, tk .within, e .far, known (After-path-end t) (search) .path-end .kept .0)) (e .far) in
+    let far = path-far (gr .what) _ _ Z _ _ (gr .text) x (omega (arith, start-of-after-continues t (search) .pre, g .kept, gr .moved, gr .room, tk .within)) (omega (arith, start-of-after-continues t (search) .pre, g .kept, gr .moved, gr .room, tk .within, e .far, known (Place lts.After-path-end t) (search) .path-end .kept .0)) (e .far) in
     record { how = record { what = gr .what; same = out; moved = gr .moved; room = omega (arith, g .spare, g .many, gr .room, e .up, far); text = x } }
 
 pub add-part : (t : ℕ) → lts.Need-add-part (calls t) (path-at t) reads.Post Inv-loop μ-loop
-add-part t c = let tk = taken (known (After-kind t) (search) .kind .given .1) (known (After-look t) (search) .look .ensures) in
+add-part t c = let tk = taken (known (Place lts.After-kind t) (search) .kind .given .1) (known (Place lts.After-look t) (search) .look .ensures) in
     omega arith
 
 pub part-requires : (t : ℕ) → lts.Need-part-requires (calls t) (path-at t) reads.Post Inv-loop μ-loop
-part-requires t c κs = let g = known (At-loop t) (search) .loop .inv in
+part-requires t c κs = let g = known (Place lts.At-loop t) (search) .loop .inv in
     let gr = g .run in
-    let tk = taken (known (After-kind t) (search) .kind .given .1) (known (After-look t) (search) .look .ensures) in
+    let tk = taken (known (Place lts.After-kind t) (search) .kind .given .1) (known (Place lts.After-look t) (search) .look .ensures) in
     (omega (arith, start-of-after-continues t (search) .pre, g .kept, gr .moved, gr .room, tk .within), omega (arith, start-of-after-continues t (search) .pre, g .kept, gr .moved, gr .room, tk .within))
 
 pub enum-known-r : (t : ℕ) → lts.Need-enum-known-r (calls t) (path-at t) reads.Post Inv-loop μ-loop
@@ -162,20 +135,20 @@ enum-known-r t c = search needs
 pub add-n : (t : ℕ) → lts.Need-add-n (calls t) (path-at t) reads.Post Inv-loop μ-loop
 add-n t c = let g = at-loop-of-after-r t (search) .loop .inv in
     let tk = taken (after-kind-of-after-r t (search) .kind .given .1) (after-look-of-after-r t (search) .look .ensures) in
-    let w = done (known (After-r t) (search) .r .given .1) (known (After-part t) (search) .part .ensures) in
+    let w = done (known (Place lts.After-r t) (search) .r .given .1) (known (Place lts.After-part t) (search) .part .ensures) in
     omega (arith, start-of-after-r t (search) .pre, g .short, w .moved)
 
 pub loop-less : (t : ℕ) → lts.Need-loop-less (calls t) (path-at t) reads.Post Inv-loop μ-loop
 loop-less t c = let tk = taken (after-kind-of-after-r t (search) .kind .given .1) (after-look-of-after-r t (search) .look .ensures) in
-    let w = done (known (After-r t) (search) .r .given .1) (known (After-part t) (search) .part .ensures) in
+    let w = done (known (Place lts.After-r t) (search) .r .given .1) (known (Place lts.After-part t) (search) .part .ensures) in
     omega (arith, tk .within, w .moved)
 
 pub loop-again : (t : ℕ) → lts.Need-loop-again (calls t) (path-at t) reads.Post Inv-loop μ-loop
 loop-again t c = let g = at-loop-of-after-r t (search) .loop .inv in
     let gr = g .run in
     let tk = taken (after-kind-of-after-r t (search) .kind .given .1) (after-look-of-after-r t (search) .look .ensures) in
-    let on = link (gr .same) (way _ (path-more _ _ (gr .what) _ (g .fuel) _ (g .enough) tk (sym (after-continues-of-after-r t (search) .continues .ensures) ∙ not-false _ (known (Else1 t) (search) .if1 .left)))) in
-    let w = done (known (After-r t) (search) .r .given .1) (known (After-part t) (search) .part .ensures) in
+    let on = link (gr .same) (way _ (path-more _ _ (gr .what) _ (g .fuel) _ (g .enough) tk (sym (after-continues-of-after-r t (search) .continues .ensures) ∙ not-false _ (known (Place lts.Else1 t) (search) .if1 .left)))) in
+    let w = done (known (Place lts.After-r t) (search) .r .given .1) (known (Place lts.After-part t) (search) .part .ensures) in
     record {
       fuel = g .fuel - 1;
       enough = omega (arith, g .enough, w .moved, tk .within);
@@ -183,7 +156,7 @@ loop-again t c = let g = at-loop-of-after-r t (search) .loop .inv in
       many = count-snoc (gr .what) (w .what) ∙ ap (λ (i : ℕ). i + 1) (g .many);
       short = omega (arith, g .short, w .moved);
       spare = omega (arith, g .spare, w .room);
-      kept = omega (arith, g .kept, known (After-part t) (search) .part .kept .1 .0);
+      kept = omega (arith, g .kept, known (Place lts.After-part t) (search) .part .kept .1 .0);
     }
 
 pub same-length-2 : (t : ℕ) → lts.Need-same-length-2 (calls t) (path-at t) reads.Post Inv-loop μ-loop
@@ -193,8 +166,8 @@ pub returns-2 : (t : ℕ) → lts.Need-returns-2 (calls t) (path-at t) reads.Pos
 returns-2 t c = let g = at-loop-of-after-continues t (search) .loop .inv in
     let gr = g .run in
     let tk = taken (after-kind-of-after-continues t (search) .kind .given .1) (after-look-of-after-continues t (search) .look .ensures) in
-    let on = link (gr .same) (way _ (path-more _ _ (gr .what) _ (g .fuel) _ (g .enough) tk (sym (known (After-continues t) (search) .continues .ensures) ∙ not-false _ (known (Else1 t) (search) .if1 .left)))) in
-    did-not (fails _ on (undone (c .match2 .keys2) (known (After-part t) (search) .part .ensures)) (prefix gr (omega (arith, start-of-after-continues t (search) .pre))) (omega (arith, gr .moved, gr .room)))
+    let on = link (gr .same) (way _ (path-more _ _ (gr .what) _ (g .fuel) _ (g .enough) tk (sym (known (Place lts.After-continues t) (search) .continues .ensures) ∙ not-false _ (known (Place lts.Else1 t) (search) .if1 .left)))) in
+    did-not (fails _ on (undone (c .match2 .keys2) (known (Place lts.After-part t) (search) .part .ensures)) (prefix gr (omega (arith, start-of-after-continues t (search) .pre))) (omega (arith, gr .moved, gr .room)))
 
 pub enum-known-s : (t : ℕ) → lts.Need-enum-known-s (calls t) (path-at t) reads.Post Inv-loop μ-loop
 enum-known-s t c = search needs
@@ -203,6 +176,6 @@ pub same-length-3 : (t : ℕ) → lts.Need-same-length-3 (calls t) (path-at t) r
 same-length-3 t c = search needs
 
 pub returns-3 : (t : ℕ) → lts.Need-returns-3 (calls t) (path-at t) reads.Post Inv-loop μ-loop
-returns-3 t c = let g = known (At-loop t) (search) .loop .inv in
+returns-3 t c = let g = known (Place lts.At-loop t) (search) .loop .inv in
     let gr = g .run in
-    did-not (fails-unseen (gr .same) (path-looks _ _ (gr .what) _ _ (g .fuel) _ (g .enough)) (not-taken (known (After-s t) (search) .s .given .1) (known (After-look t) (search) .look .ensures)) (prefix gr (omega (arith, known (Start t) (search) .pre))) (omega (arith, gr .moved)))
+    did-not (fails-unseen (gr .same) (path-looks _ _ (gr .what) _ _ (g .fuel) _ (g .enough)) (not-taken (known (Place lts.After-s t) (search) .s .given .1) (known (Place lts.After-look t) (search) .look .ensures)) (prefix gr (omega (arith, known (Place lts.Start t) (search) .pre))) (omega (arith, gr .moved)))

@@ -2,6 +2,7 @@
 use mathlib.Core.Path.{refl, sym, _∙_}
 use mathlib.Core.List.{[], append-nil}
 use Prim.Native.Nat.{ℕ}
+use borrow.Fn.Kinds.{In, Out}
 use borrow.Author.Needs.{needs}
 use native.Mathlib.Omega.{arith}
 use lib.ListN.{take}
@@ -16,6 +17,7 @@ use Rattle.cycle.proofs.PathsStmt.{stmt-looks, while-as, stmt-loop, stm
 use Rattle.cycle.proofs.Shapes.{given, expr-shape}
 use Rattle.cycle.proofs.Writing.{written, fails-with}
 use Rattle.grammar.specs.Reading.Stmt.{stmt-list-of}
+use Rattle.cycle.proofs.stmt.Kinds as kinds
 use Rattle.cycle.proofs.stmt.Reads as reads
 use Rattle.cycle.proofs.+arm+atom+begin+binop+block+body+call+catch+cond+def+dest+dots+each+expr+fun+group+index+item+jump+key+label+lhs+list+loops+param+part+path+prim+rhs+sig+stmt+sync+table+tail+term+tuple+turn+unop+val+whiles.Lts-stmt as lts
 use Rattle.cycle.proofs.each.Reads as each-reads
@@ -35,157 +37,74 @@ use Rattle.tree.proofs.Known.{known}
 abbrev pub calls : ℕ → lts.Claims
 calls t = (look-reads.Asked, look-reads.Learnt, loops-below t, loops-reads.Post, whiles-below t, whiles-reads.Post, each-below t, each-reads.Post, label-below t, label-reads.Post, expr-below t, expr-reads.Post, emit-reads.Asked, emit-reads.Learnt, is-control-reads.Asked, is-control-reads.Learnt, not-allowed-reads.Asked, not-allowed-reads.Learnt, expression-end-reads.Asked, expression-end-reads.Learnt)
 
-abbrev After-kind : ℕ → Type 0
-After-kind t = lts.After-kind (calls t) (stmt-at t) reads.Post
+-- a place of its code
+abbrev Place : (lts.Claims → In 3 kinds.ps → Out 3 kinds.ps kinds.r → Type 0) → ℕ → Type 0
+Place P t = P (calls t) (stmt-at t) reads.Post
 
-abbrev After-look : ℕ → Type 0
-After-look t = lts.After-look (calls t) (stmt-at t) reads.Post
-
-abbrev At-match2-keys4 : ℕ → Type 0
-At-match2-keys4 t = lts.At-match2-keys4 (calls t) (stmt-at t) reads.Post
-
-abbrev After-expr-arg : ℕ → Type 0
-After-expr-arg t = lts.After-expr-arg (calls t) (stmt-at t) reads.Post
-
-abbrev At-match2-keys5 : ℕ → Type 0
-At-match2-keys5 t = lts.At-match2-keys5 (calls t) (stmt-at t) reads.Post
-
-abbrev After-expr : ℕ → Type 0
-After-expr t = lts.After-expr (calls t) (stmt-at t) reads.Post
-
-abbrev After-r : ℕ → Type 0
-After-r t = lts.After-r (calls t) (stmt-at t) reads.Post
-
-abbrev At-match2-rest : ℕ → Type 0
-At-match2-rest t = lts.At-match2-rest (calls t) (stmt-at t) reads.Post
-
-abbrev After-is-control : ℕ → Type 0
-After-is-control t = lts.After-is-control (calls t) (stmt-at t) reads.Post
-
-abbrev Then1 : ℕ → Type 0
-Then1 t = lts.Then1 (calls t) (stmt-at t) reads.Post
-
-abbrev Else1 : ℕ → Type 0
-Else1 t = lts.Else1 (calls t) (stmt-at t) reads.Post
-
-abbrev After-expr2 : ℕ → Type 0
-After-expr2 t = lts.After-expr2 (calls t) (stmt-at t) reads.Post
-
-abbrev After-r2 : ℕ → Type 0
-After-r2 t = lts.After-r2 (calls t) (stmt-at t) reads.Post
-
-abbrev Start : ℕ → Type 0
-Start t = lts.Start (calls t) (stmt-at t) reads.Post
-
-abbrev After-loops-arg : ℕ → Type 0
-After-loops-arg t = lts.After-loops-arg (calls t) (stmt-at t) reads.Post
-
-abbrev At-match2-keys1 : ℕ → Type 0
-At-match2-keys1 t = lts.At-match2-keys1 (calls t) (stmt-at t) reads.Post
-
-abbrev After-loops : ℕ → Type 0
-After-loops t = lts.After-loops (calls t) (stmt-at t) reads.Post
-
-abbrev After-whiles-arg : ℕ → Type 0
-After-whiles-arg t = lts.After-whiles-arg (calls t) (stmt-at t) reads.Post
-
-abbrev After-whiles : ℕ → Type 0
-After-whiles t = lts.After-whiles (calls t) (stmt-at t) reads.Post
-
-abbrev At-match2-keys2 : ℕ → Type 0
-At-match2-keys2 t = lts.At-match2-keys2 (calls t) (stmt-at t) reads.Post
-
-abbrev After-each-arg : ℕ → Type 0
-After-each-arg t = lts.After-each-arg (calls t) (stmt-at t) reads.Post
-
-abbrev At-match2-keys3 : ℕ → Type 0
-At-match2-keys3 t = lts.At-match2-keys3 (calls t) (stmt-at t) reads.Post
-
-abbrev After-each : ℕ → Type 0
-After-each t = lts.After-each (calls t) (stmt-at t) reads.Post
-
-abbrev After-label-arg : ℕ → Type 0
-After-label-arg t = lts.After-label-arg (calls t) (stmt-at t) reads.Post
-
-abbrev After-label : ℕ → Type 0
-After-label t = lts.After-label (calls t) (stmt-at t) reads.Post
-
-abbrev After-emit-arg : ℕ → Type 0
-After-emit-arg t = lts.After-emit-arg (calls t) (stmt-at t) reads.Post
-
-abbrev After-emit : ℕ → Type 0
-After-emit t = lts.After-emit (calls t) (stmt-at t) reads.Post
-
-abbrev After-expression-end : ℕ → Type 0
-After-expression-end t = lts.After-expression-end (calls t) (stmt-at t) reads.Post
-
-abbrev After-s : ℕ → Type 0
-After-s t = lts.After-s (calls t) (stmt-at t) reads.Post
-
-abbrev after-look-of-after-expr-arg : (t : ℕ) → After-expr-arg t → After-look t
+abbrev after-look-of-after-expr-arg : (t : ℕ) → Place lts.After-expr-arg t → Place lts.After-look t
 after-look-of-after-expr-arg t c = search
 
-abbrev after-kind-of-after-expr-arg : (t : ℕ) → After-expr-arg t → After-kind t
+abbrev after-kind-of-after-expr-arg : (t : ℕ) → Place lts.After-expr-arg t → Place lts.After-kind t
 after-kind-of-after-expr-arg t c = search
 
-abbrev after-kind-of-after-is-control : (t : ℕ) → After-is-control t → After-kind t
+abbrev after-kind-of-after-is-control : (t : ℕ) → Place lts.After-is-control t → Place lts.After-kind t
 after-kind-of-after-is-control t c = search
 
-abbrev after-look-of-after-is-control : (t : ℕ) → After-is-control t → After-look t
+abbrev after-look-of-after-is-control : (t : ℕ) → Place lts.After-is-control t → Place lts.After-look t
 after-look-of-after-is-control t c = search
 
-abbrev after-kind-of-after-r2 : (t : ℕ) → After-r2 t → After-kind t
+abbrev after-kind-of-after-r2 : (t : ℕ) → Place lts.After-r2 t → Place lts.After-kind t
 after-kind-of-after-r2 t c = after-kind-of-after-is-control t (search)
 
-abbrev after-look-of-after-r2 : (t : ℕ) → After-r2 t → After-look t
+abbrev after-look-of-after-r2 : (t : ℕ) → Place lts.After-r2 t → Place lts.After-look t
 after-look-of-after-r2 t c = after-look-of-after-is-control t (search)
 
-abbrev start-of-after-is-control : (t : ℕ) → After-is-control t → Start t
+abbrev start-of-after-is-control : (t : ℕ) → Place lts.After-is-control t → Place lts.Start t
 start-of-after-is-control t c = search
 
-abbrev start-of-after-r2 : (t : ℕ) → After-r2 t → Start t
+abbrev start-of-after-r2 : (t : ℕ) → Place lts.After-r2 t → Place lts.Start t
 start-of-after-r2 t c = start-of-after-is-control t (search)
 
-abbrev after-look-of-after-loops-arg : (t : ℕ) → After-loops-arg t → After-look t
+abbrev after-look-of-after-loops-arg : (t : ℕ) → Place lts.After-loops-arg t → Place lts.After-look t
 after-look-of-after-loops-arg t c = search
 
-abbrev after-look-of-after-whiles-arg : (t : ℕ) → After-whiles-arg t → After-look t
+abbrev after-look-of-after-whiles-arg : (t : ℕ) → Place lts.After-whiles-arg t → Place lts.After-look t
 after-look-of-after-whiles-arg t c = search
 
-abbrev after-look-of-after-each-arg : (t : ℕ) → After-each-arg t → After-look t
+abbrev after-look-of-after-each-arg : (t : ℕ) → Place lts.After-each-arg t → Place lts.After-look t
 after-look-of-after-each-arg t c = search
 
-abbrev after-look-of-after-label-arg : (t : ℕ) → After-label-arg t → After-look t
+abbrev after-look-of-after-label-arg : (t : ℕ) → Place lts.After-label-arg t → Place lts.After-look t
 after-look-of-after-label-arg t c = search
 
-abbrev after-kind-of-after-emit-arg : (t : ℕ) → After-emit-arg t → After-kind t
+abbrev after-kind-of-after-emit-arg : (t : ℕ) → Place lts.After-emit-arg t → Place lts.After-kind t
 after-kind-of-after-emit-arg t c = after-kind-of-after-expr-arg t (search)
 
-abbrev after-look-of-after-emit-arg : (t : ℕ) → After-emit-arg t → After-look t
+abbrev after-look-of-after-emit-arg : (t : ℕ) → Place lts.After-emit-arg t → Place lts.After-look t
 after-look-of-after-emit-arg t c = after-look-of-after-expr-arg t (search)
 
-abbrev after-expr-of-after-emit-arg : (t : ℕ) → After-emit-arg t → After-expr t
+abbrev after-expr-of-after-emit-arg : (t : ℕ) → Place lts.After-emit-arg t → Place lts.After-expr t
 after-expr-of-after-emit-arg t c = search
 
-abbrev at-match2-keys5-of-after-expr-arg : (t : ℕ) → After-expr-arg t → At-match2-keys5 t
+abbrev at-match2-keys5-of-after-expr-arg : (t : ℕ) → Place lts.After-expr-arg t → Place lts.At-match2-keys5 t
 at-match2-keys5-of-after-expr-arg t c = search
 
-abbrev at-match2-keys5-of-after-emit-arg : (t : ℕ) → After-emit-arg t → At-match2-keys5 t
+abbrev at-match2-keys5-of-after-emit-arg : (t : ℕ) → Place lts.After-emit-arg t → Place lts.At-match2-keys5 t
 at-match2-keys5-of-after-emit-arg t c = at-match2-keys5-of-after-expr-arg t (search)
 
-abbrev after-expr2-of-after-r2 : (t : ℕ) → After-r2 t → After-expr2 t
+abbrev after-expr2-of-after-r2 : (t : ℕ) → Place lts.After-r2 t → Place lts.After-expr2 t
 after-expr2-of-after-r2 t c = search
 
-abbrev at-match2-rest-of-after-is-control : (t : ℕ) → After-is-control t → At-match2-rest t
+abbrev at-match2-rest-of-after-is-control : (t : ℕ) → Place lts.After-is-control t → Place lts.At-match2-rest t
 at-match2-rest-of-after-is-control t c = search
 
-abbrev at-match2-rest-of-after-r2 : (t : ℕ) → After-r2 t → At-match2-rest t
+abbrev at-match2-rest-of-after-r2 : (t : ℕ) → Place lts.After-r2 t → Place lts.At-match2-rest t
 at-match2-rest-of-after-r2 t c = at-match2-rest-of-after-is-control t (search)
 
-abbrev after-is-control-of-after-r2 : (t : ℕ) → After-r2 t → After-is-control t
+abbrev after-is-control-of-after-r2 : (t : ℕ) → Place lts.After-r2 t → Place lts.After-is-control t
 after-is-control-of-after-r2 t c = search
 
-abbrev else1-of-after-r2 : (t : ℕ) → After-r2 t → Else1 t
+abbrev else1-of-after-r2 : (t : ℕ) → Place lts.After-r2 t → Place lts.Else1 t
 else1-of-after-r2 t c = search
 
 pub look-requires : (t : ℕ) → lts.Need-look-requires (calls t) (stmt-at t) reads.Post
@@ -195,47 +114,47 @@ pub enum-known-kind : (t : ℕ) → lts.Need-enum-known-kind (calls t) (stmt-at 
 enum-known-kind t c = search needs
 
 pub add-loops : (t : ℕ) → lts.Need-add-loops (calls t) (stmt-at t) reads.Post
-add-loops t c = let tk = taken (known (After-kind t) (search) .kind .given .1) (known (After-look t) (search) .look .ensures) in
+add-loops t c = let tk = taken (known (Place lts.After-kind t) (search) .kind .given .1) (known (Place lts.After-look t) (search) .look .ensures) in
     omega arith
 
 pub loops-requires : (t : ℕ) → lts.Need-loops-requires (calls t) (stmt-at t) reads.Post
-loops-requires t c κs = let tk = taken (known (After-kind t) (search) .kind .given .1) (known (After-look t) (search) .look .ensures) in
+loops-requires t c κs = let tk = taken (known (Place lts.After-kind t) (search) .kind .given .1) (known (Place lts.After-look t) (search) .look .ensures) in
     omega arith
 
 pub add-whiles : (t : ℕ) → lts.Need-add-whiles (calls t) (stmt-at t) reads.Post
-add-whiles t c = let tk = taken (known (After-kind t) (search) .kind .given .1) (known (After-look t) (search) .look .ensures) in
+add-whiles t c = let tk = taken (known (Place lts.After-kind t) (search) .kind .given .1) (known (Place lts.After-look t) (search) .look .ensures) in
     omega arith
 
 pub whiles-requires : (t : ℕ) → lts.Need-whiles-requires (calls t) (stmt-at t) reads.Post
-whiles-requires t c κs = let tk = taken (known (After-kind t) (search) .kind .given .1) (known (After-look t) (search) .look .ensures) in
+whiles-requires t c κs = let tk = taken (known (Place lts.After-kind t) (search) .kind .given .1) (known (Place lts.After-look t) (search) .look .ensures) in
     omega arith
 
 pub add-each : (t : ℕ) → lts.Need-add-each (calls t) (stmt-at t) reads.Post
-add-each t c = let tk = taken (known (After-kind t) (search) .kind .given .1) (known (After-look t) (search) .look .ensures) in
+add-each t c = let tk = taken (known (Place lts.After-kind t) (search) .kind .given .1) (known (Place lts.After-look t) (search) .look .ensures) in
     omega arith
 
 pub each-requires : (t : ℕ) → lts.Need-each-requires (calls t) (stmt-at t) reads.Post
-each-requires t c κs = let tk = taken (known (After-kind t) (search) .kind .given .1) (known (After-look t) (search) .look .ensures) in
+each-requires t c κs = let tk = taken (known (Place lts.After-kind t) (search) .kind .given .1) (known (Place lts.After-look t) (search) .look .ensures) in
     omega arith
 
 pub add-label : (t : ℕ) → lts.Need-add-label (calls t) (stmt-at t) reads.Post
-add-label t c = let tk = taken (known (After-kind t) (search) .kind .given .1) (known (After-look t) (search) .look .ensures) in
-    omega (arith, taken-label tk (known (At-match2-keys4 t) (search) .match2 .keys4))
+add-label t c = let tk = taken (known (Place lts.After-kind t) (search) .kind .given .1) (known (Place lts.After-look t) (search) .look .ensures) in
+    omega (arith, taken-label tk (known (Place lts.At-match2-keys4 t) (search) .match2 .keys4))
 
 pub add-label-2 : (t : ℕ) → lts.Need-add-label-2 (calls t) (stmt-at t) reads.Post
-add-label-2 t c = let tk = taken (known (After-kind t) (search) .kind .given .1) (known (After-look t) (search) .look .ensures) in
+add-label-2 t c = let tk = taken (known (Place lts.After-kind t) (search) .kind .given .1) (known (Place lts.After-look t) (search) .look .ensures) in
     omega arith
 
 pub label-requires : (t : ℕ) → lts.Need-label-requires (calls t) (stmt-at t) reads.Post
-label-requires t c κs = let tk = taken (known (After-kind t) (search) .kind .given .1) (known (After-look t) (search) .look .ensures) in
+label-requires t c κs = let tk = taken (known (Place lts.After-kind t) (search) .kind .given .1) (known (Place lts.After-look t) (search) .look .ensures) in
     omega arith
 
 pub add-expr : (t : ℕ) → lts.Need-add-expr (calls t) (stmt-at t) reads.Post
-add-expr t c = let tk = taken (known (After-kind t) (search) .kind .given .1) (known (After-look t) (search) .look .ensures) in
+add-expr t c = let tk = taken (known (Place lts.After-kind t) (search) .kind .given .1) (known (Place lts.After-look t) (search) .look .ensures) in
     omega arith
 
 pub expr-requires : (t : ℕ) → lts.Need-expr-requires (calls t) (stmt-at t) reads.Post
-expr-requires t c κs = let tk = taken (known (After-kind t) (search) .kind .given .1) (known (After-look t) (search) .look .ensures) in
+expr-requires t c κs = let tk = taken (known (Place lts.After-kind t) (search) .kind .given .1) (known (Place lts.After-look t) (search) .look .ensures) in
     omega arith
 
 pub enum-known-r : (t : ℕ) → lts.Need-enum-known-r (calls t) (stmt-at t) reads.Post
@@ -245,13 +164,13 @@ pub same-length : (t : ℕ) → lts.Need-same-length (calls t) (stmt-at t) reads
 same-length t c = search needs
 
 pub returns : (t : ℕ) → lts.Need-returns (calls t) (stmt-at t) reads.Post
-returns t c = let tk = taken (known (After-kind t) (search) .kind .given .1) (after-look-of-after-expr-arg t (search) .look .ensures) in
-    let path = way _ (stmt-assert _ _ tk (known (At-match2-keys5 t) (search) .match2 .keys5)) in
-    did-not (fails _ path (undone (c .match3 .keys2) (known (After-expr t) (search) .expr .ensures)) refl (omega arith))
+returns t c = let tk = taken (known (Place lts.After-kind t) (search) .kind .given .1) (after-look-of-after-expr-arg t (search) .look .ensures) in
+    let path = way _ (stmt-assert _ _ tk (known (Place lts.At-match2-keys5 t) (search) .match2 .keys5)) in
+    did-not (fails _ path (undone (c .match3 .keys2) (known (Place lts.After-expr t) (search) .expr .ensures)) refl (omega arith))
 
 pub emit-requires : (t : ℕ) → lts.Need-emit-requires (calls t) (stmt-at t) reads.Post
 emit-requires t c κs = let tk = taken (after-kind-of-after-expr-arg t (search) .kind .given .1) (after-look-of-after-expr-arg t (search) .look .ensures) in
-    let w = done (known (After-r t) (search) .r .given .1) (known (After-expr t) (search) .expr .ensures) in
+    let w = done (known (Place lts.After-r t) (search) .r .given .1) (known (Place lts.After-expr t) (search) .expr .ensures) in
     omega arith
 
 pub is-control-requires : (t : ℕ) → lts.Need-is-control-requires (calls t) (stmt-at t) reads.Post
@@ -261,14 +180,14 @@ pub not-allowed-requires : (t : ℕ) → lts.Need-not-allowed-requires (calls t)
 not-allowed-requires t c κs = search needs
 
 pub add-t47 : (t : ℕ) → lts.Need-add-t47 (calls t) (stmt-at t) reads.Post
-add-t47 t c = let tk = taken (known (After-kind t) (search) .kind .given .1) (known (After-look t) (search) .look .ensures) in
+add-t47 t c = let tk = taken (known (Place lts.After-kind t) (search) .kind .given .1) (known (Place lts.After-look t) (search) .look .ensures) in
     omega arith
 
 pub returns-2 : (t : ℕ) → lts.Need-returns-2 (calls t) (stmt-at t) reads.Post
-returns-2 t c = let tk = taken (known (After-kind t) (search) .kind .given .1) (known (After-look t) (search) .look .ensures) in
-    let r = known (At-match2-rest t) (search) .match2 .rest in
+returns-2 t c = let tk = taken (known (Place lts.After-kind t) (search) .kind .given .1) (known (Place lts.After-look t) (search) .look .ensures) in
+    let r = known (Place lts.At-match2-rest t) (search) .match2 .rest in
     let na = c .not-allowed .ensures in
-    fails-with (stmt-control _ _ tk (r .0 .0 .0 .0 .1) (r .0 .0 .0 .1) (r .0 .0 .1) (r .0 .1) (r .1) (known (After-is-control t) (search) .is-control .ensures) (known (Then1 t) (search) .if1 .taken) ∙ rw (← na)) (omega arith) (omega arith)
+    fails-with (stmt-control _ _ tk (r .0 .0 .0 .0 .1) (r .0 .0 .0 .1) (r .0 .0 .1) (r .0 .1) (r .1) (known (Place lts.After-is-control t) (search) .is-control .ensures) (known (Place lts.Then1 t) (search) .if1 .taken) ∙ rw (← na)) (omega arith) (omega arith)
 
 pub expr-requires-2 : (t : ℕ) → lts.Need-expr-requires-2 (calls t) (stmt-at t) reads.Post
 expr-requires-2 t c κs = omega arith
@@ -281,13 +200,13 @@ same-length-2 t c = search needs
 
 pub returns-3 : (t : ℕ) → lts.Need-returns-3 (calls t) (stmt-at t) reads.Post
 returns-3 t c = let tk = taken (after-kind-of-after-is-control t (search) .kind .given .1) (after-look-of-after-is-control t (search) .look .ensures) in
-    let r = known (At-match2-rest t) (search) .match2 .rest in
-    let track = way _ (stmt-expr _ _ tk (r .0 .0 .0 .0 .1) (r .0 .0 .0 .1) (r .0 .0 .1) (r .0 .1) (r .1) (known (After-is-control t) (search) .is-control .ensures) (known (Else1 t) (search) .if1 .left)) in
-    did-not (fails _ track (undone (c .match4 .keys2) (known (After-expr2 t) (search) .expr2 .ensures)) refl (omega arith))
+    let r = known (Place lts.At-match2-rest t) (search) .match2 .rest in
+    let track = way _ (stmt-expr _ _ tk (r .0 .0 .0 .0 .1) (r .0 .0 .0 .1) (r .0 .0 .1) (r .0 .1) (r .1) (known (Place lts.After-is-control t) (search) .is-control .ensures) (known (Place lts.Else1 t) (search) .if1 .left)) in
+    did-not (fails _ track (undone (c .match4 .keys2) (known (Place lts.After-expr2 t) (search) .expr2 .ensures)) refl (omega arith))
 
 pub expression-end-requires : (t : ℕ) → lts.Need-expression-end-requires (calls t) (stmt-at t) reads.Post
 expression-end-requires t c κs = let tk = taken (after-kind-of-after-r2 t (search) .kind .given .1) (after-look-of-after-r2 t (search) .look .ensures) in
-    let v = done (known (After-r2 t) (search) .r2 .given .1) (known (After-expr2 t) (search) .expr2 .ensures) in
+    let v = done (known (Place lts.After-r2 t) (search) .r2 .given .1) (known (Place lts.After-expr2 t) (search) .expr2 .ensures) in
     let sh = given (expr-shape _ _ _) (v .same) in
     (record { before = take (start-of-after-r2 t (search) .args .at) (start-of-after-r2 t (search) .args .store .now); tree = v .what; shape = sh; text = v .text; within = omega arith }, omega arith)
 
@@ -298,49 +217,49 @@ pub same-length-3 : (t : ℕ) → lts.Need-same-length-3 (calls t) (stmt-at t) r
 same-length-3 t c = search needs
 
 pub returns-4 : (t : ℕ) → lts.Need-returns-4 (calls t) (stmt-at t) reads.Post
-returns-4 t c = let tk = taken (known (After-kind t) (search) .kind .given .1) (after-look-of-after-loops-arg t (search) .look .ensures) in
-    later (stmt-loop _ _ tk (known (At-match2-keys1 t) (search) .match2 .keys1)) (known (After-loops t) (search) .loops .ensures) (omega arith) (omega arith) (omega arith)
+returns-4 t c = let tk = taken (known (Place lts.After-kind t) (search) .kind .given .1) (after-look-of-after-loops-arg t (search) .look .ensures) in
+    later (stmt-loop _ _ tk (known (Place lts.At-match2-keys1 t) (search) .match2 .keys1)) (known (Place lts.After-loops t) (search) .loops .ensures) (omega arith) (omega arith) (omega arith)
 
 pub same-length-4 : (t : ℕ) → lts.Need-same-length-4 (calls t) (stmt-at t) reads.Post
 same-length-4 t c = search needs
 
 pub returns-5 : (t : ℕ) → lts.Need-returns-5 (calls t) (stmt-at t) reads.Post
-returns-5 t c = let tk = taken (known (After-kind t) (search) .kind .given .1) (after-look-of-after-whiles-arg t (search) .look .ensures) in
-    continued (λ x. Node.while-loop 0 (x .over) (stmt-list-of (x .run))) [] (known (After-whiles t) (search) .whiles .ensures) (way _ (stmt-while _ _ tk (known (At-match2-keys2 t) (search) .match2 .keys2) ∙ while-as _ _ _ _)) (sym (append-nil _)) (λ x. over-two 4 _ _ _) refl (omega arith)
+returns-5 t c = let tk = taken (known (Place lts.After-kind t) (search) .kind .given .1) (after-look-of-after-whiles-arg t (search) .look .ensures) in
+    continued (λ x. Node.while-loop 0 (x .over) (stmt-list-of (x .run))) [] (known (Place lts.After-whiles t) (search) .whiles .ensures) (way _ (stmt-while _ _ tk (known (Place lts.At-match2-keys2 t) (search) .match2 .keys2) ∙ while-as _ _ _ _)) (sym (append-nil _)) (λ x. over-two 4 _ _ _) refl (omega arith)
 
 pub same-length-5 : (t : ℕ) → lts.Need-same-length-5 (calls t) (stmt-at t) reads.Post
 same-length-5 t c = search needs
 
 pub returns-6 : (t : ℕ) → lts.Need-returns-6 (calls t) (stmt-at t) reads.Post
-returns-6 t c = let tk = taken (known (After-kind t) (search) .kind .given .1) (after-look-of-after-each-arg t (search) .look .ensures) in
-    later (stmt-for _ _ tk (known (At-match2-keys3 t) (search) .match2 .keys3)) (known (After-each t) (search) .each .ensures) (omega arith) (omega arith) (omega arith)
+returns-6 t c = let tk = taken (known (Place lts.After-kind t) (search) .kind .given .1) (after-look-of-after-each-arg t (search) .look .ensures) in
+    later (stmt-for _ _ tk (known (Place lts.At-match2-keys3 t) (search) .match2 .keys3)) (known (Place lts.After-each t) (search) .each .ensures) (omega arith) (omega arith) (omega arith)
 
 pub same-length-6 : (t : ℕ) → lts.Need-same-length-6 (calls t) (stmt-at t) reads.Post
 same-length-6 t c = search needs
 
 pub returns-7 : (t : ℕ) → lts.Need-returns-7 (calls t) (stmt-at t) reads.Post
-returns-7 t c = let tk = taken (known (After-kind t) (search) .kind .given .1) (after-look-of-after-label-arg t (search) .look .ensures) in
-    later (stmt-labelled _ _ tk (known (At-match2-keys4 t) (search) .match2 .keys4)) (known (After-label t) (search) .label .ensures) (omega arith) (omega arith) (omega arith)
+returns-7 t c = let tk = taken (known (Place lts.After-kind t) (search) .kind .given .1) (after-look-of-after-label-arg t (search) .look .ensures) in
+    later (stmt-labelled _ _ tk (known (Place lts.At-match2-keys4 t) (search) .match2 .keys4)) (known (Place lts.After-label t) (search) .label .ensures) (omega arith) (omega arith) (omega arith)
 
 pub same-length-7 : (t : ℕ) → lts.Need-same-length-7 (calls t) (stmt-at t) reads.Post
 same-length-7 t c = search needs
 
 pub returns-8 : (t : ℕ) → lts.Need-returns-8 (calls t) (stmt-at t) reads.Post
 returns-8 t c = let tk = taken (after-kind-of-after-emit-arg t (search) .kind .given .1) (after-look-of-after-emit-arg t (search) .look .ensures) in
-    let w = done (known (After-r t) (search) .r .given .1) (after-expr-of-after-emit-arg t (search) .expr .ensures) in
+    let w = done (known (Place lts.After-r t) (search) .r .given .1) (after-expr-of-after-emit-arg t (search) .expr .ensures) in
     let path = way _ (stmt-assert _ _ tk (at-match2-keys5-of-after-emit-arg t (search) .match2 .keys5)) in
-    record { how = made-one 6 w (known (After-emit t) (search) .emit .ensures) (goes _ path (w .same)) (omega arith) (omega arith) refl }
+    record { how = made-one 6 w (known (Place lts.After-emit t) (search) .emit .ensures) (goes _ path (w .same)) (omega arith) (omega arith) refl }
 
 pub same-length-8 : (t : ℕ) → lts.Need-same-length-8 (calls t) (stmt-at t) reads.Post
 same-length-8 t c = search needs
 
 pub returns-9 : (t : ℕ) → lts.Need-returns-9 (calls t) (stmt-at t) reads.Post
 returns-9 t c = let tk = taken (after-kind-of-after-r2 t (search) .kind .given .1) (after-look-of-after-r2 t (search) .look .ensures) in
-    let v = done (known (After-r2 t) (search) .r2 .given .1) (after-expr2-of-after-r2 t (search) .expr2 .ensures) in
+    let v = done (known (Place lts.After-r2 t) (search) .r2 .given .1) (after-expr2-of-after-r2 t (search) .expr2 .ensures) in
     let r = at-match2-rest-of-after-r2 t (search) .match2 .rest in
     let track = way _ (stmt-expr _ _ tk (r .0 .0 .0 .0 .1) (r .0 .0 .0 .1) (r .0 .0 .1) (r .0 .1) (r .1) (after-is-control-of-after-r2 t (search) .is-control .ensures) (else1-of-after-r2 t (search) .if1 .left)) in
     let sh = given (expr-shape _ _ _) (v .same) in
-    written (known (After-expression-end t) (search) .expression-end .ensures _ _ _ sh (v .text) (v .moved .within)) refl (goes _ track (v .same)) (prefix v (omega (arith, start-of-after-r2 t (search) .pre, v .moved, v .room))) (omega (arith, start-of-after-r2 t (search) .pre, v .moved, v .room, tk .within))
+    written (known (Place lts.After-expression-end t) (search) .expression-end .ensures _ _ _ sh (v .text) (v .moved .within)) refl (goes _ track (v .same)) (prefix v (omega (arith, start-of-after-r2 t (search) .pre, v .moved, v .room))) (omega (arith, start-of-after-r2 t (search) .pre, v .moved, v .room, tk .within))
 
 pub returns-10 : (t : ℕ) → lts.Need-returns-10 (calls t) (stmt-at t) reads.Post
-returns-10 t c = did-not (fails-unseen here (stmt-looks _ _ _) (not-taken (known (After-s t) (search) .s .given .1) (known (After-look t) (search) .look .ensures)) refl (omega arith))
+returns-10 t c = did-not (fails-unseen here (stmt-looks _ _ _) (not-taken (known (Place lts.After-s t) (search) .s .given .1) (known (Place lts.After-look t) (search) .look .ensures)) refl (omega arith))

@@ -2,6 +2,7 @@
 use mathlib.Core.Path.{_≡_, refl, sym, ap, _∙_}
 use mathlib.Core.List.{List, append-nil}
 use Prim.Native.Nat.{ℕ, _+_, _*_, _-_, _≤_}
+use borrow.Fn.Kinds.{In, Out}
 use borrow.Author.Needs.{needs}
 use native.Mathlib.Omega.{arith}
 use lib.ListN.{length, take, drop, length-drop}
@@ -13,6 +14,7 @@ use Rattle.scan.proofs.Laws.{way, here, link, goes, done, undone, did-not, take
 use Rattle.nodes.proofs.Made.{put, count-snoc, joined}
 use Rattle.cycle.proofs.PathsPrimary.{items-looks, items-end, items-more, items-closed, items-again}
 use Rattle.grammar.specs.Reading.Primary.{table-items, table-literal}
+use Rattle.cycle.proofs.table.Kinds as kinds
 use Rattle.cycle.proofs.table.Reads as reads
 use Rattle.cycle.proofs.+arm+atom+begin+binop+block+body+call+catch+cond+def+dest+dots+each+expr+fun+group+index+item+jump+key+label+lhs+list+loops+param+part+path+prim+rhs+sig+stmt+sync+table+tail+term+tuple+turn+unop+val+whiles.Lts-table as lts
 use Rattle.cycle.proofs.item.Reads as item-reads
@@ -41,123 +43,76 @@ Inv-loop tokens store₀ queue₀ depth pos at waiting p₀ a₀ w₀ n₀ store
 abbrev pub μ-loop : lts.MeasureT-loop
 μ-loop tokens store₀ queue₀ depth pos at waiting p₀ a₀ w₀ n₀ store queue p a w n = length tokens - p
 
-abbrev Start : ℕ → Type 0
-Start t = lts.Start (calls t) (table-at t) reads.Post Inv-loop μ-loop
+-- a place of its code
+abbrev Place : (lts.Claims → In 3 kinds.ps → Out 3 kinds.ps kinds.r → lts.InvT-loop → lts.MeasureT-loop → Type 0) → ℕ → Type 0
+Place P t = P (calls t) (table-at t) reads.Post Inv-loop μ-loop
 
-abbrev After-kind : ℕ → Type 0
-After-kind t = lts.After-kind (calls t) (table-at t) reads.Post Inv-loop μ-loop
-
-abbrev After-look : ℕ → Type 0
-After-look t = lts.After-look (calls t) (table-at t) reads.Post Inv-loop μ-loop
-
-abbrev At-loop : ℕ → Type 0
-At-loop t = lts.At-loop (calls t) (table-at t) reads.Post Inv-loop μ-loop
-
-abbrev Then1 : ℕ → Type 0
-Then1 t = lts.Then1 (calls t) (table-at t) reads.Post Inv-loop μ-loop
-
-abbrev After-list-end : ℕ → Type 0
-After-list-end t = lts.After-list-end (calls t) (table-at t) reads.Post Inv-loop μ-loop
-
-abbrev Else1 : ℕ → Type 0
-Else1 t = lts.Else1 (calls t) (table-at t) reads.Post Inv-loop μ-loop
-
-abbrev After-item : ℕ → Type 0
-After-item t = lts.After-item (calls t) (table-at t) reads.Post Inv-loop μ-loop
-
-abbrev After-r : ℕ → Type 0
-After-r t = lts.After-r (calls t) (table-at t) reads.Post Inv-loop μ-loop
-
-abbrev After-known-told2 : ℕ → Type 0
-After-known-told2 t = lts.After-known-told2 (calls t) (table-at t) reads.Post Inv-loop μ-loop
-
-abbrev After-p2 : ℕ → Type 0
-After-p2 t = lts.After-p2 (calls t) (table-at t) reads.Post Inv-loop μ-loop
-
-abbrev After-item-end : ℕ → Type 0
-After-item-end t = lts.After-item-end (calls t) (table-at t) reads.Post Inv-loop μ-loop
-
-abbrev After-store3 : ℕ → Type 0
-After-store3 t = lts.After-store3 (calls t) (table-at t) reads.Post Inv-loop μ-loop
-
-abbrev After-list-end2 : ℕ → Type 0
-After-list-end2 t = lts.After-list-end2 (calls t) (table-at t) reads.Post Inv-loop μ-loop
-
-abbrev Then2 : ℕ → Type 0
-Then2 t = lts.Then2 (calls t) (table-at t) reads.Post Inv-loop μ-loop
-
-abbrev After-s : ℕ → Type 0
-After-s t = lts.After-s (calls t) (table-at t) reads.Post Inv-loop μ-loop
-
-abbrev After-s2 : ℕ → Type 0
-After-s2 t = lts.After-s2 (calls t) (table-at t) reads.Post Inv-loop μ-loop
-
-abbrev start-of-then1 : (t : ℕ) → Then1 t → Start t
+abbrev start-of-then1 : (t : ℕ) → Place lts.Then1 t → Place lts.Start t
 start-of-then1 t c = search
 
-abbrev at-loop-of-then1 : (t : ℕ) → Then1 t → At-loop t
+abbrev at-loop-of-then1 : (t : ℕ) → Place lts.Then1 t → Place lts.At-loop t
 at-loop-of-then1 t c = search
 
-abbrev start-of-else1 : (t : ℕ) → Else1 t → Start t
+abbrev start-of-else1 : (t : ℕ) → Place lts.Else1 t → Place lts.Start t
 start-of-else1 t c = search
 
-abbrev at-loop-of-else1 : (t : ℕ) → Else1 t → At-loop t
+abbrev at-loop-of-else1 : (t : ℕ) → Place lts.Else1 t → Place lts.At-loop t
 at-loop-of-else1 t c = search
 
-abbrev after-look-of-else1 : (t : ℕ) → Else1 t → After-look t
+abbrev after-look-of-else1 : (t : ℕ) → Place lts.Else1 t → Place lts.After-look t
 after-look-of-else1 t c = search
 
-abbrev at-loop-of-after-known-told2 : (t : ℕ) → After-known-told2 t → At-loop t
+abbrev at-loop-of-after-known-told2 : (t : ℕ) → Place lts.After-known-told2 t → Place lts.At-loop t
 at-loop-of-after-known-told2 t c = at-loop-of-else1 t (search)
 
-abbrev after-item-of-after-known-told2 : (t : ℕ) → After-known-told2 t → After-item t
+abbrev after-item-of-after-known-told2 : (t : ℕ) → Place lts.After-known-told2 t → Place lts.After-item t
 after-item-of-after-known-told2 t c = search
 
-abbrev start-of-after-known-told2 : (t : ℕ) → After-known-told2 t → Start t
+abbrev start-of-after-known-told2 : (t : ℕ) → Place lts.After-known-told2 t → Place lts.Start t
 start-of-after-known-told2 t c = start-of-else1 t (search)
 
-abbrev at-loop-of-after-store3 : (t : ℕ) → After-store3 t → At-loop t
+abbrev at-loop-of-after-store3 : (t : ℕ) → Place lts.After-store3 t → Place lts.At-loop t
 at-loop-of-after-store3 t c = at-loop-of-after-known-told2 t (search)
 
-abbrev after-kind-of-else1 : (t : ℕ) → Else1 t → After-kind t
+abbrev after-kind-of-else1 : (t : ℕ) → Place lts.Else1 t → Place lts.After-kind t
 after-kind-of-else1 t c = search
 
-abbrev after-kind-of-after-known-told2 : (t : ℕ) → After-known-told2 t → After-kind t
+abbrev after-kind-of-after-known-told2 : (t : ℕ) → Place lts.After-known-told2 t → Place lts.After-kind t
 after-kind-of-after-known-told2 t c = after-kind-of-else1 t (search)
 
-abbrev after-kind-of-after-store3 : (t : ℕ) → After-store3 t → After-kind t
+abbrev after-kind-of-after-store3 : (t : ℕ) → Place lts.After-store3 t → Place lts.After-kind t
 after-kind-of-after-store3 t c = after-kind-of-after-known-told2 t (search)
 
-abbrev after-look-of-after-known-told2 : (t : ℕ) → After-known-told2 t → After-look t
+abbrev after-look-of-after-known-told2 : (t : ℕ) → Place lts.After-known-told2 t → Place lts.After-look t
 after-look-of-after-known-told2 t c = after-look-of-else1 t (search)
 
-abbrev after-look-of-after-store3 : (t : ℕ) → After-store3 t → After-look t
+abbrev after-look-of-after-store3 : (t : ℕ) → Place lts.After-store3 t → Place lts.After-look t
 after-look-of-after-store3 t c = after-look-of-after-known-told2 t (search)
 
-abbrev else1-of-after-known-told2 : (t : ℕ) → After-known-told2 t → Else1 t
+abbrev else1-of-after-known-told2 : (t : ℕ) → Place lts.After-known-told2 t → Place lts.Else1 t
 else1-of-after-known-told2 t c = search
 
-abbrev else1-of-after-store3 : (t : ℕ) → After-store3 t → Else1 t
+abbrev else1-of-after-store3 : (t : ℕ) → Place lts.After-store3 t → Place lts.Else1 t
 else1-of-after-store3 t c = else1-of-after-known-told2 t (search)
 
-abbrev after-r-of-after-known-told2 : (t : ℕ) → After-known-told2 t → After-r t
+abbrev after-r-of-after-known-told2 : (t : ℕ) → Place lts.After-known-told2 t → Place lts.After-r t
 after-r-of-after-known-told2 t c = search
 
-abbrev after-r-of-after-store3 : (t : ℕ) → After-store3 t → After-r t
+abbrev after-r-of-after-store3 : (t : ℕ) → Place lts.After-store3 t → Place lts.After-r t
 after-r-of-after-store3 t c = after-r-of-after-known-told2 t (search)
 
-abbrev after-item-of-after-store3 : (t : ℕ) → After-store3 t → After-item t
+abbrev after-item-of-after-store3 : (t : ℕ) → Place lts.After-store3 t → Place lts.After-item t
 after-item-of-after-store3 t c = after-item-of-after-known-told2 t (search)
 
-abbrev start-of-after-store3 : (t : ℕ) → After-store3 t → Start t
+abbrev start-of-after-store3 : (t : ℕ) → Place lts.After-store3 t → Place lts.Start t
 start-of-after-store3 t c = start-of-after-known-told2 t (search)
 
 pub loop-holds : (t : ℕ) → lts.Need-loop-holds (calls t) (table-at t) reads.Post Inv-loop μ-loop
 unfolding records count
 loop-holds t c = record {
-  fuel = length (drop (known (Start t) (search) .args .pos) (known (Start t) (search) .args .tokens .now));
+  fuel = length (drop (known (Place lts.Start t) (search) .args .pos) (known (Place lts.Start t) (search) .args .tokens .now));
   enough = rw length-drop (omega arith);
-  run = record { what = none; same = here; moved = omega arith; room = omega arith; text = sym (append-nil (take (known (Start t) (search) .args .at) (known (Start t) (search) .args .store .now))) };
+  run = record { what = none; same = here; moved = omega arith; room = omega arith; text = sym (append-nil (take (known (Place lts.Start t) (search) .args .at) (known (Place lts.Start t) (search) .args .store .now))) };
   many = refl;
   short = omega arith;
   kept = refl;
@@ -170,13 +125,13 @@ pub enum-known-kind : (t : ℕ) → lts.Need-enum-known-kind (calls t) (table-at
 enum-known-kind t c = search needs
 
 pub add-t23 : (t : ℕ) → lts.Need-add-t23 (calls t) (table-at t) reads.Post Inv-loop μ-loop
-add-t23 t c = let tk = taken (known (After-kind t) (search) .kind .given .1) (known (After-look t) (search) .look .ensures) in
+add-t23 t c = let tk = taken (known (Place lts.After-kind t) (search) .kind .given .1) (known (Place lts.After-look t) (search) .look .ensures) in
     omega arith
 
 pub list-end-requires : (t : ℕ) → lts.Need-list-end-requires (calls t) (table-at t) reads.Post Inv-loop μ-loop
-list-end-requires t c κs = let g = known (At-loop t) (search) .loop .inv in
+list-end-requires t c κs = let g = known (Place lts.At-loop t) (search) .loop .inv in
     let gr = g .run in
-    let tk = taken (known (After-kind t) (search) .kind .given .1) (known (After-look t) (search) .look .ensures) in
+    let tk = taken (known (Place lts.After-kind t) (search) .kind .given .1) (known (Place lts.After-look t) (search) .look .ensures) in
     (omega (arith, start-of-then1 t (search) .pre, g .kept, gr .moved, gr .room, tk .within), omega (arith, start-of-then1 t (search) .pre, g .short, tk .within))
 
 pub same-length : (t : ℕ) → lts.Need-same-length (calls t) (table-at t) reads.Post Inv-loop μ-loop
@@ -185,15 +140,15 @@ same-length t c = search needs
 pub returns : (t : ℕ) → lts.Need-returns (calls t) (table-at t) reads.Post Inv-loop μ-loop
 returns t c = let g = at-loop-of-then1 t (search) .loop .inv in
     let gr = g .run in
-    let tk = taken (known (After-kind t) (search) .kind .given .1) (known (After-look t) (search) .look .ensures) in
-    let out = link (gr .same) (way _ (items-end _ (gr .what) _ (g .fuel) _ (g .enough) tk (known (Then1 t) (search) .if1 .taken))) in
-    let e = known (After-list-end t) (search) .list-end .ensures in
+    let tk = taken (known (Place lts.After-kind t) (search) .kind .given .1) (known (Place lts.After-look t) (search) .look .ensures) in
+    let out = link (gr .same) (way _ (items-end _ (gr .what) _ (g .fuel) _ (g .enough) tk (known (Place lts.Then1 t) (search) .if1 .taken))) in
+    let e = known (Place lts.After-list-end t) (search) .list-end .ensures in
     record { how = record { what = gr .what; same = out; moved = omega (arith, start-of-then1 t (search) .pre, gr .moved, tk .within); room = omega (arith, gr .room, e .next); text = put 1 (gr .what) (take (start-of-then1 t (search) .args .at) (start-of-then1 t (search) .args .store .now)) e (gr .text) (ap (λ (i : ℕ). 1 + 256 * i) (sym (g .many))) } }
 
 pub item-requires : (t : ℕ) → lts.Need-item-requires (calls t) (table-at t) reads.Post Inv-loop μ-loop
-item-requires t c κs = let g = known (At-loop t) (search) .loop .inv in
+item-requires t c κs = let g = known (Place lts.At-loop t) (search) .loop .inv in
     let gr = g .run in
-    let tk = taken (known (After-kind t) (search) .kind .given .1) (known (After-look t) (search) .look .ensures) in
+    let tk = taken (known (Place lts.After-kind t) (search) .kind .given .1) (known (Place lts.After-look t) (search) .look .ensures) in
     omega (arith, start-of-else1 t (search) .pre, g .kept, gr .moved, gr .room, tk .within)
 
 pub enum-known-r : (t : ℕ) → lts.Need-enum-known-r (calls t) (table-at t) reads.Post Inv-loop μ-loop
@@ -205,12 +160,12 @@ same-length-2 t c = search needs
 pub returns-2 : (t : ℕ) → lts.Need-returns-2 (calls t) (table-at t) reads.Post Inv-loop μ-loop
 returns-2 t c = let g = at-loop-of-else1 t (search) .loop .inv in
     let gr = g .run in
-    let tk = taken (known (After-kind t) (search) .kind .given .1) (after-look-of-else1 t (search) .look .ensures) in
-    let on = link (gr .same) (way _ (items-more _ (gr .what) _ (g .fuel) _ (g .enough) tk (known (Else1 t) (search) .if1 .left))) in
-    did-not (fails _ on (undone (c .match2 .keys2) (known (After-item t) (search) .item .ensures)) (prefix gr (omega (arith, start-of-else1 t (search) .pre))) (omega (arith, gr .moved, gr .room)))
+    let tk = taken (known (Place lts.After-kind t) (search) .kind .given .1) (after-look-of-else1 t (search) .look .ensures) in
+    let on = link (gr .same) (way _ (items-more _ (gr .what) _ (g .fuel) _ (g .enough) tk (known (Place lts.Else1 t) (search) .if1 .left))) in
+    did-not (fails _ on (undone (c .match2 .keys2) (known (Place lts.After-item t) (search) .item .ensures)) (prefix gr (omega (arith, start-of-else1 t (search) .pre))) (omega (arith, gr .moved, gr .room)))
 
 pub item-end-requires : (t : ℕ) → lts.Need-item-end-requires (calls t) (table-at t) reads.Post Inv-loop μ-loop
-item-end-requires t c κs = let w = done (known (After-r t) (search) .r .given .1) (known (After-item t) (search) .item .ensures) in
+item-end-requires t c κs = let w = done (known (Place lts.After-r t) (search) .r .given .1) (known (Place lts.After-item t) (search) .item .ensures) in
     w .moved .within
 
 pub enum-known-p2 : (t : ℕ) → lts.Need-enum-known-p2 (calls t) (table-at t) reads.Post Inv-loop μ-loop
@@ -218,15 +173,15 @@ enum-known-p2 t c = search needs
 
 pub add-list-end : (t : ℕ) → lts.Need-add-list-end (calls t) (table-at t) reads.Post Inv-loop μ-loop
 add-list-end t c = let g = at-loop-of-after-known-told2 t (search) .loop .inv in
-    let ie = found (known (After-p2 t) (search) .p2 .given .1) (known (After-item-end t) (search) .item-end .ensures) in
-    let w = done (known (After-r t) (search) .r .given .1) (after-item-of-after-known-told2 t (search) .item .ensures) in
+    let ie = found (known (Place lts.After-p2 t) (search) .p2 .given .1) (known (Place lts.After-item-end t) (search) .item-end .ensures) in
+    let w = done (known (Place lts.After-r t) (search) .r .given .1) (after-item-of-after-known-told2 t (search) .item .ensures) in
     omega (arith, start-of-after-known-told2 t (search) .pre, g .short, w .moved, ie .got .on, ie .got .within)
 
 pub list-end-requires-2 : (t : ℕ) → lts.Need-list-end-requires-2 (calls t) (table-at t) reads.Post Inv-loop μ-loop
 list-end-requires-2 t c κs = let g = at-loop-of-after-known-told2 t (search) .loop .inv in
     let gr = g .run in
-    let w = done (known (After-r t) (search) .r .given .1) (after-item-of-after-known-told2 t (search) .item .ensures) in
-    let ie = found (known (After-p2 t) (search) .p2 .given .1) (known (After-item-end t) (search) .item-end .ensures) in
+    let w = done (known (Place lts.After-r t) (search) .r .given .1) (after-item-of-after-known-told2 t (search) .item .ensures) in
+    let ie = found (known (Place lts.After-p2 t) (search) .p2 .given .1) (known (Place lts.After-item-end t) (search) .item-end .ensures) in
     (omega (arith, start-of-after-known-told2 t (search) .pre, g .kept, gr .moved, gr .room, w .moved, w .room, ie .got .on, ie .got .within, after-item-of-after-known-told2 t (search) .item .kept .1 .0), omega (arith, start-of-after-known-told2 t (search) .pre, g .short, w .moved, ie .got .on, ie .got .within))
 
 pub same-length-3 : (t : ℕ) → lts.Need-same-length-3 (calls t) (table-at t) reads.Post Inv-loop μ-loop
@@ -239,14 +194,14 @@ returns-3 t c = let g = at-loop-of-after-store3 t (search) .loop .inv in
     let on = link (gr .same) (way _ (items-more _ (gr .what) _ (g .fuel) _ (g .enough) tk (else1-of-after-store3 t (search) .if1 .left))) in
     let w = done (after-r-of-after-store3 t (search) .r .given .1) (after-item-of-after-store3 t (search) .item .ensures) in
     let next = goes _ on (w .same) in
-    let ie = found (known (After-p2 t) (search) .p2 .given .1) (known (After-item-end t) (search) .item-end .ensures) in
+    let ie = found (known (Place lts.After-p2 t) (search) .p2 .given .1) (known (Place lts.After-item-end t) (search) .item-end .ensures) in
     let got = gets _ (ie .got) next in
-    let e = known (After-list-end2 t) (search) .list-end2 .ensures in
+    let e = known (Place lts.After-list-end2 t) (search) .list-end2 .ensures in
     let f = snoc (gr .what) (w .what) in
     record {
       how = record {
         what = f;
-        same = link got (way _ (items-closed _ _ _ _ _ (ie .is ∙ known (Then2 t) (search) .if2 .taken)));
+        same = link got (way _ (items-closed _ _ _ _ _ (ie .is ∙ known (Place lts.Then2 t) (search) .if2 .taken)));
         moved = omega (arith, gr .moved, w .moved, ie .got .on, ie .got .within);
         room = omega (arith, gr .room, w .room, ie .got .on, e .next);
         text = put 1 f (take (start-of-after-store3 t (search) .args .at) (start-of-after-store3 t (search) .args .store .now)) e (joined (gr .what) (w .what) (take (start-of-after-store3 t (search) .args .at) (start-of-after-store3 t (search) .args .store .now)) (w .text) (gr .text)) (ap (λ (i : ℕ). 1 + 256 * i) (sym (count-snoc (gr .what) (w .what) ∙ ap (λ (i : ℕ). i + 1) (g .many))));
@@ -255,13 +210,13 @@ returns-3 t c = let g = at-loop-of-after-store3 t (search) .loop .inv in
 
 pub add-n : (t : ℕ) → lts.Need-add-n (calls t) (table-at t) reads.Post Inv-loop μ-loop
 add-n t c = let g = at-loop-of-after-known-told2 t (search) .loop .inv in
-    let ie = found (known (After-p2 t) (search) .p2 .given .1) (known (After-item-end t) (search) .item-end .ensures) in
-    let w = done (known (After-r t) (search) .r .given .1) (after-item-of-after-known-told2 t (search) .item .ensures) in
+    let ie = found (known (Place lts.After-p2 t) (search) .p2 .given .1) (known (Place lts.After-item-end t) (search) .item-end .ensures) in
+    let w = done (known (Place lts.After-r t) (search) .r .given .1) (after-item-of-after-known-told2 t (search) .item .ensures) in
     omega (arith, start-of-after-known-told2 t (search) .pre, g .short, w .moved, ie .got .on, ie .got .within)
 
 pub loop-less : (t : ℕ) → lts.Need-loop-less (calls t) (table-at t) reads.Post Inv-loop μ-loop
-loop-less t c = let w = done (known (After-r t) (search) .r .given .1) (after-item-of-after-known-told2 t (search) .item .ensures) in
-    let ie = found (known (After-p2 t) (search) .p2 .given .1) (known (After-item-end t) (search) .item-end .ensures) in
+loop-less t c = let w = done (known (Place lts.After-r t) (search) .r .given .1) (after-item-of-after-known-told2 t (search) .item .ensures) in
+    let ie = found (known (Place lts.After-p2 t) (search) .p2 .given .1) (known (Place lts.After-item-end t) (search) .item-end .ensures) in
     omega (arith, w .moved, ie .got .on, ie .got .within)
 
 pub loop-again : (t : ℕ) → lts.Need-loop-again (calls t) (table-at t) reads.Post Inv-loop μ-loop
@@ -269,9 +224,9 @@ loop-again t c = let g = at-loop-of-after-known-told2 t (search) .loop .inv in
     let gr = g .run in
     let tk = taken (after-kind-of-after-known-told2 t (search) .kind .given .1) (after-look-of-after-known-told2 t (search) .look .ensures) in
     let on = link (gr .same) (way _ (items-more _ (gr .what) _ (g .fuel) _ (g .enough) tk (else1-of-after-known-told2 t (search) .if1 .left))) in
-    let w = done (known (After-r t) (search) .r .given .1) (after-item-of-after-known-told2 t (search) .item .ensures) in
+    let w = done (known (Place lts.After-r t) (search) .r .given .1) (after-item-of-after-known-told2 t (search) .item .ensures) in
     let next = goes _ on (w .same) in
-    let ie = found (known (After-p2 t) (search) .p2 .given .1) (known (After-item-end t) (search) .item-end .ensures) in
+    let ie = found (known (Place lts.After-p2 t) (search) .p2 .given .1) (known (Place lts.After-item-end t) (search) .item-end .ensures) in
     let got = gets _ (ie .got) next in
     record {
       fuel = g .fuel - 1;
@@ -293,9 +248,9 @@ returns-4 t c = let g = at-loop-of-after-known-told2 t (search) .loop .inv in
     let gr = g .run in
     let tk = taken (after-kind-of-after-known-told2 t (search) .kind .given .1) (after-look-of-after-known-told2 t (search) .look .ensures) in
     let on = link (gr .same) (way _ (items-more _ (gr .what) _ (g .fuel) _ (g .enough) tk (else1-of-after-known-told2 t (search) .if1 .left))) in
-    let w = done (known (After-r t) (search) .r .given .1) (after-item-of-after-known-told2 t (search) .item .ensures) in
+    let w = done (known (Place lts.After-r t) (search) .r .given .1) (after-item-of-after-known-told2 t (search) .item .ensures) in
     let next = goes _ on (w .same) in
-    did-not (lacks _ (unfound (known (After-s t) (search) .s .given .1) (known (After-item-end t) (search) .item-end .ensures)) next (shorter _ _ _ _ (gr .room .up) (prefix w (omega (arith, start-of-after-known-told2 t (search) .pre, g .kept, gr .moved, gr .room))) ∙ prefix gr (omega (arith, start-of-after-known-told2 t (search) .pre))) (omega (arith, gr .moved, w .moved)))
+    did-not (lacks _ (unfound (known (Place lts.After-s t) (search) .s .given .1) (known (Place lts.After-item-end t) (search) .item-end .ensures)) next (shorter _ _ _ _ (gr .room .up) (prefix w (omega (arith, start-of-after-known-told2 t (search) .pre, g .kept, gr .moved, gr .room))) ∙ prefix gr (omega (arith, start-of-after-known-told2 t (search) .pre))) (omega (arith, gr .moved, w .moved)))
 
 pub enum-known-s-2 : (t : ℕ) → lts.Need-enum-known-s-2 (calls t) (table-at t) reads.Post Inv-loop μ-loop
 enum-known-s-2 t c = search needs
@@ -304,6 +259,6 @@ pub same-length-5 : (t : ℕ) → lts.Need-same-length-5 (calls t) (table-at t) 
 same-length-5 t c = search needs
 
 pub returns-5 : (t : ℕ) → lts.Need-returns-5 (calls t) (table-at t) reads.Post Inv-loop μ-loop
-returns-5 t c = let g = known (At-loop t) (search) .loop .inv in
+returns-5 t c = let g = known (Place lts.At-loop t) (search) .loop .inv in
     let gr = g .run in
-    did-not (fails-unseen (gr .same) (items-looks _ (gr .what) _ _ (g .fuel) _ (g .enough)) (not-taken (known (After-s2 t) (search) .s2 .given .1) (known (After-look t) (search) .look .ensures)) (prefix gr (omega (arith, known (Start t) (search) .pre))) (omega (arith, gr .moved)))
+    did-not (fails-unseen (gr .same) (items-looks _ (gr .what) _ _ (g .fuel) _ (g .enough)) (not-taken (known (Place lts.After-s2 t) (search) .s2 .given .1) (known (Place lts.After-look t) (search) .look .ensures)) (prefix gr (omega (arith, known (Place lts.Start t) (search) .pre))) (omega (arith, gr .moved)))

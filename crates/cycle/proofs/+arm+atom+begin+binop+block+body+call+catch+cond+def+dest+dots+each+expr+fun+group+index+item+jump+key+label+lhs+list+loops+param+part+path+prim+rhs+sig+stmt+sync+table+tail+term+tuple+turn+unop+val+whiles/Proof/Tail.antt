@@ -2,6 +2,7 @@
 use mathlib.Core.Path.{_≡_, refl, sym}
 use mathlib.Core.List.{List, append-nil}
 use Prim.Native.Nat.{ℕ, suc, _+_, _*_, _-_, _≤_}
+use borrow.Fn.Kinds.{In, Out}
 use borrow.Author.Needs.{needs}
 use native.Mathlib.Omega.{arith}
 use lib.ListN.{length, take, drop, length-drop}
@@ -12,6 +13,7 @@ use Rattle.cycle.specs.Parts.{tail}
 use Rattle.scan.proofs.Laws.{way, here, link, goes, done, undone, did-not, taken, not-taken, fails, fails-unseen, prefix}
 use Rattle.nodes.proofs.Made.{count-snoc, joined, remade}
 use Rattle.cycle.proofs.PathsExpr.{tail-looks, tail-end, tail-comma, tail-last, tail-more}
+use Rattle.cycle.proofs.tail.Kinds as kinds
 use Rattle.cycle.proofs.tail.Reads as reads
 use Rattle.cycle.proofs.+arm+atom+begin+binop+block+body+call+catch+cond+def+dest+dots+each+expr+fun+group+index+item+jump+key+label+lhs+list+loops+param+part+path+prim+rhs+sig+stmt+sync+table+tail+term+tuple+turn+unop+val+whiles.Lts-tail as lts
 use Rattle.cycle.proofs.binop.Reads as binop-reads
@@ -39,117 +41,70 @@ Inv-loop tokens store₀ queue₀ depth pos at waiting p₀ a₀ w₀ n₀ store
 abbrev pub μ-loop : lts.MeasureT-loop
 μ-loop tokens store₀ queue₀ depth pos at waiting p₀ a₀ w₀ n₀ store queue p a w n = length tokens - p
 
-abbrev Start : ℕ → Type 0
-Start t = lts.Start (calls t) (tail-at t) reads.Post Inv-loop μ-loop
+-- a place of its code
+abbrev Place : (lts.Claims → In 3 kinds.ps → Out 3 kinds.ps kinds.r → lts.InvT-loop → lts.MeasureT-loop → Type 0) → ℕ → Type 0
+Place P t = P (calls t) (tail-at t) reads.Post Inv-loop μ-loop
 
-abbrev At-loop : ℕ → Type 0
-At-loop t = lts.At-loop (calls t) (tail-at t) reads.Post Inv-loop μ-loop
-
-abbrev After-kind : ℕ → Type 0
-After-kind t = lts.After-kind (calls t) (tail-at t) reads.Post Inv-loop μ-loop
-
-abbrev After-look : ℕ → Type 0
-After-look t = lts.After-look (calls t) (tail-at t) reads.Post Inv-loop μ-loop
-
-abbrev Then1 : ℕ → Type 0
-Then1 t = lts.Then1 (calls t) (tail-at t) reads.Post Inv-loop μ-loop
-
-abbrev After-tuple-end : ℕ → Type 0
-After-tuple-end t = lts.After-tuple-end (calls t) (tail-at t) reads.Post Inv-loop μ-loop
-
-abbrev Else1 : ℕ → Type 0
-Else1 t = lts.Else1 (calls t) (tail-at t) reads.Post Inv-loop μ-loop
-
-abbrev After-store2 : ℕ → Type 0
-After-store2 t = lts.After-store2 (calls t) (tail-at t) reads.Post Inv-loop μ-loop
-
-abbrev After-next : ℕ → Type 0
-After-next t = lts.After-next (calls t) (tail-at t) reads.Post Inv-loop μ-loop
-
-abbrev After-look2 : ℕ → Type 0
-After-look2 t = lts.After-look2 (calls t) (tail-at t) reads.Post Inv-loop μ-loop
-
-abbrev After-tuple-end2 : ℕ → Type 0
-After-tuple-end2 t = lts.After-tuple-end2 (calls t) (tail-at t) reads.Post Inv-loop μ-loop
-
-abbrev Then2 : ℕ → Type 0
-Then2 t = lts.Then2 (calls t) (tail-at t) reads.Post Inv-loop μ-loop
-
-abbrev After-binop : ℕ → Type 0
-After-binop t = lts.After-binop (calls t) (tail-at t) reads.Post Inv-loop μ-loop
-
-abbrev Else2 : ℕ → Type 0
-Else2 t = lts.Else2 (calls t) (tail-at t) reads.Post Inv-loop μ-loop
-
-abbrev After-r : ℕ → Type 0
-After-r t = lts.After-r (calls t) (tail-at t) reads.Post Inv-loop μ-loop
-
-abbrev After-s : ℕ → Type 0
-After-s t = lts.After-s (calls t) (tail-at t) reads.Post Inv-loop μ-loop
-
-abbrev After-s2 : ℕ → Type 0
-After-s2 t = lts.After-s2 (calls t) (tail-at t) reads.Post Inv-loop μ-loop
-
-abbrev start-of-then1 : (t : ℕ) → Then1 t → Start t
+abbrev start-of-then1 : (t : ℕ) → Place lts.Then1 t → Place lts.Start t
 start-of-then1 t c = search
 
-abbrev at-loop-of-then1 : (t : ℕ) → Then1 t → At-loop t
+abbrev at-loop-of-then1 : (t : ℕ) → Place lts.Then1 t → Place lts.At-loop t
 at-loop-of-then1 t c = search
 
-abbrev after-look-of-else1 : (t : ℕ) → Else1 t → After-look t
+abbrev after-look-of-else1 : (t : ℕ) → Place lts.Else1 t → Place lts.After-look t
 after-look-of-else1 t c = search
 
-abbrev at-loop-of-else1 : (t : ℕ) → Else1 t → At-loop t
+abbrev at-loop-of-else1 : (t : ℕ) → Place lts.Else1 t → Place lts.At-loop t
 at-loop-of-else1 t c = search
 
-abbrev start-of-else1 : (t : ℕ) → Else1 t → Start t
+abbrev start-of-else1 : (t : ℕ) → Place lts.Else1 t → Place lts.Start t
 start-of-else1 t c = search
 
-abbrev at-loop-of-after-store2 : (t : ℕ) → After-store2 t → At-loop t
+abbrev at-loop-of-after-store2 : (t : ℕ) → Place lts.After-store2 t → Place lts.At-loop t
 at-loop-of-after-store2 t c = at-loop-of-else1 t (search)
 
-abbrev after-kind-of-else1 : (t : ℕ) → Else1 t → After-kind t
+abbrev after-kind-of-else1 : (t : ℕ) → Place lts.Else1 t → Place lts.After-kind t
 after-kind-of-else1 t c = search
 
-abbrev after-kind-of-after-store2 : (t : ℕ) → After-store2 t → After-kind t
+abbrev after-kind-of-after-store2 : (t : ℕ) → Place lts.After-store2 t → Place lts.After-kind t
 after-kind-of-after-store2 t c = after-kind-of-else1 t (search)
 
-abbrev after-look-of-after-store2 : (t : ℕ) → After-store2 t → After-look t
+abbrev after-look-of-after-store2 : (t : ℕ) → Place lts.After-store2 t → Place lts.After-look t
 after-look-of-after-store2 t c = after-look-of-else1 t (search)
 
-abbrev else1-of-after-store2 : (t : ℕ) → After-store2 t → Else1 t
+abbrev else1-of-after-store2 : (t : ℕ) → Place lts.After-store2 t → Place lts.Else1 t
 else1-of-after-store2 t c = search
 
-abbrev start-of-after-store2 : (t : ℕ) → After-store2 t → Start t
+abbrev start-of-after-store2 : (t : ℕ) → Place lts.After-store2 t → Place lts.Start t
 start-of-after-store2 t c = start-of-else1 t (search)
 
-abbrev at-loop-of-after-binop : (t : ℕ) → After-binop t → At-loop t
+abbrev at-loop-of-after-binop : (t : ℕ) → Place lts.After-binop t → Place lts.At-loop t
 at-loop-of-after-binop t c = at-loop-of-else1 t (search)
 
-abbrev after-kind-of-after-binop : (t : ℕ) → After-binop t → After-kind t
+abbrev after-kind-of-after-binop : (t : ℕ) → Place lts.After-binop t → Place lts.After-kind t
 after-kind-of-after-binop t c = after-kind-of-else1 t (search)
 
-abbrev after-look-of-after-binop : (t : ℕ) → After-binop t → After-look t
+abbrev after-look-of-after-binop : (t : ℕ) → Place lts.After-binop t → Place lts.After-look t
 after-look-of-after-binop t c = after-look-of-else1 t (search)
 
-abbrev after-look2-of-after-binop : (t : ℕ) → After-binop t → After-look2 t
+abbrev after-look2-of-after-binop : (t : ℕ) → Place lts.After-binop t → Place lts.After-look2 t
 after-look2-of-after-binop t c = search
 
-abbrev else1-of-after-binop : (t : ℕ) → After-binop t → Else1 t
+abbrev else1-of-after-binop : (t : ℕ) → Place lts.After-binop t → Place lts.Else1 t
 else1-of-after-binop t c = search
 
-abbrev start-of-after-binop : (t : ℕ) → After-binop t → Start t
+abbrev start-of-after-binop : (t : ℕ) → Place lts.After-binop t → Place lts.Start t
 start-of-after-binop t c = start-of-else1 t (search)
 
-abbrev after-next-of-after-binop : (t : ℕ) → After-binop t → After-next t
+abbrev after-next-of-after-binop : (t : ℕ) → Place lts.After-binop t → Place lts.After-next t
 after-next-of-after-binop t c = search
 
 pub loop-holds : (t : ℕ) → lts.Need-loop-holds (calls t) (tail-at t) reads.Post Inv-loop μ-loop
 unfolding records count
 loop-holds t c = record {
-  fuel = length (drop (known (Start t) (search) .args .pos) (known (Start t) (search) .args .tokens .now));
+  fuel = length (drop (known (Place lts.Start t) (search) .args .pos) (known (Place lts.Start t) (search) .args .tokens .now));
   enough = rw length-drop (omega arith);
-  run = record { what = none; same = here; moved = omega arith; room = omega arith; text = sym (append-nil (take (known (Start t) (search) .args .at) (known (Start t) (search) .args .store .now))) };
+  run = record { what = none; same = here; moved = omega arith; room = omega arith; text = sym (append-nil (take (known (Place lts.Start t) (search) .args .at) (known (Place lts.Start t) (search) .args .store .now))) };
   many = refl;
   few = omega arith;
   kept = refl;
@@ -164,9 +119,9 @@ pub enum-known-kind : (t : ℕ) → lts.Need-enum-known-kind (calls t) (tail-at 
 enum-known-kind t c = search needs
 
 pub tuple-end-requires : (t : ℕ) → lts.Need-tuple-end-requires (calls t) (tail-at t) reads.Post Inv-loop μ-loop
-tuple-end-requires t c κs = let i = known (At-loop t) (search) .loop .inv in
+tuple-end-requires t c κs = let i = known (Place lts.At-loop t) (search) .loop .inv in
     let g = i .run in
-    let tk = taken (known (After-kind t) (search) .kind .given .1) (known (After-look t) (search) .look .ensures) in
+    let tk = taken (known (Place lts.After-kind t) (search) .kind .given .1) (known (Place lts.After-look t) (search) .look .ensures) in
     omega (arith, start-of-then1 t (search) .pre)
 
 pub same-length : (t : ℕ) → lts.Need-same-length (calls t) (tail-at t) reads.Post Inv-loop μ-loop
@@ -175,29 +130,29 @@ same-length t c = search needs
 pub returns : (t : ℕ) → lts.Need-returns (calls t) (tail-at t) reads.Post Inv-loop μ-loop
 returns t c = let i = at-loop-of-then1 t (search) .loop .inv in
     let g = i .run in
-    let tk = taken (known (After-kind t) (search) .kind .given .1) (known (After-look t) (search) .look .ensures) in
-    let e = known (After-tuple-end t) (search) .tuple-end .ensures in
-    record { how = remade g e (i .many) (link (g .same) (way _ (tail-end _ (g .what) _ (i .fuel) _ (i .enough) tk (known (Then1 t) (search) .if1 .taken)))) (g .moved) (omega (arith, start-of-then1 t (search) .pre, g .moved, g .room, e .up, e .far)) }
+    let tk = taken (known (Place lts.After-kind t) (search) .kind .given .1) (known (Place lts.After-look t) (search) .look .ensures) in
+    let e = known (Place lts.After-tuple-end t) (search) .tuple-end .ensures in
+    record { how = remade g e (i .many) (link (g .same) (way _ (tail-end _ (g .what) _ (i .fuel) _ (i .enough) tk (known (Place lts.Then1 t) (search) .if1 .taken)))) (g .moved) (omega (arith, start-of-then1 t (search) .pre, g .moved, g .room, e .up, e .far)) }
 
 pub add-look : (t : ℕ) → lts.Need-add-look (calls t) (tail-at t) reads.Post Inv-loop μ-loop
-add-look t c = let tk = taken (known (After-kind t) (search) .kind .given .1) (known (After-look t) (search) .look .ensures) in
+add-look t c = let tk = taken (known (Place lts.After-kind t) (search) .kind .given .1) (known (Place lts.After-look t) (search) .look .ensures) in
     omega arith
 
 pub look-requires-2 : (t : ℕ) → lts.Need-look-requires-2 (calls t) (tail-at t) reads.Post Inv-loop μ-loop
-look-requires-2 t c κs = let tk = taken (known (After-kind t) (search) .kind .given .1) (known (After-look t) (search) .look .ensures) in
+look-requires-2 t c κs = let tk = taken (known (Place lts.After-kind t) (search) .kind .given .1) (known (Place lts.After-look t) (search) .look .ensures) in
     tk .within
 
 pub enum-known-next : (t : ℕ) → lts.Need-enum-known-next (calls t) (tail-at t) reads.Post Inv-loop μ-loop
 enum-known-next t c = search needs
 
 pub add-t28 : (t : ℕ) → lts.Need-add-t28 (calls t) (tail-at t) reads.Post Inv-loop μ-loop
-add-t28 t c = let tk = taken (known (After-kind t) (search) .kind .given .1) (after-look-of-else1 t (search) .look .ensures) in
+add-t28 t c = let tk = taken (known (Place lts.After-kind t) (search) .kind .given .1) (after-look-of-else1 t (search) .look .ensures) in
     omega arith
 
 pub tuple-end-requires-2 : (t : ℕ) → lts.Need-tuple-end-requires-2 (calls t) (tail-at t) reads.Post Inv-loop μ-loop
 tuple-end-requires-2 t c κs = let i = at-loop-of-else1 t (search) .loop .inv in
     let g = i .run in
-    let tk = taken (known (After-kind t) (search) .kind .given .1) (after-look-of-else1 t (search) .look .ensures) in
+    let tk = taken (known (Place lts.After-kind t) (search) .kind .given .1) (after-look-of-else1 t (search) .look .ensures) in
     omega (arith, start-of-else1 t (search) .pre)
 
 pub same-length-2 : (t : ℕ) → lts.Need-same-length-2 (calls t) (tail-at t) reads.Post Inv-loop μ-loop
@@ -207,9 +162,9 @@ pub returns-2 : (t : ℕ) → lts.Need-returns-2 (calls t) (tail-at t) reads.Pos
 returns-2 t c = let i = at-loop-of-after-store2 t (search) .loop .inv in
     let g = i .run in
     let tk = taken (after-kind-of-after-store2 t (search) .kind .given .1) (after-look-of-after-store2 t (search) .look .ensures) in
-    let tn = taken (known (After-next t) (search) .next .given .1) (known (After-look2 t) (search) .look2 .ensures) in
-    let e = known (After-tuple-end2 t) (search) .tuple-end2 .ensures in
-    record { how = remade g e (i .many) (link (g .same) (way _ (tail-last _ (g .what) _ (i .fuel) _ (i .enough) tk (else1-of-after-store2 t (search) .if1 .left) tn (known (Then2 t) (search) .if2 .taken)))) (omega (arith, start-of-after-store2 t (search) .pre, g .moved, tk .within)) (omega (arith, start-of-after-store2 t (search) .pre, g .moved, g .room, e .up, e .far)) }
+    let tn = taken (known (Place lts.After-next t) (search) .next .given .1) (known (Place lts.After-look2 t) (search) .look2 .ensures) in
+    let e = known (Place lts.After-tuple-end2 t) (search) .tuple-end2 .ensures in
+    record { how = remade g e (i .many) (link (g .same) (way _ (tail-last _ (g .what) _ (i .fuel) _ (i .enough) tk (else1-of-after-store2 t (search) .if1 .left) tn (known (Place lts.Then2 t) (search) .if2 .taken)))) (omega (arith, start-of-after-store2 t (search) .pre, g .moved, tk .within)) (omega (arith, start-of-after-store2 t (search) .pre, g .moved, g .room, e .up, e .far)) }
 
 pub add-binop : (t : ℕ) → lts.Need-add-binop (calls t) (tail-at t) reads.Post Inv-loop μ-loop
 add-binop t c = let tk = taken (after-kind-of-else1 t (search) .kind .given .1) (after-look-of-else1 t (search) .look .ensures) in
@@ -231,8 +186,8 @@ pub returns-3 : (t : ℕ) → lts.Need-returns-3 (calls t) (tail-at t) reads.Pos
 returns-3 t c = let i = at-loop-of-after-binop t (search) .loop .inv in
     let g = i .run in
     let tk = taken (after-kind-of-after-binop t (search) .kind .given .1) (after-look-of-after-binop t (search) .look .ensures) in
-    let tn = taken (known (After-next t) (search) .next .given .1) (after-look2-of-after-binop t (search) .look2 .ensures) in
-    did-not (fails _ (link (g .same) (way _ (tail-more _ (g .what) _ (i .fuel) _ (i .enough) tk (else1-of-after-binop t (search) .if1 .left) tn (known (Else2 t) (search) .if2 .left)))) (undone (c .match3 .keys2) (known (After-binop t) (search) .binop .ensures)) (prefix g (omega (arith, start-of-after-binop t (search) .pre))) (omega (arith, start-of-after-binop t (search) .pre, g .moved, g .room, tk .within)))
+    let tn = taken (known (Place lts.After-next t) (search) .next .given .1) (after-look2-of-after-binop t (search) .look2 .ensures) in
+    did-not (fails _ (link (g .same) (way _ (tail-more _ (g .what) _ (i .fuel) _ (i .enough) tk (else1-of-after-binop t (search) .if1 .left) tn (known (Place lts.Else2 t) (search) .if2 .left)))) (undone (c .match3 .keys2) (known (Place lts.After-binop t) (search) .binop .ensures)) (prefix g (omega (arith, start-of-after-binop t (search) .pre))) (omega (arith, start-of-after-binop t (search) .pre, g .moved, g .room, tk .within)))
 
 pub add-n : (t : ℕ) → lts.Need-add-n (calls t) (tail-at t) reads.Post Inv-loop μ-loop
 add-n t c = let i = at-loop-of-after-binop t (search) .loop .inv in
@@ -242,7 +197,7 @@ add-n t c = let i = at-loop-of-after-binop t (search) .loop .inv in
 
 pub loop-less : (t : ℕ) → lts.Need-loop-less (calls t) (tail-at t) reads.Post Inv-loop μ-loop
 loop-less t c = let tk = taken (after-kind-of-after-binop t (search) .kind .given .1) (after-look-of-after-binop t (search) .look .ensures) in
-    let w = done (known (After-r t) (search) .r .given .1) (known (After-binop t) (search) .binop .ensures) in
+    let w = done (known (Place lts.After-r t) (search) .r .given .1) (known (Place lts.After-binop t) (search) .binop .ensures) in
     omega arith
 
 pub loop-again : (t : ℕ) → lts.Need-loop-again (calls t) (tail-at t) reads.Post Inv-loop μ-loop
@@ -250,11 +205,11 @@ loop-again t c = let i = at-loop-of-after-binop t (search) .loop .inv in
     let g = i .run in
     let tk = taken (after-kind-of-after-binop t (search) .kind .given .1) (after-look-of-after-binop t (search) .look .ensures) in
     let tn = taken (after-next-of-after-binop t (search) .next .given .1) (after-look2-of-after-binop t (search) .look2 .ensures) in
-    let w = done (known (After-r t) (search) .r .given .1) (known (After-binop t) (search) .binop .ensures) in
+    let w = done (known (Place lts.After-r t) (search) .r .given .1) (known (Place lts.After-binop t) (search) .binop .ensures) in
     record {
       fuel = i .fuel - 1;
       enough = omega arith;
-      run = record { what = snoc (g .what) (w .what); same = goes _ (link (g .same) (way _ (tail-more _ (g .what) _ (i .fuel) _ (i .enough) tk (else1-of-after-binop t (search) .if1 .left) tn (known (Else2 t) (search) .if2 .left)))) (w .same); moved = omega arith; room = omega arith; text = joined (g .what) (w .what) (take (start-of-after-binop t (search) .args .at) (start-of-after-binop t (search) .args .store .now)) (w .text) (g .text) };
+      run = record { what = snoc (g .what) (w .what); same = goes _ (link (g .same) (way _ (tail-more _ (g .what) _ (i .fuel) _ (i .enough) tk (else1-of-after-binop t (search) .if1 .left) tn (known (Place lts.Else2 t) (search) .if2 .left)))) (w .same); moved = omega arith; room = omega arith; text = joined (g .what) (w .what) (take (start-of-after-binop t (search) .args .at) (start-of-after-binop t (search) .args .store .now)) (w .text) (g .text) };
       many = omega (arith, count-snoc (g .what) (w .what), i .many);
       few = omega arith;
       kept = omega arith;
@@ -269,8 +224,8 @@ same-length-4 t c = search needs
 pub returns-4 : (t : ℕ) → lts.Need-returns-4 (calls t) (tail-at t) reads.Post Inv-loop μ-loop
 returns-4 t c = let i = at-loop-of-else1 t (search) .loop .inv in
     let g = i .run in
-    let tk = taken (known (After-kind t) (search) .kind .given .1) (known (After-look t) (search) .look .ensures) in
-    did-not (fails-unseen (link (g .same) (way _ (tail-comma _ (g .what) _ (i .fuel) _ (i .enough) tk (known (Else1 t) (search) .if1 .left)))) (record { go = _; is = refl }) (not-taken (known (After-s t) (search) .s .given .1) (known (After-look2 t) (search) .look2 .ensures)) (prefix g (omega arith)) (omega arith))
+    let tk = taken (known (Place lts.After-kind t) (search) .kind .given .1) (known (Place lts.After-look t) (search) .look .ensures) in
+    did-not (fails-unseen (link (g .same) (way _ (tail-comma _ (g .what) _ (i .fuel) _ (i .enough) tk (known (Place lts.Else1 t) (search) .if1 .left)))) (record { go = _; is = refl }) (not-taken (known (Place lts.After-s t) (search) .s .given .1) (known (Place lts.After-look2 t) (search) .look2 .ensures)) (prefix g (omega arith)) (omega arith))
 
 pub enum-known-s-2 : (t : ℕ) → lts.Need-enum-known-s-2 (calls t) (tail-at t) reads.Post Inv-loop μ-loop
 enum-known-s-2 t c = search needs
@@ -279,6 +234,6 @@ pub same-length-5 : (t : ℕ) → lts.Need-same-length-5 (calls t) (tail-at t) r
 same-length-5 t c = search needs
 
 pub returns-5 : (t : ℕ) → lts.Need-returns-5 (calls t) (tail-at t) reads.Post Inv-loop μ-loop
-returns-5 t c = let i = known (At-loop t) (search) .loop .inv in
+returns-5 t c = let i = known (Place lts.At-loop t) (search) .loop .inv in
     let g = i .run in
-    did-not (fails-unseen (g .same) (tail-looks _ (g .what) _ _ (i .fuel) _ (i .enough)) (not-taken (known (After-s2 t) (search) .s2 .given .1) (known (After-look t) (search) .look .ensures)) (prefix g (omega arith)) (omega arith))
+    did-not (fails-unseen (g .same) (tail-looks _ (g .what) _ _ (i .fuel) _ (i .enough)) (not-taken (known (Place lts.After-s2 t) (search) .s2 .given .1) (known (Place lts.After-look t) (search) .look .ensures)) (prefix g (omega arith)) (omega arith))

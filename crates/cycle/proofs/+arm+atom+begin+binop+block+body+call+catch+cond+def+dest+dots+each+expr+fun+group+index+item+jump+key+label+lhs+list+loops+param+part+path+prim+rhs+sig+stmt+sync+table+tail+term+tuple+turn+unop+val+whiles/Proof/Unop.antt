@@ -1,11 +1,13 @@
 -- The needs of `cycle::unop` in its cycle of calls. Assumes nothing.
 use mathlib.Core.Path.{refl, _∙_}
 use Prim.Native.Nat.{ℕ}
+use borrow.Fn.Kinds.{In, Out}
 use borrow.Author.Needs.{needs}
 use native.Mathlib.Omega.{arith}
 use Rattle.scan.proofs.Laws.{way, ends, goes, done, undone, did-not, taken, not-taken, fails, fails-unseen, as-agrees, anew}
 use Rattle.nodes.proofs.Made.{made-one}
 use Rattle.cycle.proofs.PathsExpr.{unary-stops, unary-step, unary-looks, unary-none, unary-some}
+use Rattle.cycle.proofs.unop.Kinds as kinds
 use Rattle.cycle.proofs.unop.Reads as reads
 use Rattle.cycle.proofs.+arm+atom+begin+binop+block+body+call+catch+cond+def+dest+dots+each+expr+fun+group+index+item+jump+key+label+lhs+list+loops+param+part+path+prim+rhs+sig+stmt+sync+table+tail+term+tuple+turn+unop+val+whiles.Lts-unop as lts
 use Rattle.cycle.proofs.term.Reads as term-reads
@@ -20,67 +22,35 @@ use Rattle.tree.proofs.Known.{known}
 abbrev pub calls : ℕ → lts.Claims
 calls t = (look-reads.Asked, look-reads.Learnt, unary-code-reads.Asked, unary-code-reads.Learnt, term-below t, term-reads.Post, unop-below t, reads.Post, again-reads.Asked, again-reads.Learnt, emit-reads.Asked, emit-reads.Learnt)
 
-abbrev After-kind : ℕ → Type 0
-After-kind t = lts.After-kind (calls t) (unop-at t) reads.Post
+-- a place of its code
+abbrev Place : (lts.Claims → In 3 kinds.ps → Out 3 kinds.ps kinds.r → Type 0) → ℕ → Type 0
+Place P t = P (calls t) (unop-at t) reads.Post
 
-abbrev After-unary-code : ℕ → Type 0
-After-unary-code t = lts.After-unary-code (calls t) (unop-at t) reads.Post
-
-abbrev After-look : ℕ → Type 0
-After-look t = lts.After-look (calls t) (unop-at t) reads.Post
-
-abbrev Else1 : ℕ → Type 0
-Else1 t = lts.Else1 (calls t) (unop-at t) reads.Post
-
-abbrev Then2 : ℕ → Type 0
-Then2 t = lts.Then2 (calls t) (unop-at t) reads.Post
-
-abbrev After-term : ℕ → Type 0
-After-term t = lts.After-term (calls t) (unop-at t) reads.Post
-
-abbrev Else2 : ℕ → Type 0
-Else2 t = lts.Else2 (calls t) (unop-at t) reads.Post
-
-abbrev At-match2-keys2 : ℕ → Type 0
-At-match2-keys2 t = lts.At-match2-keys2 (calls t) (unop-at t) reads.Post
-
-abbrev After-unop : ℕ → Type 0
-After-unop t = lts.After-unop (calls t) (unop-at t) reads.Post
-
-abbrev After-r : ℕ → Type 0
-After-r t = lts.After-r (calls t) (unop-at t) reads.Post
-
-abbrev After-emit : ℕ → Type 0
-After-emit t = lts.After-emit (calls t) (unop-at t) reads.Post
-
-abbrev After-s : ℕ → Type 0
-After-s t = lts.After-s (calls t) (unop-at t) reads.Post
-
-abbrev after-look-of-after-unary-code : (t : ℕ) → After-unary-code t → After-look t
+abbrev after-look-of-after-unary-code : (t : ℕ) → Place lts.After-unary-code t → Place lts.After-look t
 after-look-of-after-unary-code t c = search
 
-abbrev else1-of-after-unary-code : (t : ℕ) → After-unary-code t → Else1 t
+abbrev else1-of-after-unary-code : (t : ℕ) → Place lts.After-unary-code t → Place lts.Else1 t
 else1-of-after-unary-code t c = search
 
-abbrev after-kind-of-after-unary-code : (t : ℕ) → After-unary-code t → After-kind t
+abbrev after-kind-of-after-unary-code : (t : ℕ) → Place lts.After-unary-code t → Place lts.After-kind t
 after-kind-of-after-unary-code t c = search
 
-abbrev after-kind-of-after-r : (t : ℕ) → After-r t → After-kind t
+abbrev after-kind-of-after-r : (t : ℕ) → Place lts.After-r t → Place lts.After-kind t
 after-kind-of-after-r t c = after-kind-of-after-unary-code t (search)
 
-abbrev after-look-of-after-r : (t : ℕ) → After-r t → After-look t
+abbrev after-look-of-after-r : (t : ℕ) → Place lts.After-r t → Place lts.After-look t
 after-look-of-after-r t c = after-look-of-after-unary-code t (search)
 
-abbrev after-unop-of-after-r : (t : ℕ) → After-r t → After-unop t
+abbrev after-unop-of-after-r : (t : ℕ) → Place lts.After-r t → Place lts.After-unop t
 after-unop-of-after-r t c = search
 
-abbrev else1-of-after-r : (t : ℕ) → After-r t → Else1 t
+abbrev else1-of-after-r : (t : ℕ) → Place lts.After-r t → Place lts.Else1 t
 else1-of-after-r t c = else1-of-after-unary-code t (search)
 
-abbrev after-unary-code-of-after-r : (t : ℕ) → After-r t → After-unary-code t
+abbrev after-unary-code-of-after-r : (t : ℕ) → Place lts.After-r t → Place lts.After-unary-code t
 after-unary-code-of-after-r t c = search
 
-abbrev else2-of-after-r : (t : ℕ) → After-r t → Else2 t
+abbrev else2-of-after-r : (t : ℕ) → Place lts.After-r t → Place lts.Else2 t
 else2-of-after-r t c = search
 
 pub returns : (t : ℕ) → lts.Need-returns (calls t) (unop-at t) reads.Post
@@ -105,18 +75,18 @@ pub same-length : (t : ℕ) → lts.Need-same-length (calls t) (unop-at t) reads
 same-length t c = search needs
 
 pub returns-2 : (t : ℕ) → lts.Need-returns-2 (calls t) (unop-at t) reads.Post
-returns-2 t c = let tk = taken (known (After-kind t) (search) .kind .given .1) (after-look-of-after-unary-code t (search) .look .ensures) in
-    as-agrees (unary-step _ _ _ (else1-of-after-unary-code t (search) .if1 .left) ∙ unary-none _ _ tk (known (After-unary-code t) (search) .unary-code .ensures .0) (known (Then2 t) (search) .if2 .taken)) (known (After-term t) (search) .term .ensures)
+returns-2 t c = let tk = taken (known (Place lts.After-kind t) (search) .kind .given .1) (after-look-of-after-unary-code t (search) .look .ensures) in
+    as-agrees (unary-step _ _ _ (else1-of-after-unary-code t (search) .if1 .left) ∙ unary-none _ _ tk (known (Place lts.After-unary-code t) (search) .unary-code .ensures .0) (known (Place lts.Then2 t) (search) .if2 .taken)) (known (Place lts.After-term t) (search) .term .ensures)
 
 pub sub-unop : (t : ℕ) → lts.Need-sub-unop (calls t) (unop-at t) reads.Post
 sub-unop t c = search needs
 
 pub add-unop : (t : ℕ) → lts.Need-add-unop (calls t) (unop-at t) reads.Post
-add-unop t c = let tk = taken (known (After-kind t) (search) .kind .given .1) (known (After-look t) (search) .look .ensures) in
+add-unop t c = let tk = taken (known (Place lts.After-kind t) (search) .kind .given .1) (known (Place lts.After-look t) (search) .look .ensures) in
     omega arith
 
 pub unop-requires : (t : ℕ) → lts.Need-unop-requires (calls t) (unop-at t) reads.Post
-unop-requires t c κs = let tk = taken (known (After-kind t) (search) .kind .given .1) (known (After-look t) (search) .look .ensures) in
+unop-requires t c κs = let tk = taken (known (Place lts.After-kind t) (search) .kind .given .1) (known (Place lts.After-look t) (search) .look .ensures) in
     omega arith
 
 pub enum-known-r : (t : ℕ) → lts.Need-enum-known-r (calls t) (unop-at t) reads.Post
@@ -130,15 +100,15 @@ same-length-2 t c = search needs
 
 pub returns-3 : (t : ℕ) → lts.Need-returns-3 (calls t) (unop-at t) reads.Post
 returns-3 t c = let tk = taken (after-kind-of-after-unary-code t (search) .kind .given .1) (after-look-of-after-unary-code t (search) .look .ensures) in
-    let path = way _ (unary-step _ _ _ (else1-of-after-unary-code t (search) .if1 .left) ∙ unary-some _ _ tk (known (After-unary-code t) (search) .unary-code .ensures .0) (known (Else2 t) (search) .if2 .left)) in
-    anew (c .again .ensures) (did-not (fails _ path (undone (known (At-match2-keys2 t) (search) .match2 .keys2) (known (After-unop t) (search) .unop .ensures)) refl (omega arith)))
+    let path = way _ (unary-step _ _ _ (else1-of-after-unary-code t (search) .if1 .left) ∙ unary-some _ _ tk (known (Place lts.After-unary-code t) (search) .unary-code .ensures .0) (known (Place lts.Else2 t) (search) .if2 .left)) in
+    anew (c .again .ensures) (did-not (fails _ path (undone (known (Place lts.At-match2-keys2 t) (search) .match2 .keys2) (known (Place lts.After-unop t) (search) .unop .ensures)) refl (omega arith)))
 
 pub sub-emit : (t : ℕ) → lts.Need-sub-emit (calls t) (unop-at t) reads.Post
 sub-emit t c = search needs
 
 pub emit-requires : (t : ℕ) → lts.Need-emit-requires (calls t) (unop-at t) reads.Post
 emit-requires t c κs = let tk = taken (after-kind-of-after-r t (search) .kind .given .1) (after-look-of-after-r t (search) .look .ensures) in
-    let w = done (known (After-r t) (search) .r .given .1) (known (After-unop t) (search) .unop .ensures) in
+    let w = done (known (Place lts.After-r t) (search) .r .given .1) (known (Place lts.After-unop t) (search) .unop .ensures) in
     omega arith
 
 pub enum-known-s : (t : ℕ) → lts.Need-enum-known-s (calls t) (unop-at t) reads.Post
@@ -149,9 +119,9 @@ same-length-3 t c = search needs
 
 pub returns-4 : (t : ℕ) → lts.Need-returns-4 (calls t) (unop-at t) reads.Post
 returns-4 t c = let tk = taken (after-kind-of-after-r t (search) .kind .given .1) (after-look-of-after-r t (search) .look .ensures) in
-    let w = done (known (After-r t) (search) .r .given .1) (after-unop-of-after-r t (search) .unop .ensures) in
+    let w = done (known (Place lts.After-r t) (search) .r .given .1) (after-unop-of-after-r t (search) .unop .ensures) in
     let path = way _ (unary-step _ _ _ (else1-of-after-r t (search) .if1 .left) ∙ unary-some _ _ tk (after-unary-code-of-after-r t (search) .unary-code .ensures .0) (else2-of-after-r t (search) .if2 .left)) in
-    record { how = made-one 12 w (known (After-emit t) (search) .emit .ensures) (goes _ path (w .same)) (omega arith) (omega arith) refl }
+    record { how = made-one 12 w (known (Place lts.After-emit t) (search) .emit .ensures) (goes _ path (w .same)) (omega arith) (omega arith) refl }
 
 pub returns-5 : (t : ℕ) → lts.Need-returns-5 (calls t) (unop-at t) reads.Post
-returns-5 t c = did-not (fails-unseen (way _ (unary-step _ _ _ (known (Else1 t) (search) .if1 .left))) (unary-looks _ _ _) (not-taken (known (After-s t) (search) .s .given .1) (known (After-look t) (search) .look .ensures)) refl (omega arith))
+returns-5 t c = did-not (fails-unseen (way _ (unary-step _ _ _ (known (Place lts.Else1 t) (search) .if1 .left))) (unary-looks _ _ _) (not-taken (known (Place lts.After-s t) (search) .s .given .1) (known (Place lts.After-look t) (search) .look .ensures)) refl (omega arith))
