@@ -47,7 +47,7 @@ same-length c = search needs
 returns-2 : tie.Need-returns-2
 returns-2 c = let u = after-push-of-after-sync-arg (search) .push .ensures in
     let o = known tie.After-pop (search) .pop .ensures in
-    let path = failed-step depth-limit (start-of-after-sync-arg (search) .args .e) (start-of-after-sync-arg (search) .args .waiting) (start-of-after-sync-arg (search) .args .queue .now) (drop (start-of-after-sync-arg (search) .args .pos) (start-of-after-sync-arg (search) .args .tokens .now)) (else1-of-after-sync-arg (search) .if1 .left) (omega (arith, start-of-after-sync-arg (search) .pre)) (u .text) (o .text) in
+    let path = failed-step depth-limit (start-of-after-sync-arg (search) .args .f .error) (start-of-after-sync-arg (search) .args .f .waiting) (start-of-after-sync-arg (search) .args .queue .now) (drop (start-of-after-sync-arg (search) .args .f .pos) (start-of-after-sync-arg (search) .args .tokens .now)) (else1-of-after-sync-arg (search) .if1 .left) (omega (arith, start-of-after-sync-arg (search) .pre)) (u .text) (o .text) in
     let y1 = done (known tie.After-r (search) .r .given .1) (known tie.After-sync (search) .sync .ensures) in
     record { how = record { same = goes _ path (y1 .same); moved = omega (arith, y1 .moved, u .next); far = omega (arith, y1 .moved); text = refl } }
 
@@ -57,7 +57,7 @@ same-length-2 c = search needs
 returns-3 : tie.Need-returns-3
 returns-3 c = let u = known tie.After-push (search) .push .ensures in
     let o = known tie.After-pop (search) .pop .ensures in
-    let path = failed-step depth-limit (start-of-after-sync-arg (search) .args .e) (start-of-after-sync-arg (search) .args .waiting) (start-of-after-sync-arg (search) .args .queue .now) (drop (start-of-after-sync-arg (search) .args .pos) (start-of-after-sync-arg (search) .args .tokens .now)) (else1-of-after-sync-arg (search) .if1 .left) (omega (arith, start-of-after-sync-arg (search) .pre)) (u .text) (o .text) in
+    let path = failed-step depth-limit (start-of-after-sync-arg (search) .args .f .error) (start-of-after-sync-arg (search) .args .f .waiting) (start-of-after-sync-arg (search) .args .queue .now) (drop (start-of-after-sync-arg (search) .args .f .pos) (start-of-after-sync-arg (search) .args .tokens .now)) (else1-of-after-sync-arg (search) .if1 .left) (omega (arith, start-of-after-sync-arg (search) .pre)) (u .text) (o .text) in
     fails _ path (undone (c .match .keys2) (known tie.After-sync (search) .sync .ensures)) refl (omega (arith, start-of-after-sync-arg (search) .pre, u .next))
 
 pub failed-spec : {M : Type 1} → statement M

@@ -41,8 +41,8 @@ go-on-requires : tie.Need-go-on-requires
 go-on-requires c κs = let w = done (known tie.After-p (search) .p .given .1) (after-statement-of-at-match-keys1 (search) .statement .ensures) in
     w .moved .few
 
-enum-known-e : tie.Need-enum-known-e
-enum-known-e c = search needs
+enum-known-f : tie.Need-enum-known-f
+enum-known-f c = search needs
 
 clear-requires-2 : tie.Need-clear-requires-2
 clear-requires-2 c κs = search needs
@@ -54,7 +54,7 @@ add-go-on-2 : tie.Need-add-go-on-2
 add-go-on-2 c = search needs
 
 go-on-requires-2 : tie.Need-go-on-requires-2
-go-on-requires-2 c κs = let l = missed (known tie.After-e (search) .e .given .1) (after-statement-of-at-match-keys2 (search) .statement .ensures) in
+go-on-requires-2 c κs = let l = missed (known tie.After-f (search) .f .given .1) (after-statement-of-at-match-keys2 (search) .statement .ensures) in
     l .moved .few
 
 enum-known-n : tie.Need-enum-known-n
@@ -79,7 +79,7 @@ same-length-2 : tie.Need-same-length-2
 same-length-2 c = search needs
 
 returns-2 : tie.Need-returns-2
-returns-2 c = let l = missed (known tie.After-e (search) .e .given .1) (after-statement-of-at-match-keys2 (search) .statement .ensures) in
+returns-2 c = let l = missed (known tie.After-f (search) .f .given .1) (after-statement-of-at-match-keys2 (search) .statement .ensures) in
     lost-out (start-of-at-match-keys2 (search) .args .unread .now) (start-of-at-match-keys2 (search) .args .position) _ (start-of-at-match-keys2 (search) .pre .0) _ l (known tie.After-clear2 (search) .clear2 .ensures) (after-statement-of-at-match-keys2 (search) .statement .kept .1 .0) (known tie.After-error-answer (search) .error-answer .ensures) (c .go-on2 .ensures)
 
 same-length-3 : tie.Need-same-length-3
@@ -97,7 +97,7 @@ read-on-spec =
     clear-requires
     add-go-on
     go-on-requires
-    enum-known-e
+    enum-known-f
     clear-requires-2
     error-answer-requires
     add-go-on-2
