@@ -27,8 +27,9 @@ use Rattle.grammar.specs.Laws.Count.{same-then}
 use Rattle.scan.specs.Post.{Taken}
 use Rattle.nodes.proofs.Algebra.{then-fail, then-ok, then-then, then-same}
 use Rattle.scan.proofs.Laws.{Looks}
+use Rattle.scan.proofs.Looking.{counted}
 use Rattle.scan.proofs.Text.{left}
-use Rattle.cycle.proofs.PathsExpr.{suc-pred, counted}
+use Rattle.cycle.proofs.PathsExpr.{suc-pred}
 
 -- the operators of the levels up to l, after a left side: the right side of one of the level k is read at the level k - 1
 unfoldable pub climb : Depth → ℕ → ℕ → Tree → List Error → List ℕ → Res Tree

@@ -1,7 +1,7 @@
 -- Controls, resynchronization and catching (grammar's Reading/Stmt.antt), one step each, as the code goes: an equation for each way through a reading. Assumes nothing.
 use mathlib.Core.Path.{_≡_, refl, sym, ap, _∙_}
 use mathlib.Core.Bool.{Bool, true, false, _&&_, _||_}
-use mathlib.Core.List.{List, [], _∷_, append-nil}
+use mathlib.Core.List.{List, append-nil}
 use Prim.Native.Nat.{ℕ, zero, suc, _+_, _-_, _≤_}
 use native.Mathlib.Omega.{arith}
 use borrow.Author.Tests.{eq-eqb, ne-eqb}
@@ -25,6 +25,7 @@ use Rattle.scan.specs.declared.Failure.{Failure}
 use Rattle.scan.specs.declared.Step.{Step}
 use Rattle.scan.specs.declared.Step.the-variants.{Done, Fail, Stop}
 use Rattle.scan.proofs.Laws.{Looks, way, link, as-unclean}
+use Rattle.scan.proofs.Looking.{counted-stops}
 use Rattle.scan.proofs.Text.{left, fuel-some}
 
 -- the value of a control
@@ -126,14 +127,8 @@ module _ (low : Depth) (inside : Bool) (q : List Error) where
       unfolding ifb
       sync-try e = ap (λ (n : ℕ). synchronize low inside n q (drop p T)) (sym (fuel-some T fuel p enough (at .within))) ∙ sync-taken (fuel - 1) (drop p T) (at .same q) ∙ rw e
 
-sync-stops : (low : Depth) (inside : Bool) (q : List Error) (fuel : ℕ) (ts : List ℕ) {n : ℕ} → length ts ≤ fuel → look q ts ≡ stop n → synchronize low inside fuel q ts ≡ stop n
-unfolding look
-sync-stops low inside q zero [] h l = absurd (let z : _≡_ {A = ℕ} 0 1 = cc in omega arith)
-sync-stops low inside q zero (x ∷ ts) h l = absurd (omega arith)
-sync-stops low inside q (suc fuel) ts h l = sync-halted low inside q fuel ts l
-
 pub sync-stop : (low : Depth) (inside : Bool) (q : List Error) (T : List ℕ) (fuel p : ℕ) → length T ≤ p + fuel → (n : ℕ) → ((q : List Error) → look q (drop p T) ≡ stop n) → synchronize low inside fuel q (drop p T) ≡ stop n
-sync-stop low inside q T fuel p enough n l = sync-stops low inside q fuel (drop p T) (left T p fuel enough) (l q)
+sync-stop low inside q T fuel p enough n l = counted-stops q (drop p T) (λ m. synchronize low inside m q (drop p T)) (λ m e. sync-halted low inside q m (drop p T) e) fuel (left T p fuel enough) (l q)
 
 -- catching
 abbrev pub caught-go : Depth → List Error → List ℕ → Res (Unit {0})

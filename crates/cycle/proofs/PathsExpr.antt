@@ -1,8 +1,7 @@
 -- Operands and what stands above them (grammar's Reading/Expr.antt and Level.antt), one step each, as the code goes: an equation for each way through a reading. Assumes nothing.
 use mathlib.Core.Path.{_≡_, refl, sym, ap, _∙_}
-use mathlib.Core.List.{List, [], _∷_}
+use mathlib.Core.List.{List}
 use Prim.Native.Nat.{ℕ, zero, suc, pred, _+_, _*_, _-_, _≤_}
-use native.Mathlib.Numerals.{sub-one}
 use native.Mathlib.Omega.{arith}
 use lib.Dec.{eqb}
 use lib.ListN.{length, drop}
@@ -26,17 +25,11 @@ use Rattle.cycle.specs.Parts.{tail}
 use Rattle.scan.specs.Post.{Taken}
 use Rattle.nodes.proofs.Algebra.{then-fail, then-ok, then-then, then-if, then-same, look-then}
 use Rattle.scan.proofs.Laws.{Looks}
+use Rattle.scan.proofs.Looking.{counted}
 use Rattle.scan.proofs.Text.{left}
 
 pub suc-pred : (n : ℕ) → (n ≡ 0 → ⊥) → suc (n - 1) ≡ n
 suc-pred n h = omega arith
-
--- a loop whose count is at least as long as the list looks: with a count of 0 the list is empty
-pub counted : {A : Type 0} (q : List Error) (ts : List ℕ) (loop : ℕ → Res A) (go : ℕ → Token → List Error → List ℕ → Res A) → loop 0 ≡ fail Number.end-of-tokens q ts → ((n : ℕ) → loop (suc n) ≡ then q (look q ts) (go n)) → (fuel : ℕ) → length ts ≤ fuel → loop fuel ≡ then q (look q ts) (go (fuel - 1))
-unfolding look then
-counted q [] loop go ended goes zero h = ended
-counted q (x ∷ ts) loop go ended goes zero h = absurd (omega arith)
-counted q ts loop go ended goes (suc n) h = goes n ∙ rw (sub-one (suc n))
 
 -- the readings of each depth
 module _ (d : ℕ) (q : List Error) (ts : List ℕ) where

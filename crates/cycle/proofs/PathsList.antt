@@ -1,6 +1,6 @@
 -- The places of a statement list and the list (grammar's Reading/Stmt.antt), one step each, as the code goes: an equation for each way through a reading. Assumes nothing.
 use mathlib.Core.Path.{_≡_, refl, sym, ap, _∙_}
-use mathlib.Core.Bool.{Bool, true, false}
+use mathlib.Core.Bool.{true, false}
 use mathlib.Core.List.{List, [], _∷_, _++_, append-assoc, append-nil}
 use Prim.Native.Nat.{ℕ, _+_, _*_, _-_, _≤_}
 use native.Mathlib.Omega.{arith}
@@ -21,8 +21,8 @@ use Rattle.grammar.specs.Reading.Stmt.{ends, is-control, control-flow, control-
 use Rattle.grammar.specs.Reading.Depth.{at-depth}
 use Rattle.grammar.specs.Laws.Kinds.{stmt-small, depth-small}
 use Rattle.grammar.specs.Laws.Holds.{Holds, h-ok, h-bad, h-fail, h-stop, holds-past, holds-if}
-use Rattle.grammar.specs.Laws.Facts.{if-same}
-use Rattle.scan.specs.Post.{won, out, As, no-words, Failed, Wrote, Agrees, Taken, Queues, waiting-errors}
+use Rattle.grammar.specs.Laws.Keep.{Keep, k-ok, k-fail, k-stop, k-all, k-unclean, k-on, k-if}
+use Rattle.scan.specs.Post.{As, no-words, Failed, Wrote, Agrees, Taken, Queues, waiting-errors}
 use Rattle.cycle.specs.Parts.{Place, a-stmt, a-control, a-caught, resume, turn, control-words}
 use Rattle.scan.specs.Parts.{closed-step, resumed-step}
 use Rattle.nodes.specs.Ends.{Marked, statement, no-statement}
@@ -32,13 +32,14 @@ use Rattle.scan.specs.declared.Step.{Step}
 use Rattle.scan.specs.declared.Step.the-variants.{Done, Fail, Stop}
 use Rattle.scan.specs.declared.Entry.{Entry}
 use Rattle.scan.specs.declared.Entry.the-variants.{Stmt as EStmt, Control as EControl, Caught as ECaught, Not as ENot}
+use Rattle.grammar.specs.Laws.Facts.{if-same}
 use Rattle.nodes.proofs.Algebra.{then-ok, then-then, then-either, then-if, then-same, either-same}
-use Rattle.scan.proofs.Laws.{Looks, goes, fails, elsewhere, prefix}
+use Rattle.scan.proofs.Laws.{kept-won, Looks, goes, fails, elsewhere, prefix}
+use Rattle.scan.proofs.Looking.{counted}
 use Rattle.scan.proofs.Text.{left}
 use Rattle.scan.proofs.Waiting.{other}
 use Rattle.cycle.proofs.Shapes.{given}
 use Rattle.cycle.proofs.PathsControl.{control-held, Some}
-use Rattle.cycle.proofs.PathsExpr.{counted}
 
 -- A PLACE of a list
 abbrev pub control-go : Depth → ℕ → ℕ → Tree → List Error → List ℕ → Res Place
@@ -57,64 +58,33 @@ module _ (low : Depth) (end k : ℕ) (rest : List ℕ) (q : List Error) (ts : Li
   turn-stmt e = rw e
 
 -- the words left where an error was caught hold a token
-pub data Two {A : Type 0} : Res A → Type 0 where
-  t-ok : {a : A} {r : List ℕ} → 2 ≤ length r → Two (ok a r)
-  t-bad : {a : A} {q : List Error} {r : List ℕ} → 2 ≤ length r → Two (bad a q r)
-  t-fail : {e : ℕ} {q : List Error} {r : List ℕ} → Two (fail e q r)
-  t-stop : {n : ℕ} → Two (stop n)
-
-two-unclean : {A : Type 0} (q : List Error) {d : Res A} → Two d → Two (unclean q d)
-unfolding unclean
-two-unclean q (t-ok h) = t-bad h
-two-unclean q (t-bad h) = t-bad h
-two-unclean q t-fail = t-fail
-two-unclean q t-stop = t-stop
-
-two-then : {A B : Type 0} (q : List Error) (d : Res A) {k : A → List Error → List ℕ → Res B} → ((a : A) (q : List Error) (r : List ℕ) → Two (k a q r)) → Two (then q d k)
-unfolding then
-two-then q (ok a r) h = h a q r
-two-then q (bad a q′ r) h = two-unclean q′ (h a q′ r)
-two-then q (fail e q′ r) h = t-fail
-two-then q (stop n) h = t-stop
-
-two-if : {A : Type 0} (b : Bool) {x y : Unit {0} → Res A} → ((u : Unit {0}) → Two (x u)) → ((u : Unit {0}) → Two (y u)) → Two (ifb b x y)
-unfolding ifb
-two-if true f g = f tt
-two-if false f g = g tt
+abbrev pub Two : {A : Type 0} → Res A → Type 0
+Two d = Keep (λ r. 2 ≤ length r) (λ e r. Unit {0}) d
 
 two-pop : {A : Type 0} (q : List Error) (r : List ℕ) → Two {A = A} (pop q r)
 unfolding pop
-two-pop [] r = t-fail
-two-pop (e ∷ q) r = t-fail
+two-pop [] r = k-fail tt
+two-pop (e ∷ q) r = k-fail tt
 
 synced-two : (q : List Error) (ts : List ℕ) → Two (synchronized q ts)
 unfolding synchronized look either unclean
-synced-two q [] = two-unclean q (two-pop q [])
-synced-two q (w ∷ []) = two-unclean q (two-pop q (w ∷ []))
+synced-two q [] = k-unclean q (two-pop q [])
+synced-two q (w ∷ []) = k-unclean q (two-pop q (w ∷ []))
 synced-two q (w ∷ (v ∷ r)) = by (looked q r (seen-word w v))
   where
     by : (d : Res Token) → Two {A = Unit {0}} (either q d (λ tok q₁ rest. ifb (eqb (tok .kind) Kind.EOF) (λ _. pop q (w ∷ (v ∷ r))) (λ _. ok tt (w ∷ (v ∷ r)))) (λ e q₁ r. pop q₁ r))
-    by (ok tok s) = two-if _ (λ _. two-pop q (w ∷ (v ∷ r))) (λ _. t-ok (omega arith))
-    by (bad tok q₁ s) = two-unclean q₁ (two-if _ (λ _. two-pop q (w ∷ (v ∷ r))) (λ _. t-ok (omega arith)))
-    by (fail e q₁ s) = two-unclean q₁ (two-pop q₁ s)
-    by (stop n) = t-stop
+    by (ok tok s) = k-if _ (λ _. two-pop q (w ∷ (v ∷ r))) (λ _. k-ok (omega arith))
+    by (bad tok q₁ s) = k-unclean q₁ (k-if _ (λ _. two-pop q (w ∷ (v ∷ r))) (λ _. k-ok (omega arith)))
+    by (fail e q₁ s) = k-unclean q₁ (two-pop q₁ s)
+    by (stop n) = k-stop
 
 pub caught-two : (low : Depth) (e : ℕ) (q : List Error) (ts : List ℕ) → Two (caught low e q ts)
 unfolding caught push
-caught-two low e q ts = two-if _ (λ _. t-fail) (λ _. two-if _ (λ _. t-stop) (λ _. two-unclean _ (two-then _ _ λ u q₂ r. synced-two q₂ r)))
-
-two-left : {A : Type 0} {d : Res A} {q q′ : List Error} {r : List ℕ} {x : A} → Two d → As q d q′ (ok x r) → 2 ≤ length r
-two-left {A = A} {q = q} {q′ = q′} {r = r} {x = x} h a = by q h (a .is)
-  where
-    by : {d : Res A} (q : List Error) → Two d → out q d ≡ won x q′ r → 2 ≤ length r
-    by q (t-ok {r = s} p) e = let z : s ≡ r = cc in rw (← z) p
-    by q (t-bad {r = s} p) e = let z : s ≡ r = cc in rw (← z) p
-    by q t-fail e = absurd (let z : _≡_ {A = ℕ} 0 1 = cc in omega arith)
-    by q t-stop e = absurd (let z : _≡_ {A = ℕ} 0 1 = cc in omega arith)
+caught-two low e q ts = k-if _ (λ _. k-fail tt) (λ _. k-if _ (λ _. k-stop) (λ _. k-unclean _ (k-on {M = λ r. Unit {0}} _ (k-all (λ r. tt) (λ e r. tt) _) λ u q₂ r i. synced-two q₂ r)))
 
 two-at : {A : Type 0} {d : Res A} {q q′ : List Error} {u : A} (T : List ℕ) (p : ℕ) → Two d → As q d q′ (ok u (drop p T)) → p + 2 ≤ length T
-two-at T p t a =
-    let h = two-left t a in
+two-at {q = q} T p t a =
+    let h = kept-won q t (a .is) in
     let l : length (drop p T) ≡ length T - p = length-drop p T in
     omega arith
 

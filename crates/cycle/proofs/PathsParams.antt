@@ -17,7 +17,6 @@ use Rattle.grammar.specs.Reading.Result.{Res, ok, then, ifb, Error}
 use Rattle.grammar.specs.Reading.Look.{look}
 use Rattle.grammar.specs.Reading.Expr.{Depth, expr}
 use Rattle.grammar.specs.Reading.Function.{Param, required, variadic, default, Params, variadic-param, plain-param, param, joined, params}
-use Rattle.grammar.specs.Laws.Facts.{if-same}
 use Rattle.nodes.specs.Parts.{Header, h-required, h-variadic, h-default, param-name, variadic-head, param-kind, param-head, join}
 use Rattle.scan.specs.Post.{As, Moved, Room, Failed, Wrote, Unread, Taken, waiting-errors}
 use Rattle.nodes.specs.Parameters.{name-bound, Header-at, Heads, Default-one, required-words, default-words, Parameter-at, Params-read, words-of, params-words, with-default, Fitting, Joins-to, Unjoined, Joined-by, One}
@@ -28,29 +27,20 @@ use Rattle.nodes.specs.declared.Parameter.{Parameter}
 use Rattle.nodes.specs.declared.Parameter.the-variants.{Required as PRequired, Variadic as PVariadic, Default as PDefault, Not as PNot}
 use Rattle.nodes.specs.declared.Joined.{Joined}
 use Rattle.nodes.specs.declared.Joined.the-variants.{To, Not as JNot}
-use Rattle.nodes.proofs.Algebra.{then-ok, then-then, then-if, then-same, look-then, look-same, Plain, an-ok, a-fail, a-stop, look-plain, plain-then}
+use Rattle.grammar.specs.Laws.Facts.{if-same}
+use Rattle.nodes.proofs.Algebra.{then-ok, then-then, then-if, then-same, look-then, look-known, Plain, an-ok, a-fail, look-plain, plain-then}
 use Rattle.scan.proofs.Laws.{way, goes, fails, Looks, gets, lacks, prefix}
 use Rattle.nodes.proofs.Made.{put, all-one, all-snoc}
 use Rattle.cycle.proofs.Shapes.{given}
 use Rattle.scan.proofs.Text.{left, grown, prefix-of}
 use Rattle.scan.proofs.Waiting.{other}
-use Rattle.cycle.proofs.PathsExpr.{counted}
+use Rattle.scan.proofs.Looking.{counted}
 
 -- what adds no error to the queue
 plain-if : {A : Type 0} (b : Bool) {x y : Unit {0} → Res A} → ((u : Unit {0}) → Plain (x u)) → ((u : Unit {0}) → Plain (y u)) → Plain (ifb b x y)
 unfolding ifb
 plain-if true f g = f tt
 plain-if false f g = g tt
-
-plain-known : {A B : Type 0} (q : List Error) {d d₀ : Res A} → Plain d → d₀ ≡ d → (f g : A → List Error → List ℕ → Res B) → ((a : A) (r : List ℕ) → d₀ ≡ ok a r → f a q r ≡ g a q r) → then q d f ≡ then q d g
-unfolding then
-plain-known q an-ok e f g h = h _ _ e
-plain-known q a-fail e f g h = refl
-plain-known q a-stop e f g h = refl
-
--- behind a look, whose token is known
-look-known : {B : Type 0} (q : List Error) (ts : List ℕ) (f g : Token → List Error → List ℕ → Res B) → ((tok : Token) (r : List ℕ) → look q ts ≡ ok tok r → f tok q r ≡ g tok q r) → then q (look q ts) f ≡ then q (look q ts) g
-look-known q ts f g h = plain-known q (look-plain q ts) refl f g h
 
 -- ONE PARAMETER: its head, and what is made of it
 abbrev pub param-end : Depth → Header → List Error → List ℕ → Res Param
@@ -120,7 +110,7 @@ module _ (low : Depth) (ps : Params) (q : List Error) where
 
   params-suc : (n : ℕ) (ts : List ℕ) → params low (suc n) ps q ts ≡ then q (look q ts) (params-on ts n)
   unfolding params
-  params-suc n ts = look-same q ts _ _ λ tok r. if-same _ (λ u. refl) (λ u. then-same q _ λ x q₂ s. sym (join-step low n ps x q₂ s))
+  params-suc n ts = look-known q ts _ _ λ tok r e. if-same _ (λ u. refl) (λ u. then-same q _ λ x q₂ s. sym (join-step low n ps x q₂ s))
 
   params-step : (T : List ℕ) (fuel p : ℕ) → length T ≤ p + fuel → params low fuel ps q (drop p T) ≡ then q (look q (drop p T)) (params-on (drop p T) (fuel - 1))
   unfolding params

@@ -29,7 +29,7 @@ use Rattle.nodes.specs.Parts.{path-words, unpack-end, named-field, item-end}
 use Rattle.nodes.proofs.Algebra.{then-fail, then-ok, then-then, then-if, then-same, look-then}
 use Rattle.scan.proofs.Laws.{Looks}
 use Rattle.scan.proofs.Text.{left}
-use Rattle.cycle.proofs.PathsExpr.{counted}
+use Rattle.scan.proofs.Looking.{counted}
 
 -- PRIMARIES
 abbrev pub primary-go : Depth → Tree → List Error → List ℕ → Res Tree

@@ -100,15 +100,16 @@ plain-then q an-ok f g k h = h _ _
 plain-then q a-fail f g k h = refl
 plain-then q a-stop f g k h = refl
 
-plain-same : {A B : Type 0} (q : List Error) {d : Res A} → Plain d → (f g : A → List Error → List ℕ → Res B) → ((a : A) (r : List ℕ) → f a q r ≡ g a q r) → then q d f ≡ then q d g
+plain-known : {A B : Type 0} (q : List Error) {d d₀ : Res A} → Plain d → d₀ ≡ d → (f g : A → List Error → List ℕ → Res B) → ((a : A) (r : List ℕ) → d₀ ≡ ok a r → f a q r ≡ g a q r) → then q d f ≡ then q d g
 unfolding then
-plain-same q an-ok f g h = h _ _
-plain-same q a-fail f g h = refl
-plain-same q a-stop f g h = refl
+plain-known q an-ok e f g h = h _ _ e
+plain-known q a-fail e f g h = refl
+plain-known q a-stop e f g h = refl
 
 -- what goes on behind a look and more
 pub look-then : {B C : Type 0} (q : List Error) (ts : List ℕ) (f : Token → List Error → List ℕ → Res B) (g : Token → List Error → List ℕ → Res C) (k : B → List Error → List ℕ → Res C) → ((tok : Token) (r : List ℕ) → then q (f tok q r) k ≡ g tok q r) → then q (then q (look q ts) f) k ≡ then q (look q ts) g
 look-then q ts f g k h = plain-then q (look-plain q ts) f g k h
 
-pub look-same : {B : Type 0} (q : List Error) (ts : List ℕ) (f g : Token → List Error → List ℕ → Res B) → ((tok : Token) (r : List ℕ) → f tok q r ≡ g tok q r) → then q (look q ts) f ≡ then q (look q ts) g
-look-same q ts f g h = plain-same q (look-plain q ts) f g h
+-- behind a look, whose token is known
+pub look-known : {B : Type 0} (q : List Error) (ts : List ℕ) (f g : Token → List Error → List ℕ → Res B) → ((tok : Token) (r : List ℕ) → look q ts ≡ ok tok r → f tok q r ≡ g tok q r) → then q (look q ts) f ≡ then q (look q ts) g
+look-known q ts f g h = plain-known q (look-plain q ts) refl f g h

@@ -14,7 +14,7 @@ use Rattle.grammar.specs.Reading.Limit.{depth-limit, length-limit, queue-limit,
 use Rattle.grammar.specs.Reading.Result.{Res, ok, bad, fail, stop, ifb, Error}
 use Rattle.grammar.specs.Reading.Next.{is-stop, queue-fits, pad, reader-at, Called, bare, halted, error-kind, error-answer, tree-called, called, answered, next-stmt, next}
 use Rattle.grammar.specs.Laws.Progress.{next-keeps}
-use Rattle.grammar.specs.Laws.Keep.{Keep, k-ok, k-bad, k-fail, k-stop}
+use Rattle.grammar.specs.Laws.Keep.{Keep}
 use Rattle.grammar.specs.declared.ErrorKind.{ErrorKind}
 use Rattle.grammar.specs.declared.Answer.{Answer}
 use Rattle.grammar.specs.declared.Answer.the-variants.{Tree as ATree, Error as AError, Refused, Stopped}
@@ -22,6 +22,7 @@ use Rattle.grammar.specs.declared.Reader.{Reader}
 use Rattle.grammar.specs.declared.Stepped.{Stepped}
 use Rattle.scan.specs.declared.Failure.{Failure}
 use Rattle.scan.specs.Post.{won, lost, halt, out, As, clean, Lost, Wrote, waiting-errors}
+use Rattle.scan.proofs.Laws.{kept-won, kept-lost}
 use Rattle.scan.proofs.Waiting.{chosen, other}
 
 -- AN ANSWER and a reader that goes on
@@ -184,18 +185,6 @@ called-halt n m p (stop j) {k} e = let a : j ≡ k = cc in rw a
 abbrev Even : List ℕ → Type 0
 Even r = length r % 2 ≡ 0
 
-even-won : {d : Res Tree} {t : Tree} {q : List Error} {r : List ℕ} → Keep Even (λ e. Even) d → out [] d ≡ won t q r → Even r
-even-won {r = r} (k-ok {r = s} i) e = let c : s ≡ r = cc in rw c at i
-even-won {r = r} (k-bad {r = s} i) e = let c : s ≡ r = cc in rw c at i
-even-won (k-fail i) e = absurd (let z : _≡_ {A = ℕ} 0 1 = cc in omega arith)
-even-won k-stop e = absurd (let z : _≡_ {A = ℕ} 0 1 = cc in omega arith)
-
-even-lost : {d : Res Tree} {x : ℕ} {q : List Error} {r : List ℕ} → Keep Even (λ e. Even) d → out [] d ≡ lost x q r → Even r
-even-lost (k-ok i) e = absurd (let z : _≡_ {A = ℕ} 0 1 = cc in omega arith)
-even-lost (k-bad i) e = absurd (let z : _≡_ {A = ℕ} 0 1 = cc in omega arith)
-even-lost {r = r} (k-fail {r = s} i) e = let c : s ≡ r = cc in rw c at i
-even-lost k-stop e = absurd (let z : _≡_ {A = ℕ} 0 1 = cc in omega arith)
-
 even-next : (T : List ℕ) → Even T → Keep Even (λ e. Even) (next depth-limit [] T)
 even-next T i = next-keeps Even (λ w v r h. omega arith) depth-limit [] T i
 
@@ -214,7 +203,7 @@ module _ (T : List ℕ) (x m : ℕ) (even : Even T) where
       let d = next depth-limit [] T in
       let q = waiting-errors (f .waiting) Q₁ in
       let y : comes ≡ bare m (error-answer (f .error)) (reader-at (x + f .pos / 2) q) =
-      called-lost (x + length T / 2) m x d (l .same .is) ∙ ap (λ (j : ℕ). bare m (error-answer (f .error)) (reader-at j q)) (place T x (f .pos) even (even-lost (even-next T even) (l .same .is)) (l .moved .within)) in
+      called-lost (x + length T / 2) m x d (l .same .is) ∙ ap (λ (j : ℕ). bare m (error-answer (f .error)) (reader-at j q)) (place T x (f .pos) even (kept-lost [] (even-next T even) (l .same .is)) (l .moved .within)) in
       bare-out S₁ S′ m c k (i ∙ ap (λ (b : Answer). stands b (x + f .pos / 2) q) n) y
 
   pub tree-out : {p a w : ℕ} {S Q S₁ Q₁ : List ℕ} {s : Stepped} (S′ : List ℕ) → (g : Wrote records (next depth-limit [] T) clean T 0 0 8 0 0 S Q p a w S₁ Q₁) → S′ ≡ take a S₁ ++ replicate (length S₁ - a) 0 → length S₁ ≡ m → a ≤ m → s ≡ stands (ATree (a / 2)) (x + p / 2) (waiting-errors w Q₁) → leaves s S′ ≡ comes
@@ -224,7 +213,7 @@ module _ (T : List ℕ) (x m : ℕ) (even : Even T) where
       let b : take a S₁ ≡ t = g .text in
       let long : a ≡ length t = sym (length-take-le a S₁ (omega arith)) ∙ ap length b in
       let y : comes ≡ leaves (stands (ATree (length t / 2)) (x + p / 2) (waiting-errors w Q₁)) (t ++ replicate (m - length t) 0) =
-      called-won (x + length T / 2) m x d (g .same .is) ∙ ap (λ (j : ℕ). tree-called m j t (waiting-errors w Q₁)) (place T x p even (even-won (even-next T even) (g .same .is)) (g .moved .within)) in
+      called-won (x + length T / 2) m x d (g .same .is) ∙ ap (λ (j : ℕ). tree-called m j t (waiting-errors w Q₁)) (place T x p even (kept-won [] (even-next T even) (g .same .is)) (g .moved .within)) in
       ap (λ (l : List ℕ). leaves s l) (c ∙ ap (λ (l : List ℕ). l ++ replicate (length S₁ - a) 0) b ∙ ap (λ (j : ℕ). t ++ replicate (j - a) 0) k)
       ∙ ap (λ (r : Stepped). leaves r (t ++ replicate (m - a) 0)) i
       ∙ ap (λ (j : ℕ). leaves (stands (ATree (j / 2)) (x + p / 2) (waiting-errors w Q₁)) (t ++ replicate (m - j) 0)) long

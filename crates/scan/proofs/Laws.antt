@@ -1,5 +1,5 @@
 -- Combinators over the contracts: they hold for any grammar. Assumes nothing.
-use mathlib.Core.Path.{_≡_, refl, sym, ap, _∙_}
+use mathlib.Core.Path.{_≡_, refl, sym, ap, _∙_, subst}
 use mathlib.Core.Logic.{⊎-elim}
 use mathlib.Core.List.{List, [], _∷_, _++_, append-assoc}
 use Prim.Native.Nat.{ℕ, _+_, _*_, _≤_}
@@ -12,6 +12,7 @@ use Rattle.token.specs.declared.Token.{Token}
 use Rattle.grammar.specs.Reading.Limit.{queue-limit}
 use Rattle.grammar.specs.Reading.Result.{Res, ok, bad, fail, stop, unclean, either, then, Error}
 use Rattle.grammar.specs.Reading.Look.{look}
+use Rattle.grammar.specs.Laws.Keep.{Keep, k-ok, k-bad, k-fail, k-stop}
 use Rattle.scan.specs.Post.{Out, won, lost, halt, out, As, clean, Moved, Room, Lost, FailedAs, Failed, Wrote, Agrees, Unread, Taken, Missed, Saw, Got, Passed, Reads, Number-at, Finds, waiting-errors}
 use Rattle.scan.specs.declared.Failure.{Failure}
 use Rattle.scan.specs.declared.Step.{Step}
@@ -107,6 +108,23 @@ module _ {A B : Type 0} (go : A → List Error → List ℕ → Res B) where
     either-halt q (bad a q₁ r) e = absurd (let z : _≡_ {A = ℕ} 0 1 = cc in omega arith)
     either-halt q (fail n q₁ r) e = absurd (let z : _≡_ {A = ℕ} 0 1 = cc in omega arith)
     either-halt q (stop n) e = cc
+
+-- what is kept by a reading (grammar's Laws/Progress.antt) holds of what the code sees of it
+module _ {A : Type 0} {I : List ℕ → Type 0} {J : Error → List ℕ → Type 0} {q′ : List Error} {r : List ℕ} where
+  pub kept-won : {d : Res A} (q : List Error) {x : A} → Keep I J d → out q d ≡ won x q′ r → I r
+  kept-won q (k-ok i) e = subst I (cc) i
+  kept-won q (k-bad i) e = subst I (cc) i
+  kept-won q (k-fail j) e = absurd (let z : _≡_ {A = ℕ} 0 1 = cc in omega arith)
+  kept-won q k-stop e = absurd (let z : _≡_ {A = ℕ} 0 1 = cc in omega arith)
+
+  pub kept-lost : {d : Res A} (q : List Error) {n : Error} → Keep I J d → out q d ≡ lost n q′ r → J n r
+  kept-lost q (k-ok i) e = absurd (let z : _≡_ {A = ℕ} 0 1 = cc in omega arith)
+  kept-lost q (k-bad i) e = absurd (let z : _≡_ {A = ℕ} 0 1 = cc in omega arith)
+  kept-lost q {n} (k-fail {e = m} {r = s} j) e =
+      let a : m ≡ n = cc in
+      let b : s ≡ r = cc in
+      subst (λ (y : Error). J y r) a (subst (λ (y : List ℕ). J m y) b j)
+  kept-lost q k-stop e = absurd (let z : _≡_ {A = ℕ} 0 1 = cc in omega arith)
 
 -- D goes on from d by `go`, and d read x
 module _ {A B : Type 0} {D : Res B} {d : Res A} {q q₁ : List Error} (go : A → List Error → List ℕ → Res B) where

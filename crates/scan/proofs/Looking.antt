@@ -1,15 +1,18 @@
 -- The definition's readings of tokens only, one step each, as the code goes: an equation for each way through. Assumes nothing.
 use mathlib.Core.Path.{_≡_, refl, sym, ap, _∙_}
 use mathlib.Core.Bool.{Bool, true, false, cond}
-use mathlib.Core.List.{List}
-use Prim.Native.Nat.{ℕ, suc, _+_, _<_}
+use mathlib.Core.List.{List, [], _∷_}
+use Prim.Native.Nat.{ℕ, zero, suc, _+_, _-_, _≤_, _<_}
+use native.Mathlib.Numerals.{sub-one}
 use borrow.Author.Tests.{eq-eqb, ne-eqb, ltb-true}
 use native.Mathlib.Omega.{arith}
 use lib.Dec.{eqb}
-use lib.ListN.{drop}
+use lib.ListN.{length, drop}
 use Rattle.token.specs.Kind
 use Rattle.token.specs.Look.{value-fits}
-use Rattle.grammar.specs.Reading.Result.{Res, ok, fail, then, ifb, Error}
+use Rattle.token.specs.declared.Token.{Token}
+use Rattle.grammar.specs.Reading.Number
+use Rattle.grammar.specs.Reading.Result.{Res, ok, fail, stop, then, ifb, Error}
 use Rattle.grammar.specs.Reading.Look.{look, expect, try-label, keyword, try-assign-keyword}
 use Rattle.scan.specs.Post.{Unread, Taken, Reads}
 use Rattle.scan.specs.declared.Step.{Step}
@@ -29,6 +32,19 @@ pub unread : {A : Type 0} {d : List Error → Res A} {T : List ℕ} {pos least a
 unread {r = Done p a w′} u = absurd (u .how)
 unread {r = Fail failure} u = record { how = u }
 unread {r = Stop n} u = record { how = u }
+
+-- a loop whose count is at least as long as the list looks, for with a count of 0 the list is empty; and it stops where the look does
+pub counted : {A : Type 0} (q : List Error) (ts : List ℕ) (loop : ℕ → Res A) (go : ℕ → Token → List Error → List ℕ → Res A) → loop 0 ≡ fail Number.end-of-tokens q ts → ((n : ℕ) → loop (suc n) ≡ then q (look q ts) (go n)) → (fuel : ℕ) → length ts ≤ fuel → loop fuel ≡ then q (look q ts) (go (fuel - 1))
+unfolding look then
+counted q [] loop go ended goes zero h = ended
+counted q (x ∷ ts) loop go ended goes zero h = absurd (omega arith)
+counted q ts loop go ended goes (suc n) h = goes n ∙ rw (sub-one (suc n))
+
+pub counted-stops : {A : Type 0} (q : List Error) (ts : List ℕ) (loop : ℕ → Res A) {k : ℕ} → ((n : ℕ) → look q ts ≡ stop k → loop (suc n) ≡ stop k) → (fuel : ℕ) → length ts ≤ fuel → look q ts ≡ stop k → loop fuel ≡ stop k
+unfolding look
+counted-stops q [] loop goes zero h l = absurd (let z : _≡_ {A = ℕ} 0 1 = cc in omega arith)
+counted-stops q (x ∷ ts) loop goes zero h l = absurd (omega arith)
+counted-stops q ts loop goes (suc n) h l = goes n l
 
 -- values
 pub name-small : {k v : ℕ} → value-fits k v ≡ true → k ≡ Kind.Identifier → v < 4294967296

@@ -21,6 +21,7 @@ use Rattle.scan.specs.declared.Step.{Step}
 use Rattle.scan.specs.declared.Step.the-variants.{Done, Fail, Stop}
 use Rattle.scan.specs.declared.Seen.the-variants.{Not}
 use Rattle.scan.proofs.Step.{the-type}
+use Rattle.scan.proofs.Looking.{counted-stops}
 use Rattle.scan.proofs.Text.{left, fuel-some}
 
 abbrev start-go : ℕ → List ℕ → List ℕ → Token → List Error → List ℕ → Res (Unit {0})
@@ -47,14 +48,9 @@ module _ (q : List Error) where
   start-out zero ts l h = refl
   start-out (suc n) ts l h = start-missed n ts l ∙ rw (eq-eqb _ _ h)
 
-  start-halts : (n : ℕ) (ts : List ℕ) {k : ℕ} → length ts ≤ n → look q ts ≡ stop k → start n q ts ≡ stop k
-  unfolding look either
-  start-halts zero [] h l = absurd (let z : _≡_ {A = ℕ} 0 1 = cc in omega arith)
-  start-halts zero (x ∷ ts) h l = absurd (omega arith)
-  start-halts (suc n) ts h l = start-suc n ts ∙ rw l
-
   pub start-stop : (T : List ℕ) (fuel p : ℕ) → length T ≤ p + fuel → (k : ℕ) → ((q : List Error) → look q (drop p T) ≡ stop k) → start fuel q (drop p T) ≡ stop k
-  start-stop T fuel p enough k l = start-halts fuel (drop p T) (left T p fuel enough) (l q)
+  unfolding either
+  start-stop T fuel p enough k l = counted-stops q (drop p T) (λ n. start n q (drop p T)) (λ n e. start-suc n (drop p T) ∙ rw e) fuel (left T p fuel enough) (l q)
 
   module _ {T : List ℕ} (fuel p : ℕ) (enough : length T ≤ p + fuel) where
     pub start-none : {w₀ : ℕ} {f : Failure} → Missed T p w₀ f → f .error ≡ Number.end-of-tokens → start fuel q (drop p T) ≡ fail 0 q (drop p T)

@@ -1,4 +1,4 @@
--- Laws of lists of words that the proofs of several functions cite: what is seen at a place, the queue, records that were written. Assumes nothing.
+-- Laws of lists of words that the proofs of several functions cite: the queue, words that are left, text that goes on, records that were written, what is seen at a place. Assumes nothing.
 use mathlib.Core.Path.{_≡_, refl, sym, ap, _∙_}
 use mathlib.Core.Bool.{Bool, true, false, cond, _&&_}
 use mathlib.Core.List.{List, [], _∷_, _++_, append-assoc}
