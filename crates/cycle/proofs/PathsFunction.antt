@@ -2,7 +2,7 @@
 use mathlib.Core.Path.{_≡_, refl, sym, ap, _∙_}
 use mathlib.Core.Bool.{Bool, true, false}
 use mathlib.Core.List.{List, [], _∷_, _++_, append-assoc, append-nil}
-use Prim.Native.Nat.{ℕ, zero, suc, _+_, _≤_}
+use Prim.Native.Nat.{ℕ, _+_, _≤_}
 use native.Mathlib.Omega.{arith}
 use lib.Dec.{eqb}
 use lib.ListN.{length, take, drop}
@@ -11,23 +11,21 @@ use Rattle.token.specs.Kind
 use Rattle.token.specs.declared.Token.{Token}
 use Rattle.tree.specs.NodeKind
 use Rattle.tree.specs.Maybe.{Maybe, nothing, just}
-use Rattle.tree.specs.Tree.{Tree, Forest, node, none, more, snoc, count, records, kind-of}
+use Rattle.tree.specs.Tree.{Tree, Forest, node, none, more, count, records, kind-of}
 use Rattle.tree.specs.Node
-use Rattle.tree.specs.Records.{Small, Smalls}
 use Rattle.grammar.specs.Laws.Holds.{Holds, h-ok, h-fail, holds-then, holds-past, holds-if}
-use Rattle.grammar.specs.Laws.Converted.{pattern-small}
-use Rattle.grammar.specs.Laws.Kinds.{depth-small, expr-small, atom-small}
+use Rattle.grammar.specs.Laws.Kinds.{depth-small, atom-small, path-small}
 use Rattle.grammar.specs.Reading.Number
 use Rattle.grammar.specs.Reading.Result.{Res, ok, then, ifb, Error}
-use Rattle.grammar.specs.Reading.Look.{look, expect, expect-pattern}
+use Rattle.grammar.specs.Reading.Look.{expect, expect-pattern}
 use Rattle.grammar.specs.Reading.Pattern.{to-pattern, conv, last-of, front-of, by-item, receiver}
 use Rattle.tree.specs.Maybe.{pick}
 use Rattle.grammar.specs.Reading.Expr.{Depth, Stmts}
-use Rattle.grammar.specs.Reading.Primary.{atom, path, with-path, indexing-expr, member-access, literal}
+use Rattle.grammar.specs.Reading.Primary.{atom, path, with-path, literal}
 use Rattle.grammar.specs.Reading.Block.{body, block-of}
 use Rattle.grammar.specs.Reading.Function.{Params, function-param-list, function-def, function-assignment-target, target-name, function-decl-expr}
 use Rattle.grammar.specs.Reading.Depth.{at-depth}
-use Rattle.grammar.specs.Laws.Parts.{smalls-snoc, with-path-small}
+use Rattle.grammar.specs.Laws.Parts.{with-path-small, nothing-small}
 use Rattle.pattern.specs.Contract.{Whole}
 use Rattle.nodes.specs.Parts.{signature-words, path-words}
 use Rattle.scan.specs.Post.{clean, Wrote, Taken, waiting-errors}
@@ -63,44 +61,7 @@ pub target-step : (low : Depth) (q : List Error) (ts : List ℕ) → function-as
 unfolding function-assignment-target
 target-step low q ts = refl
 
--- a target's tree is small
-holds-no : {A : Type 0} {P : A → Type 0} (x y : Unit {0} → Res A) → Holds P (y tt) → Holds P (ifb false x y)
-unfolding ifb
-holds-no x y h = h
-
-index-small : (e : Tree) → Small e → Small (Node.index e)
-unfolding Small
-index-small e h = search (arith, h)
-
-no-smalls : Smalls none
-unfolding Small
-no-smalls = tt
-
-member-small : (q : List Error) (ts : List ℕ) → Holds Small (member-access q ts)
-unfolding member-access Small
-member-small q ts = holds-past q (expect _ _ q ts) λ tok q₁ r. h-ok (search arith)
-
 module _ (d : ℕ) where
-  indexing-small : (q : List Error) (ts : List ℕ) → Holds Small (indexing-expr (at-depth d) q ts)
-  unfolding indexing-expr
-  indexing-small q ts = holds-then q (expr-small (at-depth d) (depth-small d) q ts) λ e q₁ r x. holds-past q₁ (expect _ _ q₁ r) λ tok q₂ s. h-ok x
-
-  path-small : (n : ℕ) (f : Forest) (q : List Error) (ts : List ℕ) → Smalls f → Holds Smalls (path (at-depth d) false n f q ts)
-  unfolding path
-  path-small zero f q ts h = h-fail
-  path-small (suc n) f q ts h =
-      holds-past q (look q ts) λ tok q₁ rest.
-      holds-if _ (λ _. holds-then q (member-small q rest) λ i q₂ r x. path-small n (snoc f i) q₂ r (smalls-snoc f i h x)) λ _.
-      holds-if _ (λ _. holds-then q (indexing-small q rest) λ e q₂ r x. path-small n (snoc f (Node.index e)) q₂ r (smalls-snoc f _ h (index-small e x))) λ _.
-      holds-no _ _ (holds-no _ _ (h-ok h))
-
-  pub target-small : (q : List Error) (ts : List ℕ) → Holds Small (function-assignment-target (at-depth d) q ts)
-  unfolding function-assignment-target
-  target-small q ts =
-      holds-then q (atom-small (at-depth d) (depth-small d) q ts) λ a q₁ r x.
-      holds-then q₁ (path-small (length r) none q₁ r no-smalls) λ f q₂ s y.
-      pattern-small _ q₂ s (with-path a f) (with-path-small a f x y)
-
   -- an atom and its path in the store
   pub target-stands : {T : List ℕ} {pos least slack at w₀ : ℕ} {S Q : List ℕ} {p a w : ℕ} {S₁ Q₁ : List ℕ} {least₁ slack₁ p₂ a₂ w₂ : ℕ} {S₂ Q₂ : List ℕ} (g : Wrote records (atom (at-depth d) (waiting-errors w₀ Q) (drop pos T)) clean T pos least slack at w₀ S Q p a w S₁ Q₁)
       (h : Wrote path-words (path (at-depth d) false (length (drop p T)) none (waiting-errors w Q₁) (drop p T)) clean T p least₁ slack₁ a w S₁ Q₁ p₂ a₂ w₂ S₂ Q₂) → at ≤ length S → a ≤ length S₁ → a₂ ≤ length S₂ → Whole (with-path (g .what) (h .what)) S₂ at a₂
@@ -109,7 +70,7 @@ module _ (d : ℕ) where
       let o₂ = h .room in
       let e : take at S₂ ≡ take at S = shorter S₂ S₁ at a (o .up) (prefix h j) ∙ prefix g i in
       record {
-        small = with-path-small (g .what) (h .what) (given (atom-small (at-depth d) (depth-small d) _ _) (g .same)) (given (path-small _ none _ _ no-smalls) (h .same));
+        small = with-path-small (g .what) (h .what) (given (atom-small (at-depth d) (depth-small d) _ _) (g .same)) (given (path-small (at-depth d) (depth-small d) false _ none _ _ nothing-small) (h .same));
         text = h .text ∙ ap (λ (y : List ℕ). y ++ path-words (h .what)) (g .text) ∙ append-assoc (take at S) (records (g .what)) (path-words (h .what)) ∙ rw (e, path-text (g .what) (h .what));
         start = omega arith;
         within = k;

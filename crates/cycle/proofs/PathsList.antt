@@ -20,7 +20,7 @@ use Rattle.grammar.specs.Reading.Block.{whole, split-before, split-last, split}
 use Rattle.grammar.specs.Reading.Stmt.{ends, is-control, control-flow, control-last, synchronized, stmt, caught, stmts}
 use Rattle.grammar.specs.Reading.Depth.{at-depth}
 use Rattle.grammar.specs.Laws.Kinds.{stmt-small, depth-small}
-use Rattle.grammar.specs.Laws.Holds.{Holds, h-ok, h-bad, h-fail, h-stop, holds-past, holds-if}
+use Rattle.grammar.specs.Laws.Holds.{Holds, h-ok, holds-past, holds-if, holds-either}
 use Rattle.grammar.specs.Laws.Keep.{Keep, k-ok, k-fail, k-stop, k-all, k-unclean, k-on, k-if}
 use Rattle.scan.specs.Post.{As, no-words, Failed, Wrote, Agrees, Taken, Queues, waiting-errors}
 use Rattle.cycle.specs.Parts.{Place, a-stmt, a-control, a-caught, resume, turn, control-words}
@@ -204,27 +204,12 @@ Small-place (a-stmt t) = Small t
 Small-place (a-control t) = Unit {0}
 Small-place a-caught = Unit {0}
 
-held-unclean : {A : Type 0} {P : A → Type 0} (q : List Error) {d : Res A} → Holds P d → Holds P (unclean q d)
-unfolding unclean
-held-unclean q (h-ok x) = h-bad x
-held-unclean q (h-bad x) = h-bad x
-held-unclean q h-fail = h-fail
-held-unclean q h-stop = h-stop
-
-held-either : {A B : Type 0} {Q : A → Type 0} {P : B → Type 0} (q : List Error) {d : Res A} {k : A → List Error → List ℕ → Res B} {or : ℕ → List Error → List ℕ → Res B}
-    → Holds Q d → ((a : A) (q : List Error) (r : List ℕ) → Q a → Holds P (k a q r)) → ((e : ℕ) (q : List Error) (r : List ℕ) → Holds P (or e q r)) → Holds P (either q d k or)
-unfolding either
-held-either q (h-ok x) h g = h _ _ _ x
-held-either q (h-bad x) h g = held-unclean _ (h _ _ _ x)
-held-either q h-fail h g = held-unclean _ (g _ _ _)
-held-either q h-stop h g = h-stop
-
 turn-small : (d end k : ℕ) (rest : List ℕ) (q : List Error) (ts : List ℕ) → Holds Small-place (turn (at-depth d) end k rest q ts)
 unfolding turn
 turn-small d end k rest q ts =
     holds-if _
-    (λ _. held-either q (control-held (at-depth d) k q rest) (λ c q₁ r x. holds-past q₁ (control-last end k q₁ r) λ u q₂ s. h-ok tt) (λ e q₁ r. holds-past q₁ (caught (at-depth d) e q₁ r) λ u q₂ s. h-ok tt))
-    (λ _. held-either q (stmt-small (at-depth d) (depth-small d) q ts) (λ t q₁ r x. h-ok x) (λ e q₁ r. holds-past q₁ (caught (at-depth d) e q₁ r) λ u q₂ s. h-ok tt))
+    (λ _. holds-either q (control-held (at-depth d) k q rest) (λ c q₁ r x. holds-past q₁ (control-last end k q₁ r) λ u q₂ s. h-ok tt) (λ e q₁ r. holds-past q₁ (caught (at-depth d) e q₁ r) λ u q₂ s. h-ok tt))
+    (λ _. holds-either q (stmt-small (at-depth d) (depth-small d) q ts) (λ t q₁ r x. h-ok x) (λ e q₁ r. holds-past q₁ (caught (at-depth d) e q₁ r) λ u q₂ s. h-ok tt))
 
 pub place-small : (d end k : ℕ) (rest : List ℕ) (q : List Error) (ts : List ℕ) {q′ : List Error} {r : List ℕ} {t : Tree} → As q (turn (at-depth d) end k rest q ts) q′ (ok (a-stmt t) r) → Small t
 place-small d end k rest q ts a = given (turn-small d end k rest q ts) a

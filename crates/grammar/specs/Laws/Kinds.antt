@@ -136,7 +136,7 @@ module _ (low : Depth) (S : SmallDepth low) where
       holds-then q (expr-small q ts) λ e q₂ r x.
       holds-past q₂ (expect _ _ q₂ r) λ tok₂ q₃ s. h-ok (search (arith, arguments-small e x))
 
-  path-small : (calls : Bool) (n : ℕ) (f : Forest) (q : List Error) (ts : List ℕ) → Smalls f → Holds Smalls (path low calls n f q ts)
+  pub path-small : (calls : Bool) (n : ℕ) (f : Forest) (q : List Error) (ts : List ℕ) → Smalls f → Holds Smalls (path low calls n f q ts)
   unfolding path
   path-small calls zero f q ts h = h-fail
   path-small calls (suc n) f q ts h =
@@ -221,7 +221,7 @@ module _ (low : Depth) (S : SmallDepth low) where
       holds-past q₂ (expect _ _ q₂ s) λ tok₂ q₃ u.
       holds-then q₃ (body-small q₃ u) λ b q₄ v y. h-ok (search (arith, x .first, x .second, x .third, block-small b y))
 
-  target-small : (q : List Error) (ts : List ℕ) → Holds Small (function-assignment-target low q ts)
+  pub target-small : (q : List Error) (ts : List ℕ) → Holds Small (function-assignment-target low q ts)
   unfolding function-assignment-target
   target-small q ts =
       holds-then q (atom-small q ts) λ a q₁ r x.
