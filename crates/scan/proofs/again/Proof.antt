@@ -1,4 +1,4 @@
--- `parser::again` meets its contract. Assumes nothing.
+-- `scan::again` meets its contract. Assumes nothing.
 use mathlib.Core.Path.{sym}
 use borrow.Author.Needs.{needs}
 use Rattle.scan.proofs.again.Statement.{statement}

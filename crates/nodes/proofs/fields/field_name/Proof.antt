@@ -1,4 +1,4 @@
--- `parser::fields::field_name` meets its contract. Assumes nothing.
+-- `nodes::fields::field_name` meets its contract. Assumes nothing.
 use mathlib.Core.Path.{refl, ap}
 use Prim.Native.Nat.{ℕ, _+_, _*_}
 use native.Mathlib.Omega.{arith}

@@ -1,4 +1,4 @@
--- `parser::fields::join_default` meets its contract. Assumes nothing.
+-- `nodes::fields::join_default` meets its contract. Assumes nothing.
 use mathlib.Core.Path.{refl, ap, _∙_}
 use Prim.Native.Nat.{ℕ, _+_}
 use native.Mathlib.Omega.{arith}

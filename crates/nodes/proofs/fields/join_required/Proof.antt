@@ -1,4 +1,4 @@
--- `parser::fields::join_required` meets its contract. Assumes nothing.
+-- `nodes::fields::join_required` meets its contract. Assumes nothing.
 use mathlib.Core.Path.{_≡_, refl, ap, _∙_}
 use Prim.Native.Nat.{ℕ, _+_}
 use native.Mathlib.Omega.{arith}

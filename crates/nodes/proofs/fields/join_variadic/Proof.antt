@@ -1,4 +1,4 @@
--- `parser::fields::join_variadic` meets its contract. Assumes nothing.
+-- `nodes::fields::join_variadic` meets its contract. Assumes nothing.
 use mathlib.Core.Path.{refl, sym, _∙_}
 use native.Mathlib.Numerals.{add-one}
 use native.Mathlib.Omega.{arith}

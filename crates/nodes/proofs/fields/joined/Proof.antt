@@ -1,4 +1,4 @@
--- `parser::fields::joined` meets its contract. Assumes nothing.
+-- `nodes::fields::joined` meets its contract. Assumes nothing.
 use mathlib.Core.Path.{_≡_, refl}
 use mathlib.Core.List.{List}
 use Prim.Native.Nat.{ℕ, _+_, _≤_, _<_}

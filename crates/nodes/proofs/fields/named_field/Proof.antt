@@ -1,4 +1,4 @@
--- `parser::fields::named_field` meets its contract. Assumes nothing.
+-- `nodes::fields::named_field` meets its contract. Assumes nothing.
 use mathlib.Core.Path.{refl}
 use native.Mathlib.Omega.{arith}
 use borrow.Author.Needs.{needs}

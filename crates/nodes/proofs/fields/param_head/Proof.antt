@@ -1,4 +1,4 @@
--- `parser::fields::param_head` meets its contract. Assumes nothing.
+-- `nodes::fields::param_head` meets its contract. Assumes nothing.
 use mathlib.Core.Path.{refl}
 use native.Mathlib.Omega.{arith}
 use borrow.Author.Needs.{needs}

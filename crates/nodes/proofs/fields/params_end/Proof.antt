@@ -1,4 +1,4 @@
--- `parser::fields::params_end` meets its contract. Assumes nothing.
+-- `nodes::fields::params_end` meets its contract. Assumes nothing.
 use native.Mathlib.Omega.{arith}
 use borrow.Author.Needs.{needs}
 use Rattle.nodes.proofs.Names.{signature}

@@ -1,4 +1,4 @@
--- `parser::fields::required_end` meets its contract. Assumes nothing.
+-- `nodes::fields::required_end` meets its contract. Assumes nothing.
 use borrow.Author.Needs.{needs}
 use Rattle.nodes.proofs.Names.{no-words-more, list-more}
 use Rattle.nodes.proofs.fields.required_end.Statement.{statement}

@@ -1,4 +1,4 @@
--- `parser::fields::signature_end` meets its contract. Assumes nothing.
+-- `nodes::fields::signature_end` meets its contract. Assumes nothing.
 use mathlib.Core.Path.{refl}
 use native.Mathlib.Omega.{arith}
 use borrow.Author.Needs.{needs}

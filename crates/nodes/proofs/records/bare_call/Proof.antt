@@ -1,4 +1,4 @@
--- `parser::records::bare_call` meets its contract: two records more. Assumes nothing.
+-- `nodes::records::bare_call` meets its contract: two records more. Assumes nothing.
 use mathlib.Core.Path.{_∙_}
 use borrow.Author.Needs.{needs}
 use native.Mathlib.Omega.{arith}

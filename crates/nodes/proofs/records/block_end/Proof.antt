@@ -1,4 +1,4 @@
--- `parser::records::block_end` meets its contract: a last expression statement is moved behind the list of the others. Assumes nothing.
+-- `nodes::records::block_end` meets its contract: a last expression statement is moved behind the list of the others. Assumes nothing.
 use mathlib.Core.List.{[], _∷_}
 use borrow.Author.Needs.{needs}
 use native.Mathlib.Omega.{arith}

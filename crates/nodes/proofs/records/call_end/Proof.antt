@@ -1,4 +1,4 @@
--- `parser::records::call_end` meets its contract: a tuple's record becomes the call's; any other tree gets a list of its own. Assumes nothing.
+-- `nodes::records::call_end` meets its contract: a tuple's record becomes the call's; any other tree gets a list of its own. Assumes nothing.
 use mathlib.Core.Path.{sym, _∙_}
 use mathlib.Core.List.{[], _∷_}
 use borrow.Author.Needs.{needs}

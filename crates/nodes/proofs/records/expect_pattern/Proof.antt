@@ -1,4 +1,4 @@
--- `parser::records::expect_pattern` meets its contract: as the conversion answers. Assumes nothing.
+-- `nodes::records::expect_pattern` meets its contract: as the conversion answers. Assumes nothing.
 use mathlib.Core.Path.{_≡_, ap}
 use mathlib.Core.List.{List}
 use Prim.Native.Nat.{ℕ}

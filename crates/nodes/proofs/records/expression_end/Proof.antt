@@ -1,4 +1,4 @@
--- `parser::records::expression_end` meets its contract: `...` alone is refused, and any other expression gets a record. Assumes nothing.
+-- `nodes::records::expression_end` meets its contract: `...` alone is refused, and any other expression gets a record. Assumes nothing.
 use mathlib.Core.Path.{refl, sym, _∙_}
 use mathlib.Core.List.{[], _∷_}
 use borrow.Author.Needs.{needs}

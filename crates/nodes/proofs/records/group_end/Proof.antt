@@ -1,4 +1,4 @@
--- `parser::records::group_end` meets its contract: the action is handed on, and the group's record goes behind. Assumes nothing.
+-- `nodes::records::group_end` meets its contract: the action is handed on, and the group's record goes behind. Assumes nothing.
 use mathlib.Core.List.{[], _∷_}
 use borrow.Author.Needs.{needs}
 use native.Mathlib.Omega.{arith}

@@ -1,4 +1,4 @@
--- `parser::records::literal` meets its contract: a record for each kind, or the error of its kind. Assumes nothing.
+-- `nodes::records::literal` meets its contract: a record for each kind, or the error of its kind. Assumes nothing.
 use mathlib.Core.Path.{refl, sym, ap, _∙_}
 use Prim.Native.Nat.{ℕ}
 use borrow.Author.Needs.{needs}

@@ -1,4 +1,4 @@
--- `parser::records::lone_ellipsis` meets its contract: by the kind of the tree before, and then by the word under it. Assumes nothing.
+-- `nodes::records::lone_ellipsis` meets its contract: by the kind of the tree before, and then by the word under it. Assumes nothing.
 use mathlib.Core.Path.{sym, _∙_}
 use borrow.Author.Needs.{needs}
 use native.Mathlib.Omega.{arith}

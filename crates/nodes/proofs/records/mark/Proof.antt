@@ -1,4 +1,4 @@
--- `parser::records::mark` meets its contract: by the first word of the last record. Assumes nothing.
+-- `nodes::records::mark` meets its contract: by the first word of the last record. Assumes nothing.
 use borrow.Author.Needs.{needs}
 use Rattle.nodes.proofs.Ends.{marks, marks-none}
 use Rattle.nodes.proofs.records.mark.Statement.{statement}

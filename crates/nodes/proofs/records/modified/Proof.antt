@@ -1,4 +1,4 @@
--- `parser::records::modified` meets its contract: by the modifier, nothing or one record more. Assumes nothing.
+-- `nodes::records::modified` meets its contract: by the modifier, nothing or one record more. Assumes nothing.
 use mathlib.Core.List.{[], _∷_}
 use Prim.Native.Nat.{_-_}
 use borrow.Author.Needs.{needs}

@@ -1,4 +1,4 @@
--- `parser::records::path_end` meets its contract: by the count of the items, nothing or two records more. Assumes nothing.
+-- `nodes::records::path_end` meets its contract: by the count of the items, nothing or two records more. Assumes nothing.
 use mathlib.Core.Path.{_∙_}
 use mathlib.Core.List.{[], _∷_}
 use Prim.Native.Nat.{_+_, _*_}

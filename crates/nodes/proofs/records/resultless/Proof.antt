@@ -1,4 +1,4 @@
--- `parser::records::resultless` meets its contract: two records more. Assumes nothing.
+-- `nodes::records::resultless` meets its contract: two records more. Assumes nothing.
 use mathlib.Core.Path.{_∙_}
 use borrow.Author.Needs.{needs}
 use native.Mathlib.Omega.{arith}

@@ -1,4 +1,4 @@
--- `parser::records::target_name` meets its contract: by the kind of the tree before. Assumes nothing.
+-- `nodes::records::target_name` meets its contract: by the kind of the tree before. Assumes nothing.
 use mathlib.Core.Path.{sym, _∙_}
 use borrow.Author.Needs.{needs}
 use native.Mathlib.Omega.{arith}

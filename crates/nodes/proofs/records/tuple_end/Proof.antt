@@ -1,4 +1,4 @@
--- `parser::records::tuple_end` meets its contract: two records more. Assumes nothing.
+-- `nodes::records::tuple_end` meets its contract: two records more. Assumes nothing.
 use mathlib.Core.List.{[], _∷_}
 use Prim.Native.Nat.{_+_, _*_}
 use borrow.Author.Needs.{needs}

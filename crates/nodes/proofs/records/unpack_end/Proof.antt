@@ -1,4 +1,4 @@
--- `parser::records::unpack_end` meets its contract: by the kind of the tree before, an error or one record more. Assumes nothing.
+-- `nodes::records::unpack_end` meets its contract: by the kind of the tree before, an error or one record more. Assumes nothing.
 use mathlib.Core.Path.{refl, sym, _∙_}
 use mathlib.Core.List.{[], _∷_}
 use borrow.Author.Needs.{needs}

@@ -1,4 +1,4 @@
--- `parser::records::with_action` meets its contract: an assignment's value is rewritten, and any other tree stays. Assumes nothing.
+-- `nodes::records::with_action` meets its contract: an assignment's value is rewritten, and any other tree stays. Assumes nothing.
 use mathlib.Core.Path.{sym, _∙_}
 use Prim.Native.Nat.{_-_}
 use borrow.Author.Needs.{needs}

@@ -1,4 +1,4 @@
--- `parser::queue::control_last` meets its contract. Assumes nothing.
+-- `scan::queue::control_last` meets its contract. Assumes nothing.
 use mathlib.Core.Path.{refl, sym, _∙_}
 use Prim.Native.Nat.{_+_}
 use native.Mathlib.Omega.{arith}

@@ -1,4 +1,4 @@
--- `parser::queue::holds_errors` meets its contract. Assumes nothing.
+-- `scan::queue::holds_errors` meets its contract. Assumes nothing.
 use mathlib.Core.Path.{_≡_, sym, ap, _∙_}
 use Prim.Native.Nat.{ℕ, _-_, _≤_}
 use native.Mathlib.Nat.{sub-zero}

@@ -1,4 +1,4 @@
--- `parser::queue::holds_zeros` meets its contract. Assumes nothing.
+-- `scan::queue::holds_zeros` meets its contract. Assumes nothing.
 use mathlib.Core.Path.{_≡_, refl, sym, _∙_}
 use Prim.Native.Nat.{_-_, _≤_}
 use native.Mathlib.Omega.{arith}

@@ -1,4 +1,4 @@
--- `parser::queue::is_error` meets its contract. Assumes nothing.
+-- `scan::queue::is_error` meets its contract. Assumes nothing.
 use borrow.Author.Tests.{ne-eqb, le-leb, lt-leb}
 use Rattle.scan.proofs.queue.is_error.Statement.{statement}
 use Rattle.scan.proofs.queue.is_error.Tie as tie

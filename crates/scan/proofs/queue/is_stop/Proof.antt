@@ -1,4 +1,4 @@
--- `parser::queue::is_stop` meets its contract. Assumes nothing.
+-- `scan::queue::is_stop` meets its contract. Assumes nothing.
 use borrow.Author.Tests.{ne-eqb}
 use Rattle.scan.proofs.queue.is_stop.Statement.{statement}
 use Rattle.scan.proofs.queue.is_stop.Tie as tie

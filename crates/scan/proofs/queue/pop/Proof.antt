@@ -1,4 +1,4 @@
--- `parser::queue::pop` meets its contract. Assumes nothing.
+-- `scan::queue::pop` meets its contract. Assumes nothing.
 use mathlib.Core.Path.{_≡_}
 use mathlib.Core.List.{_++_}
 use Prim.Native.Nat.{_-_, _≤_}

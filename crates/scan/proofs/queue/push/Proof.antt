@@ -1,4 +1,4 @@
--- `parser::queue::push` meets its contract. Assumes nothing.
+-- `scan::queue::push` meets its contract. Assumes nothing.
 use mathlib.Core.Path.{refl}
 use borrow.Author.Needs.{needs}
 use native.Mathlib.Omega.{arith}

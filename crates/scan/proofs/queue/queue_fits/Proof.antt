@@ -1,4 +1,4 @@
--- `parser::queue::queue_fits` meets its contract. Assumes nothing.
+-- `scan::queue::queue_fits` meets its contract. Assumes nothing.
 use mathlib.Core.Path.{sym, _∙_}
 use borrow.Author.Needs.{needs}
 use borrow.Author.Tests.{not-true, not-false}

@@ -1,4 +1,4 @@
--- `parser::queue::synchronized` meets its contract. Assumes nothing.
+-- `scan::queue::synchronized` meets its contract. Assumes nothing.
 use mathlib.Core.Path.{_≡_, refl, _∙_}
 use mathlib.Core.Logic.{⊎-elim}
 use mathlib.Core.List.{List, [], _∷_}

@@ -1,4 +1,4 @@
--- `parser::scan::action` meets its contract. Assumes nothing.
+-- `scan::tokens::action` meets its contract. Assumes nothing.
 use mathlib.Core.Path.{_≡_, refl}
 use Prim.Native.Nat.{ℕ, zero, suc, _-_}
 use borrow.Author.Needs.{needs}

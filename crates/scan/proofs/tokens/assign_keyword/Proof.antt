@@ -1,4 +1,4 @@
--- `parser::scan::assign_keyword` meets its contract. Assumes nothing.
+-- `scan::tokens::assign_keyword` meets its contract. Assumes nothing.
 use mathlib.Core.Path.{refl, sym, _∙_}
 use borrow.Author.Needs.{needs}
 use native.Mathlib.Omega.{arith}

@@ -1,4 +1,4 @@
--- `parser::scan::atom_error` meets its contract. Assumes nothing.
+-- `scan::tokens::atom_error` meets its contract. Assumes nothing.
 use borrow.Author.Tests.{ne-eqb}
 use Rattle.scan.proofs.tokens.atom_error.Statement.{statement}
 use Rattle.scan.proofs.tokens.atom_error.Tie as tie

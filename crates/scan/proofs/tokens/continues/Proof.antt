@@ -1,4 +1,4 @@
--- `parser::scan::continues` meets its contract. Assumes nothing.
+-- `scan::tokens::continues` meets its contract. Assumes nothing.
 use mathlib.Core.Path.{_≡_, refl, sym}
 use mathlib.Core.Bool.{Bool, true, false, _&&_, and-true}
 use lib.Dec.{eqb}

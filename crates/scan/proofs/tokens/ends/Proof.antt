@@ -1,4 +1,4 @@
--- `parser::scan::ends` meets its contract. Assumes nothing.
+-- `scan::tokens::ends` meets its contract. Assumes nothing.
 use lib.Dec.{eqb}
 use mathlib.Core.Path.{sym}
 use mathlib.Core.Bool.{and-true, and-false}

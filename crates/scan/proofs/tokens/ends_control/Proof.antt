@@ -1,4 +1,4 @@
--- `parser::scan::ends_control` meets its contract. Assumes nothing.
+-- `scan::tokens::ends_control` meets its contract. Assumes nothing.
 use mathlib.Core.Path.{_≡_, refl, _∙_}
 use mathlib.Core.Bool.{Bool, true, false, _||_}
 use borrow.Author.Needs.{needs}

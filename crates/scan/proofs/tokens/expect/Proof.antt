@@ -1,4 +1,4 @@
--- `parser::scan::expect` meets its contract. Assumes nothing.
+-- `scan::tokens::expect` meets its contract. Assumes nothing.
 use mathlib.Core.Path.{refl}
 use borrow.Author.Needs.{needs}
 use native.Mathlib.Omega.{arith}

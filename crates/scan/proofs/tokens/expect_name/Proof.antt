@@ -1,4 +1,4 @@
--- `parser::scan::expect_name` meets its contract. Assumes nothing.
+-- `scan::tokens::expect_name` meets its contract. Assumes nothing.
 use mathlib.Core.Path.{refl}
 use borrow.Author.Needs.{needs}
 use native.Mathlib.Omega.{arith}

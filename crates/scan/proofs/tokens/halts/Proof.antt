@@ -1,4 +1,4 @@
--- `parser::scan::halts` meets its contract. Assumes nothing.
+-- `scan::tokens::halts` meets its contract. Assumes nothing.
 use Rattle.grammar.specs.Reading.Stmt.{is-control}
 use mathlib.Core.Path.{_≡_, refl, sym, _∙_}
 use mathlib.Core.Bool.{Bool, true, false, _&&_, _||_, and-true}

@@ -1,4 +1,4 @@
--- `parser::scan::is_control` meets its contract. Assumes nothing.
+-- `scan::tokens::is_control` meets its contract. Assumes nothing.
 use borrow.Author.Tests.{ne-eqb}
 use Rattle.scan.proofs.tokens.is_control.Statement.{statement}
 use Rattle.scan.proofs.tokens.is_control.Tie as tie

@@ -1,4 +1,4 @@
--- `parser::scan::keyword` meets its contract. Assumes nothing.
+-- `scan::tokens::keyword` meets its contract. Assumes nothing.
 use borrow.Author.Tests.{ne-eqb}
 use Rattle.scan.proofs.tokens.keyword.Statement.{statement}
 use Rattle.scan.proofs.tokens.keyword.Tie as tie

@@ -1,4 +1,4 @@
--- `parser::scan::keyword_alone` meets its contract. Assumes nothing.
+-- `scan::tokens::keyword_alone` meets its contract. Assumes nothing.
 use borrow.Author.Tests.{ne-eqb}
 use Rattle.scan.proofs.tokens.keyword_alone.Statement.{statement}
 use Rattle.scan.proofs.tokens.keyword_alone.Tie as tie

@@ -1,4 +1,4 @@
--- `parser::scan::look` meets its contract. Assumes nothing.
+-- `scan::tokens::look` meets its contract. Assumes nothing.
 use mathlib.Core.Path.{sym, _∙_}
 use borrow.Author.Needs.{needs}
 use native.Mathlib.Omega.{arith}

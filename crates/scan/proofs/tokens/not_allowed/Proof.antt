@@ -1,4 +1,4 @@
--- `parser::scan::not_allowed` meets its contract. Assumes nothing.
+-- `scan::tokens::not_allowed` meets its contract. Assumes nothing.
 use borrow.Author.Tests.{ne-eqb}
 use Rattle.scan.proofs.tokens.not_allowed.Statement.{statement}
 use Rattle.scan.proofs.tokens.not_allowed.Tie as tie

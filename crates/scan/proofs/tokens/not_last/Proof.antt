@@ -1,4 +1,4 @@
--- `parser::scan::not_last` meets its contract. Assumes nothing.
+-- `scan::tokens::not_last` meets its contract. Assumes nothing.
 use borrow.Author.Tests.{ne-eqb}
 use Rattle.scan.proofs.tokens.not_last.Statement.{statement}
 use Rattle.scan.proofs.tokens.not_last.Tie as tie

@@ -1,4 +1,4 @@
--- `parser::scan::op_level` meets its contract. Assumes nothing.
+-- `scan::tokens::op_level` meets its contract. Assumes nothing.
 use mathlib.Core.Path.{sym, ap, _∙_}
 use borrow.Author.Needs.{needs}
 use Rattle.operator.specs.Operator.{which-binary-op, level-found, op-level}

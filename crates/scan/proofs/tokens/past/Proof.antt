@@ -1,4 +1,4 @@
--- `parser::scan::past` meets its contract. Assumes nothing.
+-- `scan::tokens::past` meets its contract. Assumes nothing.
 use mathlib.Core.Path.{_≡_, refl}
 use mathlib.Core.List.{List, [], _∷_}
 use Prim.Native.Nat.{ℕ, _+_, _≤_}

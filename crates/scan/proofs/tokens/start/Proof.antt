@@ -1,4 +1,4 @@
--- `parser::scan::start` meets its contract. Assumes nothing.
+-- `scan::tokens::start` meets its contract. Assumes nothing.
 use mathlib.Core.Path.{_≡_, refl, _∙_}
 use mathlib.Core.List.{List}
 use Prim.Native.Nat.{ℕ, _+_, _-_, _≤_}

@@ -1,4 +1,4 @@
--- `parser::scan::try_label` meets its contract. Assumes nothing.
+-- `scan::tokens::try_label` meets its contract. Assumes nothing.
 use mathlib.Core.Path.{refl}
 use borrow.Author.Needs.{needs}
 use native.Mathlib.Omega.{arith}

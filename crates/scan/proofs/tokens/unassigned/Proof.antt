@@ -1,4 +1,4 @@
--- `parser::scan::unassigned` meets its contract. Assumes nothing.
+-- `scan::tokens::unassigned` meets its contract. Assumes nothing.
 use borrow.Author.Needs.{needs}
 use borrow.Author.Tests.{eq-eqb, ne-eqb}
 use Rattle.grammar.specs.Reading.Result.{ifb}
