@@ -4,7 +4,8 @@
   tools/places.py CRATE [FUNCTION..]    of each need, the places that led to it, nearest first, as PLACE.THING
 
 A place is a record type of the function's Lts, and THING is what it adds to the place before it: what a call ensures (THING .ensures), what a variable is
-(THING .given), a test's outcome (THING .taken, THING .left). An answer reads it by the place's name, `known (PLACE t) (search) .THING`; docs/PROOFS.md shows it.
+(THING .given), a test's outcome (THING .taken, THING .left). An answer reads it by the place's name, in the cycle `known (Place lts.PLACE t) (search) .THING`,
+elsewhere `known tie.PLACE (search) .THING`; docs/PROOFS.md shows it.
 FUNCTION is a name as `arm` or `tokens.look`; without one, all functions of the crate are listed. Exit status 1 where CRATE has no goals."""
 import glob
 import os
