@@ -123,11 +123,11 @@ module _ (low : Depth) (K : (r : List ℕ) → Keeps (Left r) low) where
 
   binop-past : (l : ℕ) (q : List Error) (ts : List ℕ) → Keep (Past l) (λ e r. Unit {0}) (binop-expr low l q ts)
   unfolding binop-expr
-  binop-past zero q ts = k-all (λ r h. omega arith) (λ e r. tt) _
+  binop-past zero q ts = k-all (λ t r h. omega arith) (λ e r. tt) _
   binop-past (suc l) q ts = k-on q (binop-past l q ts) λ t q₁ r p. operators-past l (binop-past l) (length r) t q₁ r p
 
   reads : (l : ℕ) (q : List Error) (ts : List ℕ) → Keep (λ r. (length r ≤ length ts) × Past l r) (λ e r. Unit {0}) (binop-expr low l q ts)
-  reads l q ts = k-weaken (λ r i. i) (λ e r j. tt) (k-both (binop-keeps (Left ts) (left-step ts) low (K ts) l q ts (here (omega arith))) (binop-past l q ts))
+  reads l q ts = k-weaken (λ t r i. i) (λ e r j. tt) (k-both (binop-keeps (Left ts) (left-step ts) low (K ts) l q ts (here (omega arith))) (binop-past l q ts))
 
   module _ (l : ℕ) where
     -- behind a reading of the level l, climbing to the level suc l meets operators of that level alone

@@ -80,7 +80,7 @@ synced-two q (w ∷ (v ∷ r)) = by (looked q r (seen-word w v))
 
 pub caught-two : (low : Depth) (e : ℕ) (q : List Error) (ts : List ℕ) → Two (caught low e q ts)
 unfolding caught push
-caught-two low e q ts = k-if _ (λ _. k-fail tt) (λ _. k-if _ (λ _. k-stop) (λ _. k-unclean _ (k-on {M = λ r. Unit {0}} _ (k-all (λ r. tt) (λ e r. tt) _) λ u q₂ r i. synced-two q₂ r)))
+caught-two low e q ts = k-if _ (λ _. k-fail tt) (λ _. k-if _ (λ _. k-stop) (λ _. k-unclean _ (k-on {M = λ a r. Unit {0}} _ (k-all (λ a r. tt) (λ e r. tt) _) λ u q₂ r i. synced-two q₂ r)))
 
 two-at : {A : Type 0} {d : Res A} {q q′ : List Error} {u : A} (T : List ℕ) (p : ℕ) → Two d → As q d q′ (ok u (drop p T)) → p + 2 ≤ length T
 two-at {q = q} T p t a =

@@ -4,6 +4,7 @@ pub mod Flat
 pub mod Contract
 pub mod Sheets
 pub mod Looks
+pub mod Levels
 pub mod Laws
 pub mod Promise
 pub mod Locality

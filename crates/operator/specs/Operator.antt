@@ -162,6 +162,10 @@ op-tokens = Kind.OpMul ∷ Kind.OpDiv ∷ Kind.OpMod ∷ Kind.OpAdd ∷ Kind.OpS
 unfoldable pub op-token : ℕ → ℕ
 op-token number = getD op-tokens number no-token
 
+-- the level of the binary operator with this number, 0 if there is none
+unfoldable pub number-level : ℕ → ℕ
+number-level number = op-level (op-token number)
+
 -- the token kinds of the unary operators, by number
 abbrev pub unary-tokens : List ℕ
 unary-tokens = Kind.OpSub ∷ Kind.OpAdd ∷ Kind.OpInv ∷ Kind.Not ∷ []

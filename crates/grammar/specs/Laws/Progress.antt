@@ -174,7 +174,7 @@ module _ (I : List ℕ → Type 0) (step : Kept I) where
     module _ (J : Error → List ℕ → Type 0) (lose : (e : Error) (r : List ℕ) → I r → J e r) where
       mode-keeps : (q : List Error) (ts : List ℕ) → Near I ts → ((e : Error) → J e ts) → Keep (Near I) J (param-mode q ts)
       unfolding param-mode
-      mode-keeps q ts i j = k-on _ (k-weaken (λ r l. l) lose (look-keeps q ts i)) (search (keeps, j) depth 9)
+      mode-keeps q ts i j = k-on _ (k-weaken (λ a r l. l) lose (look-keeps q ts i)) (search (keeps, j) depth 9)
 
       pub param-keeps : (q : List Error) (ts : List ℕ) → Near I ts → ((e : Error) → J e ts) → Keep I J (param low q ts)
       unfolding param

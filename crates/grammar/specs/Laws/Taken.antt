@@ -65,7 +65,7 @@ module _ {A : Type 0} (f : List Error → List ℕ → Res A) (h : (I : List ℕ
     (s : (q : List Error) (ts : List ℕ) → length ts < 2 → f q ts ≡ fail Number.end-of-tokens q ts) where
   takes : (q : List Error) (ts : List ℕ) → Words ts → Takes ts (f q ts)
   takes q ts (short l) = rw (s q ts l) (k-fail (inr l))
-  takes q (w ∷ (v ∷ r)) some = k-weaken (λ t i. omega arith) (λ e t i. inl (omega arith)) (h (Left r) (left-step r) q (w ∷ v ∷ r) (past (omega arith)))
+  takes q (w ∷ (v ∷ r)) some = k-weaken (λ a t i. omega arith) (λ e t i. inl (omega arith)) (h (Left r) (left-step r) q (w ∷ v ∷ r) (past (omega arith)))
 
 pub expr-takes : (d : ℕ) (q : List Error) (ts : List ℕ) → Takes ts (expr (at-depth d) q ts)
 expr-takes d q ts = takes (expr (at-depth d)) (search (expr-keeps, depth-keeps)) (expr-short (at-depth d)) q ts (words ts)
@@ -88,7 +88,7 @@ start-keeps (suc n) q ts (short l) = rw (start-short (suc n) q ts l) (k-fail (at
 start-keeps (suc n) q (w ∷ (v ∷ r)) some =
     k-or q (look-keeps (Left r) (left-step r) q (w ∷ v ∷ r) (past (omega arith)))
     (λ tok q₁ s i. k-if _ (λ u. k-fail (at-end (w ∷ v ∷ r))) λ u.
-    k-if _ (λ u. k-weaken (λ t j. (j .0, omega arith)) (λ e t j. ended s t i j) (start-keeps n q s (words s))) (λ u. k-ok {r = w ∷ v ∷ r} (omega arith, omega arith)))
+    k-if _ (λ u. k-weaken (λ a t j. (j .0, omega arith)) (λ e t j. ended s t i j) (start-keeps n q s (words s))) (λ u. k-ok {r = w ∷ v ∷ r} (omega arith, omega arith)))
     (λ e q₁ s i. k-if _ (λ u. k-fail (at-end (w ∷ v ∷ r))) (λ u. k-fail {r = s} (inl (omega arith))))
   where
     ended : {e : Error} (s t : List ℕ) → Left r s → Ended s e t → Ended (w ∷ v ∷ r) e t

@@ -115,4 +115,4 @@ module _ (R : Reader) where
           let b = x .sheet .even in
           let d = length-drop (2 * R .position) T in
           left-at (λ k. (n ≤ suc k) × (k ≤ max (R .position) n)) (length T / 2) m (R .position)
-          (k-weaken (λ r i. omega arith) (λ e r i. omega arith) (next-ends depth-limit [] ts)) g
+          (k-weaken (λ a r i. omega arith) (λ e r i. omega arith) (next-ends depth-limit [] ts)) g

@@ -182,8 +182,8 @@ met (looks-token t s x) = t
 goes-back : {A : Type 0} {m : List ℕ → Res A} {ts : List ℕ} (n : ℕ) → IsLocal m → looks-first m ≡ true → LooksAt m ts n
     → Keep (λ r. length r + 2 * n ≤ length ts + 2) (λ e r. length r + 2 * n ≤ length ts + 2) (m ts)
 goes-back zero l e (looks-none t) = clash e t
-goes-back {ts = ts} (suc zero) l e x = k-weaken (λ r i. omega arith) (λ e r i. omega arith) (reaches l ts e)
-goes-back (suc (suc n)) l e (looks-token {w = w} {v = v} t s x) = k-weaken (λ r i. omega arith) (λ e r i. omega arith) (goes-back (suc n) (local-behind w v l) (met x) x)
+goes-back {ts = ts} (suc zero) l e x = k-weaken (λ a r i. omega arith) (λ e r i. omega arith) (reaches l ts e)
+goes-back (suc (suc n)) l e (looks-token {w = w} {v = v} t s x) = k-weaken (λ a r i. omega arith) (λ e r i. omega arith) (goes-back (suc n) (local-behind w v l) (met x) x)
 
 pub rests-long : {Z X r s : List ℕ} → Rests Z X r s → length X ≤ length s
 rests-long r-end = omega arith
@@ -197,10 +197,10 @@ same-long same-stop = k-stop
 
 -- it takes no token that it did not look at
 takes-looked : {A : Type 0} {m : List ℕ → Res A} {ts : List ℕ} {n : ℕ} → IsLocal m → LooksAt m ts n → Keep (λ r. length ts ≤ length r + 2 * n) (λ e r. length ts ≤ length r + 2 * n) (m ts)
-takes-looked {ts = ts} l (looks-none t) = k-weaken (λ r i. omega arith) (λ e r i. omega arith) (same-long (unmet l ts ts t))
-takes-looked l (looks-behind t s) = k-all (λ r. omega arith) (λ e r. omega arith) _
+takes-looked {ts = ts} l (looks-none t) = k-weaken (λ a r i. omega arith) (λ e r i. omega arith) (same-long (unmet l ts ts t))
+takes-looked l (looks-behind t s) = k-all (λ a r. omega arith) (λ e r. omega arith) _
 takes-looked l (looks-bad {w = w} {v = v} {ts = ts} t s) = rw (stops l w v ts s t) k-stop
-takes-looked l (looks-token {w = w} {v = v} t s x) = k-weaken (λ r i. omega arith) (λ e r i. omega arith) (takes-looked (local-behind w v l) x)
+takes-looked l (looks-token {w = w} {v = v} t s x) = k-weaken (λ a r i. omega arith) (λ e r i. omega arith) (takes-looked (local-behind w v l) x)
 
 -- both, of the words r that `next` leaves of ts where it looks at n
 abbrev pub NearLooks : ℕ → List ℕ → List ℕ → Type 0

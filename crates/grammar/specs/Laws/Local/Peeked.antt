@@ -93,7 +93,7 @@ module _ {F : Error → Bool} where
 
   peeked : {m : List ℕ → Res Tree} {ts : List ℕ} {n : ℕ} → IsLocal m → ((ts : List ℕ) → Ends F Fits (m ts)) → LooksAt m ts n → Ends F (λ r. length ts < length r + 2 * n) (m ts)
   peeked {ts = ts} l f (looks-none t) = ends-map (λ r i. omega arith) (unlooked (unmet l _ ts t) (f _))
-  peeked l f (looks-behind t s) = ends-kept (k-all (λ r. omega arith) (λ e r. omega arith) _)
+  peeked l f (looks-behind t s) = ends-kept (k-all (λ a r. omega arith) (λ e r. omega arith) _)
   peeked l f (looks-bad {w = w} {v = v} {ts = ts} t s) = rw (stops l w v ts s t) e-stop
   peeked l f (looks-token {w = w} {v = v} t s x) = ends-map (λ r i. omega arith) (peeked (local-behind w v l) (λ us. f (w ∷ v ∷ us)) x)
 
@@ -130,10 +130,10 @@ unfolding no-error
 no-matter e r k = clash k refl
 
 any : {A : Type 0} (d : Res A) → Keep (λ r. Unit {0}) NoMatter d
-any d = k-all (λ r. tt) no-matter d
+any d = k-all (λ a r. tt) no-matter d
 
 look-first : (q : List Error) (ts : List ℕ) → Keep (λ s. Fits ts) NoMatter (look q ts)
-look-first q ts = k-weaken (λ r f. f) (λ e r f. no-matter e r) (look-fits q ts)
+look-first q ts = k-weaken (λ a r f. f) (λ e r f. no-matter e r) (look-fits q ts)
 
 module _ (low : Depth) (right : (q : List Error) (ts : List ℕ) → Keep Fits NoMatter (low .right q ts)) where
   expr-fits : (q : List Error) (ts : List ℕ) → Keep Fits NoMatter (expr low q ts)

@@ -1,0 +1,56 @@
+-- How operators stand in a tree by their levels, in document 02's words (P1), and the same of a tree's records. Definitions; they assume nothing.
+use mathlib.Core.Bool.{Bool, true, false, cond, _&&_}
+use mathlib.Core.List.{List, [], _∷_}
+use Prim.Native.Nat.{ℕ, _/_, _%_, _≤_, _<_}
+use lib.Dec.{eqb, leb, ltb}
+use lib.ListN.{take, drop}
+use Rattle.operator.specs.Operator.{number-level}
+use Rattle.tree.specs.NodeKind
+use Rattle.tree.specs.Tree.{Tree, Forest, node, more}
+use Rattle.tree.specs.Node
+
+-- u is a node of t with all that stands under it: t itself, or a node of one of its children
+mutual
+  pub data In (u : Tree) : Tree → Type 0 where
+    itself : In u u
+    under : {k v : ℕ} {f : Forest} → InAny u f → In u (node k v f)
+
+  pub data InAny (u : Tree) : Forest → Type 0 where
+    in-first : {t : Tree} {f : Forest} → In u t → InAny u (more t f)
+    in-later : {t : Tree} {f : Forest} → InAny u f → InAny u (more t f)
+
+-- at every node, wherever it stands: a binary operator of level p has no direct left binary child above p, no direct right one at p or above, and no unary
+-- operator has a binary operator as its direct operand
+pub record Ordered (t : Tree) : Type 0 where
+  pub left : {o p : ℕ} {a b c : Tree} → In (Node.binary-op p (Node.binary-op o a b) c) t → number-level o ≤ number-level p
+  pub right : {o p : ℕ} {a b c : Tree} → In (Node.binary-op p a (Node.binary-op o b c)) t → number-level o < number-level p
+  pub operand : {o p : ℕ} {a b : Tree} → In (Node.unary-op p (Node.binary-op o a b)) t → ⊥
+
+-- the level of a node of the kind k and the value v: of a binary operator its operator's, which is 1 or more, of any other node 0
+abbrev pub level : ℕ → ℕ → ℕ
+level k v = cond (eqb k NodeKind.BinaryOp) (number-level v) 0
+
+-- by the levels of its children, the last one first: what a binary operator of level p may have under it, a unary operator, and a node of any kind
+abbrev pub sides-fit : ℕ → List ℕ → Bool
+sides-fit p [] = false
+sides-fit p (right ∷ []) = false
+sides-fit p (right ∷ left ∷ []) = leb left p && ltb right p
+sides-fit p (right ∷ left ∷ other ∷ others) = false
+
+abbrev pub operand-fits : List ℕ → Bool
+operand-fits [] = false
+operand-fits (operand ∷ []) = eqb operand 0
+operand-fits (operand ∷ other ∷ others) = false
+
+abbrev pub fits : ℕ → ℕ → List ℕ → Bool
+fits k v children =
+    cond (eqb k NodeKind.BinaryOp) (sides-fit (number-level v) children)
+    (cond (eqb k NodeKind.UnaryOp) (operand-fits children)
+    true)
+
+-- records from the first on, where `before` has the levels of the trees that are whole and under no node yet, the last one first: a record takes the levels of its
+-- children off and puts its own on
+unfoldable pub in-order : List ℕ → List ℕ → Bool
+in-order before [] = true
+in-order before (w ∷ []) = false
+in-order before (w ∷ v ∷ r) = fits (w % 256) v (take (w / 256) before) && in-order (level (w % 256) v ∷ drop (w / 256) before) r
