@@ -7,6 +7,7 @@ pub mod Count
 pub mod Facts
 pub mod Roles
 pub mod Post
+pub mod Seen
 pub mod Convert
 pub mod Views
 pub mod Sound
@@ -17,8 +18,10 @@ pub mod Holds
 pub mod Converted
 pub mod Parts
 pub mod Kinds
+pub mod Unmet
 pub mod Waits
 pub mod Numbers
+pub mod Top
 pub mod Returned
 pub mod Clean
 pub mod Back

@@ -21,7 +21,7 @@ use Rattle.grammar.specs.Reading.Next.{next, kind-number, number, error-
 use Rattle.grammar.specs.Reading.Looked.{looks, call-looks}
 use Rattle.grammar.specs.Laws.Facts.{and-l, and-r, or-true, not-true, apart, by-test}
 use Rattle.grammar.specs.Laws.Waits.{IsError, IsStop, All, a-cons, waits-none, n-fail, n-stop}
-use Rattle.grammar.specs.Laws.Numbers.{Top, t-end, t-num, next-numbers}
+use Rattle.grammar.specs.Laws.Top.{Top, t-end, t-num, errors-met, next-numbers}
 use Rattle.grammar.specs.Laws.Returned.{fits-all}
 use Rattle.grammar.specs.declared.Answer.the-variants.{Stopped, Refused}
 use Rattle.grammar.specs.declared.Reader.{Reader}
@@ -211,7 +211,7 @@ front-error : {e : Error} {q : List Error} → All IsError (e ∷ q) → IsError
 front-error (a-cons j a) = j
 
 module _ (R : Reader) (T : List ℕ) (m : ℕ) where
-  told-reading : {X : List ℕ → Type 0} → Ready R T m → (d : Res Tree) → reading T R ≡ d → Top X 0 [] d → Told R T m (said (called (length T / 2) m (R .position) d))
+  told-reading : {X : List ℕ → Type 0} → Ready R T m → (d : Res Tree) → reading T R ≡ d → Top IsError X 0 [] d → Told R T m (said (called (length T / 2) m (R .position) d))
   unfolding error-answer ifb
   told-reading y (ok t r) x n = by-none (a-tree y t r x)
   told-reading y (bad t q r) x n = by-none (tree-then-errors y t q r x)
@@ -231,7 +231,7 @@ module _ (R : Reader) (T : List ℕ) (m : ℕ) where
   told f (stopped s a h) = by-stop (a .stops, h) (was-stopped s a refl)
   told f (waited g h) = told-front f g h _ refl
   told f (short g w l) = by-store (record { going = g; none-waits = w; short = l })
-  told f (reads g w l) = let y : Ready R T m = record { going = g; none-waits = w; room = l } in told-reading y (reading T R) refl (next-numbers _ 0 [] _ waits-none)
+  told f (reads g w l) = let y : Ready R T m = record { going = g; none-waits = w; room = l } in told-reading y (reading T R) refl (next-numbers errors-met _ 0 [] _ waits-none)
 
 -- of a reader whose array has 96 places, as every reader's has
 module _ (R : Reader) (f : length (R .errors) ≡ queue-limit) (T : List ℕ) (m : ℕ) where

@@ -14,7 +14,7 @@ use Rattle.tree.specs.Records.{records-length}
 use Rattle.grammar.specs.Reading.Limit.{depth-limit, store-share}
 use Rattle.grammar.specs.Reading.Result.{Error, Res, ok, bad, fail, stop, ifb}
 use Rattle.grammar.specs.Reading.Next.{error-answer, error-kind, reader-at, Called, called, next-stmt, next}
-use Rattle.grammar.specs.Laws.Numbers.{bad-waits}
+use Rattle.grammar.specs.Laws.Top.{bad-waits}
 use Rattle.grammar.specs.Promise.{Outcome, no-sheet, no-reader, stopped as was-stopped, waited, short, reads, outcome}
 use Rattle.grammar.specs.declared.Answer.the-variants.{Error as AError, End}
 use Rattle.grammar.specs.declared.Reader.{Reader}

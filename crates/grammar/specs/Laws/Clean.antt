@@ -21,8 +21,8 @@ use Rattle.grammar.specs.Canonical.Writing.{clean-then, clean-from, clea
 use borrow.Author.Tests.{eqb-true}
 use Rattle.grammar.specs.Laws.Facts.{other, and-r}
 use Rattle.grammar.specs.Laws.Post.{Post, p-ok, p-bad, p-fail, p-stop, post-then, post-either}
-use Rattle.grammar.specs.Laws.Numbers.{next-end}
-use Rattle.grammar.specs.Laws.Sound.Base.{kind-at, Saw, isnt, NotClose}
+use Rattle.grammar.specs.Laws.Top.{next-end}
+use Rattle.grammar.specs.Laws.Seen.{kind-at, Saw, isnt, NotClose}
 use Rattle.grammar.specs.Laws.Sound.Stmt.{stmt-sound, depth-sound}
 
 -- a look that fails did not see `)`

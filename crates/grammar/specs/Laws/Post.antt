@@ -5,12 +5,20 @@ use mathlib.Core.Bool.{Bool, true, false}
 use mathlib.Core.List.{List}
 use Rattle.grammar.specs.Reading.Result.{Error, Res, ok, bad, fail, stop, unclean, either, then, ifb, push}
 use Rattle.grammar.specs.Laws.Facts.{if-tested}
+use Rattle.grammar.specs.Laws.Keep.{Success, k-ok, k-bad, k-fail, k-stop}
 
 pub data Post {A : Type 0} (P : A → List ℕ → Type 0) : Res A → Type 0 where
   p-ok : {a : A} {r : List ℕ} → P a r → Post P (ok a r)
   p-bad : {a : A} {q : List Error} {r : List ℕ} → Post P (bad a q r)
   p-fail : {e : Error} {q : List Error} {r : List ℕ} → Post P (fail e q r)
   p-stop : {n : ℕ} → Post P (stop n)
+
+-- what holds of any success holds of a clean one
+pub post-success : {A : Type 0} {P : A → List ℕ → Type 0} {d : Res A} → Success P d → Post P d
+post-success (k-ok x) = p-ok x
+post-success (k-bad x) = p-bad
+post-success (k-fail x) = p-fail
+post-success k-stop = p-stop
 
 pub post-unclean : {A : Type 0} {P : A → List ℕ → Type 0} (q : List Error) (d : Res A) → Post P (unclean q d)
 unfolding unclean

@@ -22,56 +22,11 @@ use Rattle.grammar.specs.Canonical.Write.{own, fun-gives, has-function}
 use Rattle.grammar.specs.Canonical.Valid.{IsName, Role, unary, binop, assign, plain, ex, stmt, control, Valid, Valids, Pattern, v-binary-op, v-assign, v-inner, v-single, v-tuple, v-local, v-plain, v-keyword, v-none, v-target, tight}
 use borrow.Author.Tests.{eqb-true}
 use Rattle.grammar.specs.Laws.Facts.{clash, other, by-test, and-l, and-r}
+use Rattle.grammar.specs.Laws.Seen.{kind-at, look-saw, is-at, NotClose, NotLabel, NotComma}
 use Rattle.grammar.specs.Laws.Post.{Post, p-ok, p-fail, p-stop, post-then, post-if}
 use Rattle.grammar.specs.Laws.Convert.{PatternOk, no-pattern, a-pattern, Converts, Convert, c-none, c-more, convert-snoc, none-sound, tuple-sound}
 use Rattle.grammar.specs.Laws.Roles.{as-inner, valids-snoc}
 use Rattle.grammar.specs.Laws.Views.{fun-of}
-
--- the kind of the first token, and 77 where there is none
-abbrev pub kind-at : List ℕ → ℕ
-kind-at [] = 77
-kind-at (w ∷ []) = 77
-kind-at (w ∷ v ∷ r) = w % 256
-
--- a token that was seen at ts
-pub record Saw (ts : List ℕ) (tok : Token) (r : List ℕ) : Type 0 where
-  pub at : tok .kind ≡ kind-at ts
-  pub fits : value-fits (tok .kind) (tok .value) ≡ true
-
-looked-saw : (q rest ts : List ℕ) (k n v : ℕ) → k ≡ kind-at ts → Post (Saw ts) (looked q rest (seen-token k n v))
-unfolding looked
-looked-saw q rest ts k n v h = go (token-fits k n v) refl (eqb k Kind.LexerError)
-  where
-    go : (b : Bool) → token-fits k n v ≡ b → (c : Bool) → Post (Saw ts) (looked q rest (cond b (cond c LexerError (Good (record { kind = k; newline = n; value = v }))) Bad))
-    go true e true = p-fail
-    go true e false = p-ok (record { at = h; fits = and-r (leb k Kind.LexerError && leb n 1) (value-fits k v) e })
-    go false e c = p-stop
-
-pub look-saw : (q : List Error) (ts : List ℕ) → Post (Saw ts) (look q ts)
-unfolding look
-look-saw q [] = p-fail
-look-saw q (w ∷ []) = p-fail
-look-saw q (w ∷ (v ∷ r)) = looked-saw q r (w ∷ v ∷ r) (w % 256) (w / 256) v refl
-
--- what was seen as c is not d
-pub isnt : {ts r : List ℕ} {tok : Token} → Saw ts tok r → (c d : ℕ) → eqb (tok .kind) c ≡ true → eqb c d ≡ false → eqb (kind-at ts) d ≡ false
-isnt {ts} {tok = tok} s c d e h = rw (sym (s .at)) (other (tok .kind) c d e h)
-
--- what was not seen as c is not c
-pub not-at : {ts r : List ℕ} {tok : Token} → Saw ts tok r → (c : ℕ) → eqb (tok .kind) c ≡ false → eqb (kind-at ts) c ≡ false
-not-at s c e = rw (sym (s .at)) e
-
-pub is-at : {ts r : List ℕ} {tok : Token} → Saw ts tok r → (c : ℕ) → eqb (tok .kind) c ≡ true → eqb (kind-at ts) c ≡ true
-is-at s c e = rw (sym (s .at)) e
-
-abbrev pub NotClose : List ℕ → Type 0
-NotClose ts = eqb (kind-at ts) Kind.CloseParen ≡ false
-
-abbrev pub NotLabel : List ℕ → Type 0
-NotLabel ts = eqb (kind-at ts) Kind.Label ≡ false
-
-abbrev pub NotComma : List ℕ → Type 0
-NotComma ts = eqb (kind-at ts) Kind.Comma ≡ false
 
 -- a token of the kind k was taken
 pub record Took (k : ℕ) (ts : List ℕ) (tok : Token) : Type 0 where

@@ -16,7 +16,8 @@ use Rattle.grammar.specs.Canonical.Valid.{IsName, tight, branch, else-cl
 use Rattle.grammar.specs.Laws.Post.{Post, p-ok, p-fail, post-then, post-if, post-map}
 use Rattle.grammar.specs.Laws.Convert.{Converts, none-sound}
 use Rattle.grammar.specs.Laws.Roles.{valids-snoc}
-use Rattle.grammar.specs.Laws.Sound.Base.{look-saw, expect-took, ListOk, Sound, anyhow, before}
+use Rattle.grammar.specs.Laws.Seen.{look-saw}
+use Rattle.grammar.specs.Laws.Sound.Base.{expect-took, ListOk, Sound, anyhow, before}
 use Rattle.grammar.specs.Laws.Sound.Expr.{expr-sound}
 
 -- what the last statement of a block becomes

@@ -13,7 +13,8 @@ use Rattle.grammar.specs.Reading.Expr.{Depth, binop-expr, members, tuple
 use Rattle.grammar.specs.Canonical.Valid.{binop, plain, v-unary, v-up, v-inner}
 use Rattle.grammar.specs.Laws.Facts.{clash}
 use Rattle.grammar.specs.Laws.Post.{Post, p-ok, p-fail, post-then, post-if, post-map}
-use Rattle.grammar.specs.Laws.Sound.Base.{look-saw, isnt, not-at, is-at, OperandOk, ExprOk, AnyOk, Sound, anyhow, operators-sound, MembersOk, first, members-snoc, tuple-made, keyword-sound, pattern-sound, plain-any, assigned}
+use Rattle.grammar.specs.Laws.Seen.{look-saw, isnt, not-at, is-at}
+use Rattle.grammar.specs.Laws.Sound.Base.{OperandOk, ExprOk, AnyOk, Sound, anyhow, operators-sound, MembersOk, first, members-snoc, tuple-made, keyword-sound, pattern-sound, plain-any, assigned}
 
 module _ (low : Depth) (S : Sound low) where
   pub binop-sound : (l : ℕ) (q : List Error) (ts : List ℕ) → Post (λ t r. OperandOk (λ b. binop b l) ts t) (binop-expr low l q ts)

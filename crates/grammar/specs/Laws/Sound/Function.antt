@@ -23,7 +23,8 @@ use Rattle.grammar.specs.Laws.Post.{Post, p-ok, p-fail, post-then, post-
 use Rattle.grammar.specs.Laws.Convert.{Converts, none-sound, front-valid, last-valid}
 use Rattle.grammar.specs.Canonical.Write.{target-atom}
 use Rattle.grammar.specs.Laws.Roles.{valids-snoc}
-use Rattle.grammar.specs.Laws.Sound.Base.{Saw, look-saw, not-at, is-at, NotComma, expect-took, name-value, Sound, anyhow, kind-at}
+use Rattle.grammar.specs.Laws.Seen.{Saw, look-saw, not-at, is-at, NotComma, kind-at}
+use Rattle.grammar.specs.Laws.Sound.Base.{expect-took, name-value, Sound, anyhow}
 use Rattle.grammar.specs.Laws.Sound.Expr.{expr-sound}
 use Rattle.grammar.specs.Laws.Sound.Primary.{atom-sound, path-sound}
 use Rattle.grammar.specs.Laws.Sound.Block.{block-sound, body-sound}

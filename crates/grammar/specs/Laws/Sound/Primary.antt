@@ -23,7 +23,8 @@ use Rattle.grammar.specs.Laws.Post.{Post, p-ok, p-fail, post-then, post-
 use Rattle.grammar.specs.Laws.Convert.{Converts, none-sound, unpack-sound, group-sound, modified-sound, identifier-sound, ellipsis-sound, primary-sound}
 use Rattle.grammar.specs.Laws.Views.{given-ex, arguments-sound}
 use Rattle.grammar.specs.Laws.Roles.{valids-snoc}
-use Rattle.grammar.specs.Laws.Sound.Base.{Saw, look-saw, isnt, NotClose, expect-took, name-value, OperandOk, AnyOk, Sound, anyhow, before, Keyed, no-keyword, a-keyword, keyword-sound}
+use Rattle.grammar.specs.Laws.Seen.{Saw, look-saw, isnt, NotClose}
+use Rattle.grammar.specs.Laws.Sound.Base.{expect-took, name-value, OperandOk, AnyOk, Sound, anyhow, before, Keyed, no-keyword, a-keyword, keyword-sound}
 use Rattle.grammar.specs.Laws.Sound.Expr.{binop-sound, expr-sound}
 
 -- what stands at the start of an operand and may have a path

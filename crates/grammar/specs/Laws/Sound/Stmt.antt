@@ -24,7 +24,8 @@ use Rattle.grammar.specs.Laws.Facts.{clash, apart}
 use Rattle.grammar.specs.Laws.Post.{Post, p-ok, p-fail, p-stop, post-then, post-either, post-if, post-push, post-map}
 use Rattle.grammar.specs.Laws.Convert.{none-sound}
 use Rattle.grammar.specs.Laws.Roles.{valids-snoc}
-use Rattle.grammar.specs.Laws.Sound.Base.{Saw, look-saw, isnt, not-at, is-at, NotClose, NotLabel, expect-took, OperandOk, ListOk, Sound, anyhow, before, Keyed, no-keyword, a-keyword, keyword-sound, pattern-sound}
+use Rattle.grammar.specs.Laws.Seen.{Saw, look-saw, isnt, not-at, is-at, NotClose, NotLabel}
+use Rattle.grammar.specs.Laws.Sound.Base.{expect-took, OperandOk, ListOk, Sound, anyhow, before, Keyed, no-keyword, a-keyword, keyword-sound, pattern-sound}
 use Rattle.grammar.specs.Laws.Sound.Expr.{tuple-expr-sound, expr-sound}
 use Rattle.grammar.specs.Laws.Sound.Primary.{table-items-sound, unpack-expr-sound}
 use Rattle.grammar.specs.Laws.Sound.Block.{body-sound, begin-sound, expr-label-sound, if-sound}
