@@ -4,4 +4,5 @@ pub mod Clean
 pub mod Whole
 pub mod Deep
 pub mod Calls
+pub mod Met
 pub mod Writer

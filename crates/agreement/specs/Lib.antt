@@ -4,4 +4,5 @@ pub mod Statement
 pub mod Laws
 pub mod Theorem
 pub mod Corollaries
+pub mod Never
 pub mod Examples
