@@ -1,13 +1,13 @@
 -- The sheets of document 01 that are to be proved, as one table and one theorem: every call from a fresh reader to the first end or stop,
 -- with the answer, the whole reader and every word of the store, and the sheet's canonical tokens where it reads cleanly.
--- Rows behind them rule out a wrong grouping, a wrong resynchronization, and writers that leave a token out. Assumes nothing.
+-- Rows behind them rule out a wrong grouping, a wrong resynchronization, writers that leave a token out, and the errors 24, 28 and 32 where they seem near. Assumes nothing.
 use mathlib.Core.Path.{_≡_, refl}
 use mathlib.Core.List.{List, [], _∷_}
 use Prim.Native.Nat.{ℕ, zero, suc, _*_, _+_}
 use lib.ListN.{length}
 use Rattle.token.specs.Kind
 use Rattle.operator.specs.Operator.{which-unary-op, which-binary-op, which-assignment-op, op-level, op-number, op-token, unary-code, unary-token, assign-code, assign-token}
-use Rattle.tree.specs.Tree.{Tree, none, one, count, snoc, records, all-records}
+use Rattle.tree.specs.Tree.{Tree, none, more, one, count, snoc, records, all-records}
 use Rattle.tree.specs.Node
 use Rattle.tree.specs.Maybe.{Maybe, nothing, just, bindM}
 use Rattle.grammar.specs.Reading.Pattern.{conv, all-conv, last-of, front-of}
@@ -226,6 +226,34 @@ table =
     record {
       sheet = s Kind.CloseParen (s Kind.Else (name a (name b eof)));
       says = error Number.unmatched-paren 3 [] ∷ tree (just-name b) 4 [] ∷ end 4 ∷ [];
+      tokens = nothing;
+    } ∷
+    -- a... ...: the second `...` is a statement of its own, not nested
+    record {
+      sheet = name a (s Kind.Ellipsis (s Kind.Ellipsis eof));
+      says = tree (Node.expression (Node.unpack (Node.identifier a))) 2 [] ∷ error Number.ellipsis-not-allowed 3 [] ∷ end 3 ∷ [];
+      tokens = nothing;
+    } ∷
+    -- fun (a end: what follows a parameter is judged before the parameters' closing is looked for
+    record { sheet = s Kind.Fun (s Kind.OpenParen (name a (s Kind.End eof))); says = error Number.invalid-param 4 [] ∷ end 4 ∷ []; tokens = nothing } ∷
+    -- fun (a = 1, b) end: the default takes the comma, so b is no parameter out of order
+    record {
+      sheet = s Kind.Fun (s Kind.OpenParen (name a (s Kind.OpAssign (int 1 (s Kind.Comma (name b (s Kind.CloseParen (s Kind.End eof))))))));
+      says =
+          tree (Node.expression (Node.function-def
+          (Node.signature-def 0 none (one (Node.default-def (Node.named a Node.read-only) (Node.tuple (more (Node.integer-literal 1) (one (Node.identifier b)))))) Node.absent)
+          (Node.expr-block (Node.stmt-list none Node.absent) Node.absent))) 9 []
+          ∷ end 9 ∷ [];
+      tokens = just (s Kind.Fun (s Kind.OpenParen (name a (s Kind.OpAssign (int 1 (s Kind.Comma (name b (s Kind.CloseParen (s Kind.End (s Kind.Semicolon eof))))))))));
+    } ∷
+    -- begin - a + b * c; continue; end: a tree before an error that waits, with a sign, a sum and a product
+    record {
+      sheet = s Kind.Begin (s Kind.OpSub (name a (s Kind.OpAdd (name b (s Kind.OpMul (name c (s Kind.Semicolon (s Kind.Continue (s Kind.Semicolon (s Kind.End eof))))))))));
+      says =
+          tree (Node.expression (Node.block 0 (Node.expr-block (Node.stmt-list
+          (one (Node.expression (Node.binary-op 3 (Node.unary-op 0 (Node.identifier a)) (Node.binary-op 0 (Node.identifier b) (Node.identifier c)))))
+          (Node.continue 0)) Node.absent))) 11 (Number.continue-not-last ∷ [])
+          ∷ error Number.continue-not-last 11 [] ∷ end 11 ∷ [];
       tokens = nothing;
     } ∷
     []
