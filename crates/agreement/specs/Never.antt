@@ -12,7 +12,7 @@ use Rattle.grammar.specs.Reading.Next.{number, fresh, Called}
 use Rattle.grammar.specs.Laws.Facts.{clash}
 use Rattle.grammar.specs.Laws.Waits.{is-other, OtherThan, two-unmet, three-unmet, IsError}
 use Rattle.grammar.specs.Laws.Numbers.{Meets}
-use Rattle.grammar.specs.Laws.Top.{two-unmet-met, three-unmet-met}
+use Rattle.grammar.specs.Laws.Top.{meets-but-two, meets-but-three}
 use Rattle.grammar.specs.Laws.Returned.{waiting-in}
 use Rattle.grammar.specs.declared.Reader.{Reader}
 use Rattle.agreement.specs.Calls.{Call, Run}
@@ -38,7 +38,7 @@ unmet xs M e i n = record {
 
 pub never-met : ThreeNeverMet
 never-met = record {
-  nested-ellipsis = unmet two-unmet two-unmet-met Number.nested-ellipsis refl refl;
-  params-closing = unmet two-unmet two-unmet-met Number.params-closing refl refl;
-  param-order = unmet three-unmet three-unmet-met Number.param-order refl refl;
+  nested-ellipsis = unmet two-unmet meets-but-two Number.nested-ellipsis refl refl;
+  params-closing = unmet two-unmet meets-but-two Number.params-closing refl refl;
+  param-order = unmet three-unmet meets-but-three Number.param-order refl refl;
 }

@@ -1,7 +1,7 @@
 -- Calls from a reader in which only errors J wait, where J holds of each error that can be met, answer only errors J, and leave only such errors waiting. Assumes nothing.
 use mathlib.Core.Path.{_≡_, refl, sym, ap, _∙_, subst}
 use mathlib.Core.Bool.{false≢true}
-use mathlib.Core.List.{List, [], _∷_, List·Memᴰ, List·Memᴰ·head, List·Memᴰ·tail, List·Memᴰ·not-nil}
+use mathlib.Core.List.{List, [], List·Memᴰ, List·Memᴰ·head, List·Memᴰ·tail, List·Memᴰ·not-nil}
 use Prim.Native.Nat.{ℕ}
 use lib.ListN.{length}
 use Rattle.tree.specs.Tree.{Tree}

@@ -1,10 +1,10 @@
 -- Only errors that can be met wait or are on their way, never more of them than the queue takes and never fewer than waited before, and only numbers of stops stop: a lemma
 -- for each nonterminal, and `depth-numbers`, `stmt-numbers`, `failed-nums`. Assumes nothing.
 use mathlib.Core.Path.{_≡_, refl}
-use mathlib.Core.Bool.{Bool, true, false, false≢true}
+use mathlib.Core.Bool.{Bool, true, false}
 use mathlib.Core.Logic.{_⊎_, inl, ⊎-elim}
 use mathlib.Core.List.{List, [], _∷_}
-use Prim.Native.Nat.{ℕ, zero, suc, _<_}
+use Prim.Native.Nat.{ℕ, zero, suc}
 use native.Mathlib.Omega.{arith}
 use lib.Dec.{eqb}
 use lib.ListN.{length}
@@ -15,7 +15,7 @@ use Rattle.token.specs.declared.Seen.the-variants.{Good, LexerError, Nothing, B
 use Rattle.tree.specs.Tree.{Tree, Forest, empty}
 use Rattle.tree.specs.Maybe.{Maybe, nothing, just}
 use Rattle.grammar.specs.Reading.Limit.{malformed, too-deep}
-use Rattle.grammar.specs.Reading.Result.{Error, Res, ok, bad, fail, stop, unclean, either, then, ifb, push, pop}
+use Rattle.grammar.specs.Reading.Result.{Error, Res, ok, bad, fail, stop, either, then, ifb, push, pop}
 use Rattle.grammar.specs.Reading.Look.{looked, look, expect, expect-pattern, try-label, try-assign-keyword}
 use Rattle.grammar.specs.Reading.Expr.{Depth, operators, binop-expr, members, tuple-expr, expr}
 use Rattle.grammar.specs.Reading.Primary.{group-expr, literal, atom, indexing-expr, field-name, table-field, table-item, table-items, member-access, invocation, path, primary, unpack-expr}
@@ -24,11 +24,11 @@ use Rattle.grammar.specs.Reading.Function.{Param, required, variadic, de
 use Rattle.grammar.specs.Reading.Stmt.{loop, while-loop, lvalue-list, for-loop, stmt-label, stmt, control-value, control-flow, control-last, synchronize, synchronized, caught, stmts}
 use Rattle.grammar.specs.Reading.Depth.{primary-expr, unary-expr, at-depth}
 use Rattle.grammar.specs.Reading.Number
-use Rattle.grammar.specs.Reading.Next.{start, front, failed, next}
-use Rattle.grammar.specs.Laws.Facts.{clash, other, if-both}
+use Rattle.grammar.specs.Reading.Next.{front, failed}
+use Rattle.grammar.specs.Laws.Facts.{clash, other}
 use Rattle.grammar.specs.Laws.Seen.{kind-at, look-seen, not-at}
 use Rattle.grammar.specs.Laws.Unmet.{primary-no-unpack, params-close, NoCommaBehind, param-ended, InOrder, joined-in-order}
-use Rattle.grammar.specs.Laws.Waits.{OtherThan, IsStop, two-unmet, three-unmet, n-after, n-tested, Waits, Num, n-ok, n-bad, n-fail, n-stop, waits-none, waits-front, Caught, c-fail, Past, p-ok, p-bad, nums, waits-less, n-unclean, n-then, n-if, c-push, n-caught, n-stays, n-pop, p-either, p-if, n-behind, c-failing}
+use Rattle.grammar.specs.Laws.Waits.{OtherThan, IsStop, three-unmet, n-after, n-tested, Waits, Num, n-ok, n-bad, n-fail, n-stop, waits-front, Caught, c-fail, Past, p-ok, p-bad, nums, waits-less, n-unclean, n-then, n-if, c-push, n-caught, n-stays, n-pop, p-either, p-if, n-behind, c-failing}
 
 -- J holds of the wrong order of parameters, unless no comma follows an expression
 abbrev pub Order : (Error → Type 0) → Depth → Type 0

@@ -1,5 +1,5 @@
 -- The numbers at the top level, where a failure may be the end too: `next-numbers`. The end is the start's: `next-end`. A statement that was read with errors leaves one
--- that waits: `bad-waits`. Which errors can be met: `errors-met`, `two-unmet-met`, `three-unmet-met`. Assumes nothing.
+-- that waits: `bad-waits`. Which errors can be met: `meets-errors`, `meets-but-two`, `meets-but-three`. Assumes nothing.
 use mathlib.Core.Path.{_≡_, refl}
 use mathlib.Core.Bool.{Bool, true, false, false≢true, not}
 use mathlib.Core.Logic.{inl, inr}
@@ -71,14 +71,14 @@ module _ {J : Error → Type 0} (M : Meets J) where
 
 -- which errors can be met: numbers of errors; of these neither 24 nor 28, whatever follows an expression; and not 32, since no comma does
 
-pub errors-met : Meets IsError
-errors-met = record { others = λ e h. error-of three-unmet e h; order = λ d. inl refl }
+pub meets-errors : Meets IsError
+meets-errors = record { others = λ e h. error-of three-unmet e h; order = λ d. inl refl }
 
-pub two-unmet-met : Meets (OtherThan two-unmet)
-two-unmet-met = record { others = λ e h. and-r (not (eqb e Number.param-order)) _ h; order = λ d. inl refl }
+pub meets-but-two : Meets (OtherThan two-unmet)
+meets-but-two = record { others = λ e h. and-r (not (eqb e Number.param-order)) _ h; order = λ d. inl refl }
 
-pub three-unmet-met : Meets (OtherThan three-unmet)
-three-unmet-met = record { others = λ e h. h; order = λ d. inr (no-comma-behind d) }
+pub meets-but-three : Meets (OtherThan three-unmet)
+meets-but-three = record { others = λ e h. h; order = λ d. inr (no-comma-behind d) }
 
 -- 0 is no error's number
 t-zero : {X : List ℕ → Type 0} {A : Type 0} {n : ℕ} {q p : List Error} {r : List ℕ} → Top {A = A} IsError X n q (fail 0 p r) → X r
@@ -86,11 +86,11 @@ t-zero (t-end x) = x
 t-zero (t-num (n-fail j w)) = absurd (false≢true j)
 
 pub next-end : (d : ℕ) (ts : List ℕ) {p : List Error} {r : List ℕ} → next d [] ts ≡ fail 0 p r → start (length ts) [] ts ≡ fail 0 [] r
-next-end d ts h = t-zero (rw h at (next-numbers errors-met d 0 [] ts waits-none))
+next-end d ts h = t-zero (rw h at (next-numbers meets-errors d 0 [] ts waits-none))
 
 -- a statement that was read with errors leaves one that waits
 pub bad-waits : (d : ℕ) (ts : List ℕ) {t : Tree} {q : List Error} {r : List ℕ} → next d [] ts ≡ bad t q r → 0 < length q
-bad-waits d ts {t} {q} {r} h = go (rw h at (next-numbers errors-met d 0 [] ts waits-none))
+bad-waits d ts {t} {q} {r} h = go (rw h at (next-numbers meets-errors d 0 [] ts waits-none))
   where
     go : Top IsError (λ s. start (length ts) [] ts ≡ fail 0 [] s) 0 [] (bad t q r) → 0 < length q
     go (t-num (n-bad w l)) = l

@@ -6,7 +6,6 @@ use mathlib.Core.Logic.{_⊎_, inl, inr}
 use mathlib.Core.List.{List}
 use Prim.Native.Nat.{ℕ, zero, suc}
 use lib.Dec.{eqb}
-use lib.ListN.{length}
 use Rattle.token.specs.Kind
 use Rattle.token.specs.declared.Token.{Token}
 use Rattle.tree.specs.NodeKind

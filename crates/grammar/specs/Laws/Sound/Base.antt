@@ -1,21 +1,20 @@
 -- What is shown of a clean reading's success: the tokens that were seen, and in which roles a tree is valid, by what stands before and behind it. Assumes nothing.
 use mathlib.Core.Path.{_≡_, refl, sym, subst}
 use mathlib.Core.Bool.{Bool, true, false, cond, _&&_}
-use mathlib.Core.List.{List, [], _∷_}
-use Prim.Native.Nat.{ℕ, zero, suc, pred, _+_, _*_, _/_, _%_, _<_}
+use mathlib.Core.List.{List}
+use Prim.Native.Nat.{ℕ, zero, suc, pred, _+_, _*_, _<_}
 use native.Mathlib.Omega.{arith}
-use lib.Dec.{eqb, leb}
+use lib.Dec.{eqb}
 use Rattle.token.specs.Kind
-use Rattle.token.specs.Look.{value-fits, token-fits, seen-token}
+use Rattle.token.specs.Look.{value-fits}
 use Rattle.token.specs.declared.Token.{Token}
-use Rattle.token.specs.declared.Seen.the-variants.{Good, LexerError, Bad}
 use Rattle.operator.specs.Operator.{assign-code, level-count}
 use Rattle.tree.specs.NodeKind
 use Rattle.tree.specs.Tree.{Tree, Forest, node, more, one, two, snoc}
 use Rattle.tree.specs.Node
 use Rattle.tree.specs.Maybe.{Maybe, nothing, just}
 use Rattle.grammar.specs.Reading.Result.{Error, Res}
-use Rattle.grammar.specs.Reading.Look.{looked, look, expect, expect-pattern, keyword, try-assign-keyword, action}
+use Rattle.grammar.specs.Reading.Look.{expect, expect-pattern, keyword, try-assign-keyword, action}
 use Rattle.grammar.specs.Reading.Pattern.{conv, to-pattern}
 use Rattle.grammar.specs.Reading.Expr.{Stmts, Depth, operators}
 use Rattle.grammar.specs.Canonical.Write.{own, fun-gives, has-function}
@@ -23,7 +22,7 @@ use Rattle.grammar.specs.Canonical.Valid.{IsName, Role, unary, binop, as
 use borrow.Author.Tests.{eqb-true}
 use Rattle.grammar.specs.Laws.Facts.{clash, other, by-test, and-l, and-r}
 use Rattle.grammar.specs.Laws.Seen.{kind-at, look-saw, is-at, NotClose, NotLabel, NotComma}
-use Rattle.grammar.specs.Laws.Post.{Post, p-ok, p-fail, p-stop, post-then, post-if}
+use Rattle.grammar.specs.Laws.Post.{Post, p-ok, p-fail, post-then, post-if}
 use Rattle.grammar.specs.Laws.Convert.{PatternOk, no-pattern, a-pattern, Converts, Convert, c-none, c-more, convert-snoc, none-sound, tuple-sound}
 use Rattle.grammar.specs.Laws.Roles.{as-inner, valids-snoc}
 use Rattle.grammar.specs.Laws.Views.{fun-of}
