@@ -19,6 +19,7 @@ pub mod Parts
 pub mod Kinds
 pub mod Waits
 pub mod Numbers
+pub mod Levels
 pub mod Returned
 pub mod Clean
 pub mod Back

@@ -1,0 +1,3 @@
+-- Operators stand by their levels in every tree that a reading gives.
+pub mod Placed
+pub mod Records
