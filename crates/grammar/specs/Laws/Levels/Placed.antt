@@ -75,6 +75,10 @@ p-binary op {a} {b} e g h =
       most = omega arith;
     }
 
+-- what is no binary operator is an operand
+pub p-operand : {t : Tree} → Placed t → level-of t ≡ 0 → Within 0 t
+p-operand h e = record { placed = h; most = omega (arith, e) }
+
 -- what they are put together of
 
 pub p-children : {k v : ℕ} {f : Forest} → Placed (node k v f) → All-placed f
@@ -126,4 +130,4 @@ no-operator {o = o} h =
 pub placed-ordered : {t : Tree} → Placed t → Ordered t
 placed-ordered h = record { left = λ i. sides (p-in i h) .0; right = λ i. sides (p-in i h) .1; operand = λ i. no-operator (p-in i h) }
 
-pub ruleset placing = (p-none, p-more, p-node, p-snoc)
+pub ruleset placing = (p-none, p-more, p-node, p-snoc, p-operand)
