@@ -12,7 +12,7 @@ use Rattle.grammar.specs.Reading.Primary.{with-action, list-members, arg
 use Rattle.grammar.specs.Reading.Block.{Split, whole, result, split-before, split-kids, split-last, split, block-split, block-of}
 use Rattle.grammar.specs.Reading.Function.{Param, required, variadic, default, Params}
 use Rattle.grammar.specs.Laws.Facts.{if-both}
-use Rattle.grammar.specs.Laws.Levels.Placed.{level-of, Placed, All-placed, Within, placing, p-none, p-more, p-operand, p-children, p-first, p-later}
+use Rattle.grammar.specs.Laws.Levels.Placed.{level-of, Placed, All-placed, placing, p-none, p-more, p-children, p-first, p-later}
 
 -- of a statement list
 pub record PlacedStmts (s : Stmts) : Type 0 where
@@ -56,10 +56,14 @@ arguments-placed {t = node k v f} h = go (eqb k NodeKind.Tuple)
     go true = members-placed (p-children h)
     go false = p-more h p-none
 
--- an atom with its path is an operand as the atom is
-pub with-path-placed : (a : Tree) (f : Forest) → Placed a → level-of a ≡ 0 → All-placed f → Within 0 (with-path a f)
-with-path-placed a none h e g = p-operand h e
-with-path-placed a (more i f) h e g = search placing depth 9
+-- an atom with its path, which is an operand as the atom is
+pub with-path-placed : {a : Tree} (f : Forest) → Placed a → All-placed f → Placed (with-path a f)
+with-path-placed none h g = h
+with-path-placed (more i f) h g = search placing depth 9
+
+pub with-path-level : (a : Tree) (f : Forest) → level-of a ≡ 0 → level-of (with-path a f) ≡ 0
+with-path-level a none e = e
+with-path-level a (more i f) e = refl
 
 -- a block's statements and its result
 data PlacedSplit : Split → Type 0 where
@@ -92,4 +96,4 @@ pub block-placed : (s : Stmts) → All-placed (s .suite) → Placed (s .control)
 unfolding block-of
 block-placed s f c = if-both Placed _ (λ u. split-block-placed (split-placed (s .suite) f)) (λ u. search placing depth 9)
 
-pub ruleset parts = (placing, p-required, p-variadic, p-default, p-stmts, p-params, with-action-placed, arguments-placed, with-path-placed, block-placed)
+pub ruleset parts = (placing, p-required, p-variadic, p-default, p-stmts, p-params, with-action-placed, arguments-placed, with-path-placed, with-path-level, block-placed)
