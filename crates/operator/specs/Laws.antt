@@ -55,4 +55,3 @@ unary-token-code = back-below unary-code (λ k. unary-token (unary-code k - 1)) 
 pub assign-token-code : (k : ℕ) → k < no-token → 0 < assign-code k → assign-token (assign-code k - 1) ≡ k
 unfolding assign-code assign-token which-assignment-op
 assign-token-code = back-below assign-code (λ k. assign-token (assign-code k - 1)) no-token tt
-

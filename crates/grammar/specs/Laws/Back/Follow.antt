@@ -8,7 +8,7 @@ use native.Mathlib.Nat.{le-trans}
 use native.Mathlib.Omega.{arith}
 use lib.Dec.{eqb, ltb}
 use Rattle.token.specs.Kind
-use Rattle.operator.specs.Operator.{level-count, which-unary-op, which-binary-op, which-assignment-op, op-level, op-number, op-token, unary-code, unary-token, assign-code, assign-token, no-token}
+use Rattle.operator.specs.Operator.{level-count, which-binary-op, which-assignment-op, op-level, op-number, op-token, unary-code, unary-token, assign-code, assign-token, no-token}
 use Rattle.operator.specs.Laws.{op-far, unary-far, assign-far, near, op-token-number, unary-token-code, assign-token-code}
 use Rattle.operator.specs.Below.{equal-below, most-below}
 use borrow.Author.Tests.{ne-eqb, eq-eqb, eqb-false, leb-true}

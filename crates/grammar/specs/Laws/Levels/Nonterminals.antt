@@ -1,4 +1,4 @@
--- Every tree that a reading gives, cleanly or before errors that wait, is placed: a lemma for each nonterminal, and `depth-levels`, `stmt-levels`, `next-levels`.
+-- Every tree that a reading gives, cleanly or before errors that wait, is placed: a lemma for each nonterminal, and `stmt-levels`, `next-levels`.
 -- An operand is of the level 0, and an expression of the level l of no level above l. Assumes nothing.
 use mathlib.Core.Path.{_≡_, _∙_}
 use mathlib.Core.Bool.{Bool, true}
@@ -21,24 +21,25 @@ use Rattle.grammar.specs.Reading.Function.{Param, Params, variadic-param
 use Rattle.grammar.specs.Reading.Stmt.{loop, while-loop, lvalue-list, for-loop, stmt-label, stmt, control-value, control-flow, stmts}
 use Rattle.grammar.specs.Reading.Depth.{primary-expr, unary-expr, at-depth}
 use Rattle.grammar.specs.Reading.Next.{failed, next}
-use Rattle.grammar.specs.Laws.Keep.{Yields, k-ok, k-stop, k-weaken, k-on, k-tested}
+use Rattle.grammar.specs.Laws.Keep.{k-ok, k-stop, k-weaken, k-on, k-tested}
 use Rattle.grammar.specs.Laws.Levels.Placed.{Placed, All-placed, Within, p-none, p-unary, p-binary}
 use Rattle.grammar.specs.Laws.Levels.Parts.{parts, PlacedStmts, PlacedParam, PlacedParams, p-required, p-variadic, p-default}
-use Rattle.grammar.specs.Laws.Levels.Gives.{Any, Gives, gives, g-fail, g-past}
+use Rattle.grammar.specs.Laws.Levels.Gives.{Gives, gives, g-fail, g-past}
 use Rattle.grammar.specs.Laws.Levels.Patterns.{modified-placed, pattern-placed}
 
 -- what the readings with one depth less give
-pub record Levels (low : Depth) : Type 0 where
-  pub l-unary : Gives (Within 0) (low .unary)
-  pub l-right : Gives Placed (low .right)
-  pub l-list : (end : ℕ) → Gives PlacedStmts (low .list end)
+record PlacedDepth (low : Depth) : Type 0 where
+  g-unary : Gives (Within 0) (low .unary)
+  g-right : Gives Placed (low .right)
+  g-list : (end : ℕ) → Gives PlacedStmts (low .list end)
 
--- an operator that was read at the level of l + 1, over a left side of that level and a right side below it
+-- an operator that is read at a level has that level by its number too
 operator-level : (k l : ℕ) → eqb (op-level k) (suc l) ≡ true → number-level (op-number k) ≡ suc l
 operator-level k l h =
     let e : op-level k ≡ suc l = eqb-true (op-level k) (suc l) h in
     number-level-is k (omega arith) ∙ e
 
+-- the operators of the level l + 1, which group leftward: what stands right of one is of l or less
 module _ (operand : List Error → List ℕ → Res Tree) (l : ℕ) (h : Gives (Within l) operand) where
   operators-placed : (n : ℕ) {left : Tree} → Within (suc l) left → Gives (Within (suc l)) (operators operand (suc l) n left)
   unfolding operators
@@ -70,10 +71,10 @@ joined-placed ps k a b c p-required = search (gives, parts) depth 9
 joined-placed ps k a b c p-variadic = search (gives, parts) depth 9
 joined-placed ps k a b c (p-default h) = search (gives, parts) depth 9
 
-module _ (low : Depth) (L : Levels low) where
+module _ (low : Depth) (P : PlacedDepth low) where
   binop-placed : (l : ℕ) → Gives (Within l) (binop-expr low l)
   unfolding binop-expr
-  binop-placed zero q ts = L .l-unary q ts
+  binop-placed zero q ts = P .g-unary q ts
   binop-placed (suc l) q ts =
       k-on q (binop-placed l q ts) λ left q₁ r w.
       operators-placed (binop-expr low l) l (binop-placed l) (length r) (record { placed = w .placed; most = omega (arith, w .most) }) q₁ r
@@ -92,7 +93,7 @@ module _ (low : Depth) (L : Levels low) where
 
   expr-placed : Gives Placed (expr low)
   unfolding expr
-  expr-placed = search (gives, parts, tuple-placed, pattern-placed, L .l-right) depth 15
+  expr-placed = search (gives, parts, tuple-placed, pattern-placed, P .g-right) depth 15
 
   group-placed : Gives (Within 0) (group-expr low)
   unfolding group-expr
@@ -138,7 +139,7 @@ module _ (low : Depth) (L : Levels low) where
 
   body-placed : Gives PlacedStmts (body low)
   unfolding body
-  body-placed = search (gives, parts, L .l-list)
+  body-placed = search (gives, parts, P .g-list)
 
   block-expr-placed : (l : ℕ) → Gives (Within 0) (block-expr low l)
   unfolding block-expr
@@ -151,7 +152,7 @@ module _ (low : Depth) (L : Levels low) where
   branches-placed : (n : ℕ) (f : Forest) → All-placed f → Gives (Within 0) (branches low n f)
   unfolding branches
   branches-placed zero f g q ts = g-fail
-  branches-placed (suc n) f g q ts = search (gives, parts, expr-placed, body-placed, L .l-list, branches-placed n) depth 20
+  branches-placed (suc n) f g q ts = search (gives, parts, expr-placed, body-placed, P .g-list, branches-placed n) depth 20
 
   plain-placed : (v : ℕ) → Gives PlacedParam (plain-param low v)
   unfolding plain-param
@@ -221,25 +222,25 @@ module _ (low : Depth) (L : Levels low) where
 
   unary-placed : Gives (Within 0) (unary-expr low)
   unfolding unary-expr
-  unary-placed = search (gives, parts, primary-expr-placed, p-unary, L .l-unary) depth 9
+  unary-placed = search (gives, parts, primary-expr-placed, p-unary, P .g-unary) depth 9
 
-pub depth-levels : (d : ℕ) → Levels (at-depth d)
+depth-levels : (d : ℕ) → PlacedDepth (at-depth d)
 unfolding at-depth
-depth-levels zero = record { l-unary = λ q ts. k-stop; l-right = λ q ts. k-stop; l-list = λ end q ts. k-stop }
+depth-levels zero = record { g-unary = λ q ts. k-stop; g-right = λ q ts. k-stop; g-list = λ end q ts. k-stop }
 depth-levels (suc d) =
     record {
-      l-unary = unary-placed (at-depth d) (depth-levels d);
-      l-right = expr-placed (at-depth d) (depth-levels d);
-      l-list = λ end q ts. stmts-placed (at-depth d) (depth-levels d) end (length ts) none p-none q ts;
+      g-unary = unary-placed (at-depth d) (depth-levels d);
+      g-right = expr-placed (at-depth d) (depth-levels d);
+      g-list = λ end q ts. stmts-placed (at-depth d) (depth-levels d) end (length ts) none p-none q ts;
     }
 
-pub stmt-levels : (d : ℕ) (q : List Error) (ts : List ℕ) → Yields (λ t r. Placed t) Any (stmt (at-depth d) q ts)
+pub stmt-levels : (d : ℕ) → Gives Placed (stmt (at-depth d))
 stmt-levels d = stmt-placed (at-depth d) (depth-levels d)
 
 failed-placed : (d : ℕ) (e : Error) → Gives Placed (failed d e)
 unfolding failed
 failed-placed d e = search gives
 
-pub next-levels : (d : ℕ) (q : List Error) (ts : List ℕ) → Yields (λ t r. Placed t) Any (next d q ts)
+pub next-levels : (d : ℕ) → Gives Placed (next d)
 unfolding next
 next-levels d = search (gives, stmt-levels, failed-placed)

@@ -6,7 +6,6 @@ use borrow.Author.Tests.{eqb-true}
 use lib.Dec.{eqb}
 use Rattle.tree.specs.NodeKind
 use Rattle.tree.specs.Tree.{Tree, Forest, node, none, more, one}
-use Rattle.tree.specs.Node
 use Rattle.grammar.specs.Reading.Expr.{Stmts}
 use Rattle.grammar.specs.Reading.Primary.{with-action, list-members, arguments, with-path}
 use Rattle.grammar.specs.Reading.Block.{Split, whole, result, split-before, split-kids, split-last, split, block-split, block-of}
@@ -36,7 +35,7 @@ p-stmts f c = record { suite = f; control = c }
 pub p-params : {ps : Params} → All-placed (ps .required-list) → All-placed (ps .default-list) → Placed (ps .variadic-one) → PlacedParams ps
 p-params a b c = record { first = a; second = b; third = c }
 
--- an assignment with another action
+-- a group hands its action to an assignment
 pub with-action-placed : (m : ℕ) {t : Tree} → Placed t → Placed (with-action m t)
 with-action-placed zero h = h
 with-action-placed (suc a) {t = node k v f} h = go (eqb k NodeKind.Assignment) refl
@@ -45,15 +44,16 @@ with-action-placed (suc a) {t = node k v f} h = go (eqb k NodeKind.Assignment) r
     go true e = rw (eqb-true k NodeKind.Assignment e) (search (placing, p-children h))
     go false e = h
 
-members-placed : {f : Forest} → All-placed f → All-placed (list-members f)
-members-placed {f = none} g = p-none
-members-placed {f = more (node k v f) g} h = p-children (p-first h)
+-- a tuple's members are arguments, and anything else is one
+list-members-placed : {f : Forest} → All-placed f → All-placed (list-members f)
+list-members-placed {f = none} g = p-none
+list-members-placed {f = more (node k v f) g} h = p-children (p-first h)
 
 pub arguments-placed : {t : Tree} → Placed t → All-placed (arguments t)
 arguments-placed {t = node k v f} h = go (eqb k NodeKind.Tuple)
   where
     go : (b : Bool) → All-placed (cond b (list-members f) (one (node k v f)))
-    go true = members-placed (p-children h)
+    go true = list-members-placed (p-children h)
     go false = p-more h p-none
 
 -- an atom with its path, which is an operand as the atom is

@@ -1,7 +1,7 @@
 -- What a placed expression converts to is placed. Assumes nothing.
+use mathlib.Core.Path.{_≡_}
 use mathlib.Core.Bool.{Bool, true, false}
 use mathlib.Core.List.{List}
-use mathlib.Core.Path.{_≡_}
 use Prim.Native.Nat.{ℕ, zero, suc}
 use lib.Dec.{eqb, ltb}
 use Rattle.tree.specs.NodeKind
@@ -11,9 +11,9 @@ use Rattle.grammar.specs.Reading.Result.{Error}
 use Rattle.grammar.specs.Reading.Look.{expect-pattern}
 use Rattle.grammar.specs.Reading.Pattern.{Role, pattern, members, maybe, conv, all-conv, made, as-pattern, to-pattern, modified, grouped, over, listed, leaf, access, by-last, by-item, by-attribute, by-index, last-of, front-of}
 use Rattle.grammar.specs.Levels.{fits}
-use Rattle.grammar.specs.Laws.Keep.{Yields, k-ok, k-fail}
-use Rattle.grammar.specs.Laws.Levels.Placed.{Placed, All-placed, placing, p-none, p-more, p-node, p-children, p-first, p-later}
-use Rattle.grammar.specs.Laws.Levels.Gives.{Gives}
+use Rattle.grammar.specs.Laws.Keep.{Yields, k-ok}
+use Rattle.grammar.specs.Laws.Levels.Placed.{Placed, All-placed, placing, p-none, p-more, p-children, p-first, p-later}
+use Rattle.grammar.specs.Laws.Levels.Gives.{Any, Gives, g-fail}
 
 -- P holds of what an expression converts to, if it converts
 data Holds? {A : Type 0} (P : A → Type 0) : Maybe A → Type 0 where
@@ -119,6 +119,6 @@ pub pattern-placed : (e : Error) {t : Tree} → Placed t → Gives Placed (expec
 unfolding expect-pattern
 pattern-placed e {t} h q ts = go (to-pattern t) (convert-placed t pattern h)
   where
-    go : (m : Maybe Tree) → Holds? Placed m → Yields (λ p r. Placed p) (λ e r. Unit {0}) (expect-pattern e m q ts)
-    go nothing none-held = k-fail tt
+    go : (m : Maybe Tree) → Holds? Placed m → Yields (λ p r. Placed p) Any (expect-pattern e m q ts)
+    go nothing none-held = g-fail
     go (just p) (held x) = k-ok x

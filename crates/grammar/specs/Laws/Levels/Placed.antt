@@ -6,9 +6,9 @@ use mathlib.Core.List.{List, [], _∷_}
 use Prim.Native.Nat.{ℕ, suc, _≤_, _<_}
 use native.Mathlib.Omega.{arith}
 use borrow.Author.Tests.{eqb-true, leb-true, ltb-true, eq-eqb, le-leb, lt-ltb}
-use lib.Dec.{eqb, leb, ltb}
+use lib.Dec.{leb, ltb}
 use Rattle.operator.specs.Operator.{number-level}
-use Rattle.tree.specs.Tree.{Tree, Forest, node, none, more, one, two, snoc}
+use Rattle.tree.specs.Tree.{Tree, Forest, node, none, more, snoc}
 use Rattle.tree.specs.Node
 use Rattle.tree.specs.Records.{Small, Smalls}
 use Rattle.grammar.specs.Levels.{In, InAny, itself, under, in-first, in-later, Ordered, level, fits}
@@ -31,6 +31,7 @@ unfoldable mutual
   forest-fits none = true
   forest-fits (more t f) = tree-fits t && forest-fits f
 
+-- what each reading keeps of the trees that it puts together
 pub record Placed (t : Tree) : Type 0 where
   pub small : Small t
   pub fit : tree-fits t ≡ true
@@ -65,15 +66,15 @@ made k v l e g = record { small = (ltb-true k 256 l, g .smalls); fit = both (g .
 pub p-node : (k v : ℕ) {f : Forest} → ltb k 256 ≡ true → ((v : ℕ) (children : List ℕ) → fits k v children ≡ true) → All-placed f → Placed (node k v f)
 p-node k v {f} l e g = made k v l (e v (levels f [])) g
 
+-- operators, by the levels of what stands under them
 pub p-unary : (op : ℕ) {t : Tree} → Placed t → level-of t ≡ 0 → Placed (Node.unary-op op t)
 p-unary op {t} h e = made _ op refl (eq-eqb (level-of t) 0 e) (p-more h p-none)
 
 pub p-binary : {l : ℕ} (op : ℕ) {a b : Tree} → number-level op ≡ suc l → Within (suc l) a → Within l b → Within (suc l) (Node.binary-op op a b)
 p-binary op {a} {b} e g h =
-    record {
-      placed = made _ op refl (both (le-leb (level-of a) (number-level op) (omega (arith, g .most))) (lt-ltb (level-of b) (number-level op) (omega (arith, h .most)))) (p-more (g .placed) (p-more (h .placed) p-none));
-      most = omega arith;
-    }
+    let left = le-leb (level-of a) (number-level op) (omega (arith, g .most)) in
+    let right = lt-ltb (level-of b) (number-level op) (omega (arith, h .most)) in
+    record { placed = made _ op refl (both left right) (p-more (g .placed) (p-more (h .placed) p-none)); most = omega arith }
 
 -- what is no binary operator is an operand
 pub p-operand : {t : Tree} → Placed t → level-of t ≡ 0 → Within 0 t
@@ -103,7 +104,7 @@ unfolding snoc
 p-snoc {f = none} g h = p-more h p-none
 p-snoc {f = more u f} g h = p-more (p-first g) (p-snoc (p-later g) h)
 
--- a placed tree is ordered: so is each of its nodes with what stands under it
+-- each node of a placed tree is placed, with what stands under it
 
 mutual
   p-in : {u t : Tree} → In u t → Placed t → Placed u
@@ -114,7 +115,7 @@ mutual
   p-in-any (in-first i) g = p-in i (p-first g)
   p-in-any (in-later i) g = p-in-any i (p-later g)
 
--- an operator's sides, and what a unary operator is over
+-- so what stands under an operator is as document 02 says
 
 sides : {op : ℕ} {a b : Tree} → Placed (Node.binary-op op a b) → (level-of a ≤ number-level op) × (level-of b < number-level op)
 sides {op} {a} {b} h =
