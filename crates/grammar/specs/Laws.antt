@@ -22,6 +22,7 @@ pub mod Unmet
 pub mod Waits
 pub mod Numbers
 pub mod Top
+pub mod Levels
 pub mod Returned
 pub mod Clean
 pub mod Back

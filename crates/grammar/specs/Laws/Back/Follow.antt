@@ -8,32 +8,13 @@ use native.Mathlib.Nat.{le-trans}
 use native.Mathlib.Omega.{arith}
 use lib.Dec.{eqb, ltb}
 use Rattle.token.specs.Kind
-use Rattle.operator.specs.Operator.{level-count, which-unary-op, which-binary-op, which-assignment-op, op-level, op-number, op-token, unary-code, unary-token, assign-code, assign-token, no-token}
-use Rattle.operator.specs.Laws.{op-token-number, unary-token-code, assign-token-code}
+use Rattle.operator.specs.Operator.{level-count, which-binary-op, which-assignment-op, op-level, op-number, op-token, unary-code, unary-token, assign-code, assign-token, no-token}
+use Rattle.operator.specs.Laws.{op-far, unary-far, assign-far, near, op-token-number, unary-token-code, assign-token-code}
 use Rattle.operator.specs.Below.{equal-below, most-below}
 use borrow.Author.Tests.{ne-eqb, eq-eqb, eqb-false, leb-true}
 use Rattle.grammar.specs.Laws.Facts.{and-l, and-r}
 
 -- operators are kinds of symbols
-far : {k : ℕ} → 76 ≤ k → (c : ℕ) → ltb c 76 ≡ true → eqb k c ≡ false
-far {k} h c l = let g = leb-true (suc c) 76 l in ne-eqb k c (omega arith)
-
-op-far : {k : ℕ} → 76 ≤ k → op-level k ≡ 0
-unfolding op-level which-binary-op
-op-far h = simp (far h)
-
-unary-far : {k : ℕ} → 76 ≤ k → unary-code k ≡ 0
-unfolding unary-code which-unary-op
-unary-far h = simp (far h)
-
-assign-far : {k : ℕ} → 76 ≤ k → assign-code k ≡ 0
-unfolding assign-code which-assignment-op
-assign-far h = simp (far h)
-
--- a code that is none from 76 on is that of a symbol
-near : (n k : ℕ) → (76 ≤ k → n ≡ 0) → n ≢ 0 → k < 76
-near n k h p = let f : ¬ (76 ≤ k) = λ l. p (h l) in omega arith
-
 pub op-kind : (k : ℕ) {l : ℕ} → op-level k ≡ suc l → (k < 76) × (op-token (op-number k) ≡ k)
 op-kind k e =
     let h = near (op-level k) k op-far (omega arith) in

@@ -1,0 +1,54 @@
+-- The scan of a tree's records says as much as the tree does: `placed-in-order`, `in-order-placed`. Assumes nothing.
+use mathlib.Core.Path.{_≡_, refl, sym, _∙_}
+use mathlib.Core.Bool.{true, _&&_, and-assoc, and-true}
+use mathlib.Core.List.{List, [], _∷_, _++_, append-assoc, append-nil}
+use Prim.Native.Nat.{ℕ, _+_, _*_, _/_, _%_}
+use native.Mathlib.Omega.{arith}
+use lib.ListN.{length, take, drop}
+use lib.Seq.{take-at, drop-at}
+use Rattle.tree.specs.Tree.{Tree, Forest, node, none, more, count, records, all-records}
+use Rattle.tree.specs.Records.{Small, Smalls}
+use Rattle.grammar.specs.Levels.{fits, in-order}
+use Rattle.grammar.specs.Laws.Levels.Placed.{level-of, levels, tree-fits, forest-fits, Placed}
+
+-- the levels of a node's children are those that its record takes off
+
+levels-on : (f : Forest) (before : List ℕ) → levels f before ≡ levels f [] ++ before
+levels-on none before = refl
+levels-on (more t f) before = levels-on f (level-of t ∷ before) ∙ rw (levels-on f (level-of t ∷ []), append-assoc)
+
+levels-length : (f : Forest) (before : List ℕ) → length (levels f before) ≡ count f + length before
+unfolding count
+levels-length none before = omega arith
+levels-length (more t f) before = omega (arith, levels-length f (level-of t ∷ before))
+
+module _ (f : Forest) (before : List ℕ) where
+  children-taken : take (count f) (levels f before) ≡ levels f []
+  children-taken = rw levels-on (take-at (levels f []) before (count f) (omega (arith, levels-length f [])))
+
+  children-dropped : drop (count f) (levels f before) ≡ before
+  children-dropped = rw levels-on (drop-at (levels f []) before (count f) (omega (arith, levels-length f [])))
+
+mutual
+  unfolding records Small tree-fits in-order
+
+  in-order-tree : (t : Tree) → Small t → (r before : List ℕ) → in-order before (records t ++ r) ≡ tree-fits t && in-order (level-of t ∷ before) r
+  in-order-tree (node k v f) = λ h r before.
+      let kind : (k + 256 * count f) % 256 ≡ k = omega arith in
+      let many : (k + 256 * count f) / 256 ≡ count f = omega arith in
+      rw append-assoc (in-order-forest f (h .1) ((k + 256 * count f) ∷ v ∷ r) before ∙ rw (kind, many, children-taken, children-dropped) (sym (and-assoc (forest-fits f) (fits k v (levels f [])) _)))
+
+  in-order-forest : (f : Forest) → Smalls f → (r before : List ℕ) → in-order before (all-records f ++ r) ≡ forest-fits f && in-order (levels f before) r
+  in-order-forest none = λ h r before. refl
+  in-order-forest (more t f) = λ h r before.
+      rw append-assoc (in-order-tree t (h .0) (all-records f ++ r) before ∙ rw (in-order-forest f (h .1) r (level-of t ∷ before)) (sym (and-assoc (tree-fits t) (forest-fits f) _)))
+
+scan-is : (t : Tree) → Small t → in-order [] (records t) ≡ tree-fits t
+unfolding in-order
+scan-is t h = rw (← append-nil (records t)) (in-order-tree t h [] []) ∙ and-true (tree-fits t)
+
+pub placed-in-order : {t : Tree} → Placed t → in-order [] (records t) ≡ true
+placed-in-order {t} h = scan-is t (h .small) ∙ h .fit
+
+pub in-order-placed : {t : Tree} → Small t → in-order [] (records t) ≡ true → Placed t
+in-order-placed {t} h e = record { small = h; fit = sym (scan-is t h) ∙ e }
