@@ -19,7 +19,7 @@ use Rattle.grammar.specs.Reading.Look.{look, try-label}
 use Rattle.grammar.specs.Reading.Expr.{Depth, expr}
 use Rattle.grammar.specs.Reading.Block.{whole}
 use Rattle.grammar.specs.Reading.Stmt.{ends, control-value, is-control, control-flow, starts-stmt, synchronize, synchronized, caught}
-use Rattle.grammar.specs.Laws.Holds.{Holds, h-ok, holds-past, holds-if}
+use Rattle.grammar.specs.Laws.Keep.{Holds, k-ok, k-any, k-if}
 use Rattle.scan.specs.Post.{As, no-words, Agrees, Taken, Missed, Resumes, waiting-errors}
 use Rattle.scan.specs.declared.Failure.{Failure}
 use Rattle.scan.specs.declared.Step.{Step}
@@ -176,6 +176,6 @@ Some t = kind-of t ≡ NodeKind.Absent → ⊥
 pub control-held : (low : Depth) (k : ℕ) (q : List Error) (ts : List ℕ) → Holds Some (control-flow low k q ts)
 unfolding control-flow
 control-held low k q ts =
-    holds-if _ (λ _. holds-past q (try-label q ts) λ l q₁ r. h-ok (λ e. omega arith)) λ _. holds-if _
-    (λ _. holds-past q (try-label q ts) λ l q₁ r. holds-past q₁ (control-value low q₁ r) λ e q₂ s. h-ok (λ e. omega arith))
-    (λ _. holds-past q (control-value low q ts) λ e q₁ r. h-ok (λ e. omega arith))
+    k-if _ (λ _. k-any q (try-label q ts) λ l q₁ r. k-ok (λ e. omega arith)) λ _. k-if _
+    (λ _. k-any q (try-label q ts) λ l q₁ r. k-any q₁ (control-value low q₁ r) λ e q₂ s. k-ok (λ e. omega arith))
+    (λ _. k-any q (control-value low q ts) λ e q₁ r. k-ok (λ e. omega arith))

@@ -13,8 +13,9 @@ use Rattle.tree.specs.NodeKind
 use Rattle.tree.specs.Maybe.{Maybe, nothing, just}
 use Rattle.tree.specs.Tree.{Tree, Forest, node, none, more, count, records, kind-of}
 use Rattle.tree.specs.Node
-use Rattle.grammar.specs.Laws.Holds.{Holds, h-ok, h-fail, holds-then, holds-past, holds-if}
-use Rattle.grammar.specs.Laws.Kinds.{depth-small, atom-small, path-small}
+use Rattle.grammar.specs.Laws.Keep.{Holds, k-ok, k-failed, k-on, k-any, k-if, k-tested}
+use Rattle.grammar.specs.Laws.Levels.Placed.{p-none}
+use Rattle.grammar.specs.Laws.Levels.Nonterminals.{depth-levels, atom-placed, path-placed}
 use Rattle.grammar.specs.Reading.Number
 use Rattle.grammar.specs.Reading.Result.{Res, ok, then, ifb, Error}
 use Rattle.grammar.specs.Reading.Look.{expect, expect-pattern}
@@ -25,7 +26,7 @@ use Rattle.grammar.specs.Reading.Primary.{atom, path, with-path, literal}
 use Rattle.grammar.specs.Reading.Block.{body, block-of}
 use Rattle.grammar.specs.Reading.Function.{Params, function-param-list, function-def, function-assignment-target, target-name, function-decl-expr}
 use Rattle.grammar.specs.Reading.Depth.{at-depth}
-use Rattle.grammar.specs.Laws.Parts.{with-path-small, nothing-small}
+use Rattle.grammar.specs.Laws.Levels.Parts.{with-path-placed}
 use Rattle.pattern.specs.Contract.{Whole}
 use Rattle.nodes.specs.Parts.{signature-words, path-words}
 use Rattle.scan.specs.Post.{clean, Wrote, Taken, waiting-errors}
@@ -70,7 +71,7 @@ module _ (d : ℕ) where
       let o₂ = h .room in
       let e : take at S₂ ≡ take at S = shorter S₂ S₁ at a (o .up) (prefix h j) ∙ prefix g i in
       record {
-        small = with-path-small (g .what) (h .what) (given (atom-small (at-depth d) (depth-small d) _ _) (g .same)) (given (path-small (at-depth d) (depth-small d) false _ none _ _ nothing-small) (h .same));
+        small = with-path-placed (h .what) (given (atom-placed (at-depth d) (depth-levels d) _ _) (g .same) .placed) (given (path-placed (at-depth d) (depth-levels d) false _ none p-none _ _) (h .same)) .small;
         text = h .text ∙ ap (λ (y : List ℕ). y ++ path-words (h .what)) (g .text) ∙ append-assoc (take at S) (records (g .what)) (path-words (h .what)) ∙ rw (e, path-text (g .what) (h .what));
         start = omega arith;
         within = k;
@@ -103,17 +104,12 @@ data Named (k v : ℕ) : Tree → Type 0 where
   the-name : k ≡ Kind.Identifier → Named k v (Node.identifier v)
   no-name : {j x : ℕ} → to-pattern (node j x none) ≡ nothing → Named k v (node j x none)
 
-holds-test : {A : Type 0} {P : A → Type 0} (b : Bool) {x y : Unit {0} → Res A} → (b ≡ true → (u : Unit {0}) → Holds P (x u)) → ((u : Unit {0}) → Holds P (y u)) → Holds P (ifb b x y)
-unfolding ifb
-holds-test true f g = f refl tt
-holds-test false f g = g tt
-
 literal-named : (tok : Token) (q : List Error) (rest : List ℕ) → Holds (Named (tok .kind) (tok .value)) (literal tok q rest)
 unfolding literal conv
 literal-named tok q rest =
-    holds-test _ (λ e u. h-ok (the-name (eqb-true _ _ e))) λ _.
-    holds-if _ (λ _. h-ok (no-name refl)) λ _. holds-if _ (λ _. h-ok (no-name refl)) λ _. holds-if _ (λ _. h-ok (no-name refl)) λ _.
-    holds-if _ (λ _. h-ok (no-name refl)) λ _. holds-if _ (λ _. h-ok (no-name refl)) λ _. holds-if _ (λ _. h-ok (no-name refl)) λ _. h-fail
+    k-tested _ (λ u e. k-ok (the-name (eqb-true _ _ e))) λ _ e.
+    k-if _ (λ _. k-ok (no-name refl)) λ _. k-if _ (λ _. k-ok (no-name refl)) λ _. k-if _ (λ _. k-ok (no-name refl)) λ _.
+    k-if _ (λ _. k-ok (no-name refl)) λ _. k-if _ (λ _. k-ok (no-name refl)) λ _. k-if _ (λ _. k-ok (no-name refl)) λ _. k-failed
 
 atom-named : (low : Depth) (q : List Error) {T : List ℕ} {pos k n v : ℕ} → Taken T pos k n v → (k ≡ Kind.OpenParen → ⊥) → Holds (Named k v) (atom low q (drop pos T))
 unfolding atom then ifb
@@ -139,8 +135,8 @@ path-other a i f = item-other (receiver 0 a 0 (front-of i f)) (last-of i f)
 
 expect-other : {k v : ℕ} (e : ℕ) (m : Maybe Tree) (q : List Error) (ts : List ℕ) → Other m → Holds (Names k v) (expect-pattern e m q ts)
 unfolding expect-pattern
-expect-other e nothing q ts is-none = h-fail
-expect-other e (just t) q ts (is-other h) = h-ok (λ x. absurd (h x))
+expect-other e nothing q ts is-none = k-failed
+expect-other e (just t) q ts (is-other h) = k-ok (λ x. absurd (h x))
 
 name-pattern : (v : ℕ) → to-pattern (Node.identifier v) ≡ just (node NodeKind.IdentifierPattern v none)
 unfolding conv
@@ -148,11 +144,11 @@ name-pattern v = refl
 
 expect-name : {k v : ℕ} (e : ℕ) (m : Maybe Tree) (q : List Error) (ts : List ℕ) → k ≡ Kind.Identifier → m ≡ just (node NodeKind.IdentifierPattern v none) → Holds (Names k v) (expect-pattern e m q ts)
 unfolding expect-pattern
-expect-name e m q ts i j = rw j (h-ok (λ x. (i, refl)))
+expect-name e m q ts i j = rw j (k-ok (λ x. (i, refl)))
 
 expect-none : {k v : ℕ} (e : ℕ) (m : Maybe Tree) (q : List Error) (ts : List ℕ) → m ≡ nothing → Holds (Names k v) (expect-pattern e m q ts)
 unfolding expect-pattern
-expect-none e m q ts j = rw j h-fail
+expect-none e m q ts j = rw j k-failed
 
 pattern-named : {k v : ℕ} (e : ℕ) (a : Tree) (f : Forest) (q : List Error) (ts : List ℕ) → Named k v a → Holds (Names k v) (expect-pattern e (to-pattern (with-path a f)) q ts)
 pattern-named {k} {v} e a none q ts (the-name i) = expect-name e _ q ts i (name-pattern v)
@@ -161,4 +157,4 @@ pattern-named e a (more i f) q ts h = expect-other e _ q ts (path-other a i f)
 
 pub target-named : (low : Depth) (q : List Error) {T : List ℕ} {pos k n v : ℕ} → Taken T pos k n v → (k ≡ Kind.OpenParen → ⊥) → Holds (Names k v) (function-assignment-target low q (drop pos T))
 unfolding function-assignment-target
-target-named low q at e = holds-then q (atom-named low q at e) λ a q₁ r x. holds-past q₁ (path low false (length r) none q₁ r) λ f q₂ s. pattern-named _ a f q₂ s x
+target-named low q at e = k-on q (atom-named low q at e) λ a q₁ r x. k-any q₁ (path low false (length r) none q₁ r) λ f q₂ s. pattern-named _ a f q₂ s x

@@ -12,7 +12,7 @@ use Rattle.token.specs.declared.Token.{Token}
 use Rattle.tree.specs.Tree.{Tree, Forest, none, more, one, snoc, count, records}
 use Rattle.tree.specs.Node
 use Rattle.tree.specs.Store.{Emitted}
-use Rattle.grammar.specs.Laws.Holds.{Holds, h-ok, h-fail, holds-then, holds-past, holds-if}
+use Rattle.grammar.specs.Laws.Keep.{Holds, k-ok, k-failed, k-on, k-any, k-if}
 use Rattle.grammar.specs.Reading.Result.{Res, ok, then, ifb, Error}
 use Rattle.grammar.specs.Reading.Look.{look}
 use Rattle.grammar.specs.Reading.Expr.{Depth, expr}
@@ -153,7 +153,7 @@ default-text at a a₁ m n v S₀ S S₁ ps x fits e g =
 -- what joins as a default is one
 joins-default : (ps : Params) (x : ℕ) (e : Tree) (q : List Error) (ts : List ℕ) → Holds (λ p. p ≡ with-default ps x e) (join ps (default x e) q ts)
 unfolding join joined
-joins-default ps x e q ts = holds-past q (look q ts) λ tok q₁ rest. holds-then q (holds-if _ (λ _. h-ok refl) (λ _. h-fail)) λ ps₂ q₂ s z. holds-if _ (λ _. h-ok z) (λ _. h-ok z)
+joins-default ps x e q ts = k-any q (look q ts) λ tok q₁ rest. k-on q (k-if _ (λ _. k-ok refl) (λ _. k-failed)) λ ps₂ q₂ s z. k-if _ (λ _. k-ok z) (λ _. k-ok z)
 
 join-default : (ps : Params) (x : ℕ) (e : Tree) (q : List Error) (ts r : List ℕ) (ps₂ : Params) → join ps (default x e) q ts ≡ ok ps₂ r → ps₂ ≡ with-default ps x e
 join-default ps x e q ts r ps₂ i = given (joins-default ps x e q ts) (way q i)

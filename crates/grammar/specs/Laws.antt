@@ -14,10 +14,6 @@ pub mod Sound
 pub mod Small
 pub mod Length
 pub mod Append
-pub mod Holds
-pub mod Converted
-pub mod Parts
-pub mod Kinds
 pub mod Unmet
 pub mod Waits
 pub mod Numbers

@@ -16,9 +16,12 @@ pub data Yields {A : Type 0} (P : A → List ℕ → Type 0) (J : Error → List
   k-fail : {e : Error} {q : List Error} {r : List ℕ} → J e r → Yields P J (fail e q r)
   k-stop : {n : ℕ} → Yields P J (stop n)
 
--- of a success alone
+-- of a success alone, and of what it gives alone
 abbrev pub Success : {A : Type 0} → (A → List ℕ → Type 0) → Res A → Type 0
 Success P = Yields P (λ e r. Unit {0})
+
+abbrev pub Holds : {A : Type 0} → (A → Type 0) → Res A → Type 0
+Holds P = Success (λ a r. P a)
 
 -- of the words alone: of what a success leaves I holds
 abbrev pub Keep : {A : Type 0} → (List ℕ → Type 0) → (Error → List ℕ → Type 0) → Res A → Type 0
@@ -96,7 +99,10 @@ module _ {B : Type 0} {P : B → List ℕ → Type 0} {J : Error → List ℕ �
   k-front [] f = k-stop
   k-front (e ∷ q) f = f e q
 
--- of a success behind any reading
+-- of a success nothing is asked where there is none, and nothing of the reading before it
+pub k-failed : {A : Type 0} {P : A → List ℕ → Type 0} {e : Error} {q : List Error} {r : List ℕ} → Success P (fail e q r)
+k-failed = k-fail tt
+
 pub k-any : {A B : Type 0} {P : B → List ℕ → Type 0} (q : List Error) (d : Res A) {go : A → List Error → List ℕ → Res B} → ((a : A) (q : List Error) (r : List ℕ) → Success P (go a q r)) → Success P (then q d go)
 k-any q d f = k-on {M = λ a r. Unit {0}} q (k-all (λ a r. tt) (λ e r. tt) d) (λ a q r u. f a q r)
 

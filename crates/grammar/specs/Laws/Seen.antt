@@ -11,7 +11,7 @@ use Rattle.token.specs.declared.Seen.the-variants.{Good, LexerError, Bad}
 use Rattle.grammar.specs.Reading.Result.{Error}
 use Rattle.grammar.specs.Reading.Look.{looked, look}
 use Rattle.grammar.specs.Laws.Facts.{other, and-r}
-use Rattle.grammar.specs.Laws.Keep.{Success, k-ok, k-fail, k-stop}
+use Rattle.grammar.specs.Laws.Keep.{Success, k-ok, k-failed, k-stop}
 use Rattle.grammar.specs.Laws.Post.{Post, post-success}
 
 -- the kind of the first token, and 77 where there is none
@@ -30,14 +30,14 @@ unfolding looked
 looked-seen q rest ts k n v h = go (token-fits k n v) refl (eqb k Kind.LexerError)
   where
     go : (b : Bool) → token-fits k n v ≡ b → (c : Bool) → Success (Saw ts) (looked q rest (cond b (cond c LexerError (Good (record { kind = k; newline = n; value = v }))) Bad))
-    go true e true = k-fail tt
+    go true e true = k-failed
     go true e false = k-ok (record { at = h; fits = and-r (leb k Kind.LexerError && leb n 1) (value-fits k v) e })
     go false e c = k-stop
 
 pub look-seen : (q : List Error) (ts : List ℕ) → Success (Saw ts) (look q ts)
 unfolding look
-look-seen q [] = k-fail tt
-look-seen q (w ∷ []) = k-fail tt
+look-seen q [] = k-failed
+look-seen q (w ∷ []) = k-failed
 look-seen q (w ∷ (v ∷ r)) = looked-seen q r (w ∷ v ∷ r) (w % 256) (w / 256) v refl
 
 pub look-saw : (q : List Error) (ts : List ℕ) → Post (Saw ts) (look q ts)

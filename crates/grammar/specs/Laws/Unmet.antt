@@ -16,10 +16,10 @@ use Rattle.grammar.specs.Reading.Primary.{group-expr, literal, atom, wit
 use Rattle.grammar.specs.Reading.Function.{Param, required, variadic, default, Params, variadic-param, plain-param, param, joined, params}
 use Rattle.grammar.specs.Reading.Depth.{at-depth}
 use Rattle.grammar.specs.Laws.Facts.{clash, or-true}
-use Rattle.grammar.specs.Laws.Keep.{Success, k-ok, k-fail, k-stop, k-on, k-any, k-if, k-tested}
+use Rattle.grammar.specs.Laws.Keep.{Success, k-ok, k-failed, k-stop, k-on, k-any, k-if, k-tested}
 use Rattle.grammar.specs.Laws.Seen.{kind-at, look-seen, isnt, not-at, is-at, NotComma}
 
-ruleset successes = (k-ok, k-fail, k-any, k-if)
+ruleset successes = (k-ok, k-failed, k-any, k-if)
 
 -- 24
 abbrev pub NoUnpack : Tree → Type 0
@@ -48,7 +48,7 @@ primary-no-unpack low q ts = k-on q (atom-no-unpack low q ts) λ a q₁ r h. sea
 -- 28
 pub params-close : (low : Depth) (n : ℕ) (ps : Params) (q : List Error) (ts : List ℕ) → Success (λ ps r. eqb (kind-at r) Kind.CloseParen ≡ true) (params low n ps q ts)
 unfolding params
-params-close low zero ps q ts = k-fail tt
+params-close low zero ps q ts = k-failed
 params-close low (suc n) ps q ts =
     k-on q (look-seen q ts) λ tok q₁ rest s. k-tested _ (λ _ e. k-ok (is-at s Kind.CloseParen e)) (λ _ e. search (successes, params-close low n) depth 9)
 
@@ -58,7 +58,7 @@ NoCommaBehind low = (q : List Error) (ts : List ℕ) → Success (λ t r. NotCom
 
 members-end : (low : Depth) (n : ℕ) (f : Forest) (q : List Error) (ts : List ℕ) → Success (λ t r. NotComma r) (members low n f q ts)
 unfolding members
-members-end low zero f q ts = k-fail tt
+members-end low zero f q ts = k-failed
 members-end low (suc n) f q ts =
     k-on q (look-seen q ts) λ tok q₁ rest s. k-tested _
     (λ _ e. k-on q (look-seen q rest) λ tok₂ q₂ rest₂ s₂. k-tested _ (λ _ c. k-ok (isnt s₂ Kind.CloseParen Kind.Comma c refl)) (λ _ c. search (successes, members-end low n)))
@@ -110,4 +110,4 @@ pub joined-in-order : (ps : Params) (p : Param) (r : List ℕ) (k : ℕ) (q : Li
 unfolding joined
 joined-in-order ps (required v) r k q ts h e x = search (successes, inl) depth 9
 joined-in-order ps (variadic v) r k q ts h e x = search (successes, inl) depth 9
-joined-in-order ps (default v t) r k q ts h e x = k-tested _ (λ _ c. k-ok (inr (closes k c (rw e x)))) (λ _ c. k-fail tt)
+joined-in-order ps (default v t) r k q ts h e x = k-tested _ (λ _ c. k-ok (inr (closes k c (rw e x)))) (λ _ c. k-failed)

@@ -1,4 +1,4 @@
--- Every tree that a reading gives, cleanly or before errors that wait, is placed: a lemma for each nonterminal, and `stmt-levels`, `next-levels`.
+-- Every tree that a reading gives, cleanly or before errors that wait, is placed: a lemma for each nonterminal, and `depth-levels`, `next-levels`.
 -- An operand is of the level 0, and an expression of the level l of no level above l. Assumes nothing.
 use mathlib.Core.Path.{_≡_, _∙_}
 use mathlib.Core.Bool.{Bool, true}
@@ -21,14 +21,14 @@ use Rattle.grammar.specs.Reading.Function.{Param, Params, variadic-param
 use Rattle.grammar.specs.Reading.Stmt.{loop, while-loop, lvalue-list, for-loop, stmt-label, stmt, control-value, control-flow, stmts}
 use Rattle.grammar.specs.Reading.Depth.{primary-expr, unary-expr, at-depth}
 use Rattle.grammar.specs.Reading.Next.{failed, next}
-use Rattle.grammar.specs.Laws.Keep.{k-ok, k-stop, k-weaken, k-on, k-tested}
+use Rattle.grammar.specs.Laws.Keep.{k-ok, k-failed, k-stop, k-weaken, k-on, k-any, k-tested}
 use Rattle.grammar.specs.Laws.Levels.Placed.{Placed, All-placed, Within, p-none, p-unary, p-binary}
 use Rattle.grammar.specs.Laws.Levels.Parts.{parts, PlacedStmts, PlacedParam, PlacedParams, p-required, p-variadic, p-default}
-use Rattle.grammar.specs.Laws.Levels.Gives.{Gives, gives, g-fail, g-past}
+use Rattle.grammar.specs.Laws.Levels.Gives.{Gives, gives}
 use Rattle.grammar.specs.Laws.Levels.Patterns.{modified-placed, pattern-placed}
 
 -- what the readings with one depth less give
-record PlacedDepth (low : Depth) : Type 0 where
+pub record PlacedDepth (low : Depth) : Type 0 where
   g-unary : Gives (Within 0) (low .unary)
   g-right : Gives Placed (low .right)
   g-list : (end : ℕ) → Gives PlacedStmts (low .list end)
@@ -43,9 +43,9 @@ operator-level k l h =
 module _ (operand : List Error → List ℕ → Res Tree) (l : ℕ) (h : Gives (Within l) operand) where
   operators-placed : (n : ℕ) {left : Tree} → Within (suc l) left → Gives (Within (suc l)) (operators operand (suc l) n left)
   unfolding operators
-  operators-placed zero w q ts = g-fail
+  operators-placed zero w q ts = k-failed
   operators-placed (suc n) w q ts =
-      g-past q (look q ts) λ tok q₁ rest. k-tested _
+      k-any q (look q ts) λ tok q₁ rest. k-tested _
       (λ u e. k-on q (h q rest) λ right q₂ r x. operators-placed n (p-binary _ (operator-level (tok .kind) l e) w x) q₂ r)
       (λ u e. k-ok w)
 
@@ -84,14 +84,14 @@ module _ (low : Depth) (P : PlacedDepth low) where
 
   members-placed : (n : ℕ) (f : Forest) → All-placed f → Gives Placed (members low n f)
   unfolding members
-  members-placed zero f g q ts = g-fail
+  members-placed zero f g q ts = k-failed
   members-placed (suc n) f g q ts = search (gives, parts, inner-placed, members-placed n) depth 15
 
-  tuple-placed : Gives Placed (tuple-expr low)
+  pub tuple-placed : Gives Placed (tuple-expr low)
   unfolding tuple-expr
   tuple-placed = search (gives, parts, inner-placed, members-placed) depth 15
 
-  expr-placed : Gives Placed (expr low)
+  pub expr-placed : Gives Placed (expr low)
   unfolding expr
   expr-placed = search (gives, parts, tuple-placed, pattern-placed, P .g-right) depth 15
 
@@ -99,7 +99,7 @@ module _ (low : Depth) (P : PlacedDepth low) where
   unfolding group-expr
   group-placed = search (gives, parts, expr-placed) depth 15
 
-  atom-placed : Gives (Within 0) (atom low)
+  pub atom-placed : Gives (Within 0) (atom low)
   unfolding atom
   atom-placed = search (gives, group-placed, literal-placed)
 
@@ -117,19 +117,19 @@ module _ (low : Depth) (P : PlacedDepth low) where
 
   items-placed : (n : ℕ) (f : Forest) → All-placed f → Gives All-placed (table-items low n f)
   unfolding table-items
-  items-placed zero f g q ts = g-fail
+  items-placed zero f g q ts = k-failed
   items-placed (suc n) f g q ts = search (gives, parts, item-placed, items-placed n) depth 15
 
   invocation-placed : Gives Placed (invocation low)
   unfolding invocation
   invocation-placed = search (gives, parts, expr-placed) depth 15
 
-  path-placed : (calls : Bool) (n : ℕ) (f : Forest) → All-placed f → Gives All-placed (path low calls n f)
+  pub path-placed : (calls : Bool) (n : ℕ) (f : Forest) → All-placed f → Gives All-placed (path low calls n f)
   unfolding path
-  path-placed calls zero f g q ts = g-fail
+  path-placed calls zero f g q ts = k-failed
   path-placed calls (suc n) f g q ts = search (gives, parts, member-placed, indexing-placed, invocation-placed, items-placed, path-placed calls n) depth 15
 
-  primary-placed : Gives (Within 0) (primary low)
+  pub primary-placed : Gives (Within 0) (primary low)
   unfolding primary
   primary-placed = search (gives, parts, atom-placed, path-placed)
 
@@ -151,7 +151,7 @@ module _ (low : Depth) (P : PlacedDepth low) where
 
   branches-placed : (n : ℕ) (f : Forest) → All-placed f → Gives (Within 0) (branches low n f)
   unfolding branches
-  branches-placed zero f g q ts = g-fail
+  branches-placed zero f g q ts = k-failed
   branches-placed (suc n) f g q ts = search (gives, parts, expr-placed, body-placed, P .g-list, branches-placed n) depth 20
 
   plain-placed : (v : ℕ) → Gives PlacedParam (plain-param low v)
@@ -164,14 +164,14 @@ module _ (low : Depth) (P : PlacedDepth low) where
 
   params-placed : (n : ℕ) (ps : Params) → All-placed (ps .required-list) → All-placed (ps .default-list) → Placed (ps .variadic-one) → Gives PlacedParams (params low n ps)
   unfolding params
-  params-placed zero ps a b c q ts = g-fail
+  params-placed zero ps a b c q ts = k-failed
   params-placed (suc n) ps a b c q ts = search (gives, parts, param-placed, joined-placed, params-placed n) depth 15
 
   function-def-placed : (name : ℕ) → Gives (Within 0) (function-def low name)
   unfolding function-def
   function-def-placed name = search (gives, parts, params-placed, body-placed) depth 15
 
-  target-placed : Gives Placed (function-assignment-target low)
+  pub target-placed : Gives Placed (function-assignment-target low)
   unfolding function-assignment-target
   target-placed = search (gives, parts, atom-placed, path-placed, pattern-placed) depth 15
 
@@ -199,7 +199,7 @@ module _ (low : Depth) (P : PlacedDepth low) where
   unfolding stmt-label
   stmt-label-placed l = search (gives, loop-placed, while-placed, for-placed)
 
-  stmt-placed : Gives Placed (stmt low)
+  pub stmt-placed : Gives Placed (stmt low)
   unfolding stmt
   stmt-placed = search (gives, parts, loop-placed, while-placed, for-placed, stmt-label-placed, expr-placed) depth 15
 
@@ -213,7 +213,7 @@ module _ (low : Depth) (P : PlacedDepth low) where
 
   stmts-placed : (end n : ℕ) (f : Forest) → All-placed f → Gives PlacedStmts (stmts low end n f)
   unfolding stmts
-  stmts-placed end zero f g q ts = g-fail
+  stmts-placed end zero f g q ts = k-failed
   stmts-placed end (suc n) f g q ts = search (gives, parts, control-placed, stmt-placed, stmts-placed end n) depth 15
 
   primary-expr-placed : Gives (Within 0) (primary-expr low)
@@ -224,7 +224,7 @@ module _ (low : Depth) (P : PlacedDepth low) where
   unfolding unary-expr
   unary-placed = search (gives, parts, primary-expr-placed, p-unary, P .g-unary) depth 9
 
-depth-levels : (d : ℕ) → PlacedDepth (at-depth d)
+pub depth-levels : (d : ℕ) → PlacedDepth (at-depth d)
 unfolding at-depth
 depth-levels zero = record { g-unary = λ q ts. k-stop; g-right = λ q ts. k-stop; g-list = λ end q ts. k-stop }
 depth-levels (suc d) =
@@ -234,13 +234,10 @@ depth-levels (suc d) =
       g-list = λ end q ts. stmts-placed (at-depth d) (depth-levels d) end (length ts) none p-none q ts;
     }
 
-pub stmt-levels : (d : ℕ) → Gives Placed (stmt (at-depth d))
-stmt-levels d = stmt-placed (at-depth d) (depth-levels d)
-
 failed-placed : (d : ℕ) (e : Error) → Gives Placed (failed d e)
 unfolding failed
 failed-placed d e = search gives
 
 pub next-levels : (d : ℕ) → Gives Placed (next d)
 unfolding next
-next-levels d = search (gives, stmt-levels, failed-placed)
+next-levels d = search (gives, stmt-placed (at-depth d) (depth-levels d), failed-placed)

@@ -11,9 +11,9 @@ use Rattle.grammar.specs.Reading.Result.{Error}
 use Rattle.grammar.specs.Reading.Look.{expect-pattern}
 use Rattle.grammar.specs.Reading.Pattern.{Role, pattern, members, maybe, conv, all-conv, made, as-pattern, to-pattern, modified, grouped, over, listed, leaf, access, by-last, by-item, by-attribute, by-index, last-of, front-of}
 use Rattle.grammar.specs.Levels.{fits}
-use Rattle.grammar.specs.Laws.Keep.{Yields, k-ok}
+use Rattle.grammar.specs.Laws.Keep.{Holds, k-ok, k-failed}
 use Rattle.grammar.specs.Laws.Levels.Placed.{Placed, All-placed, placing, p-none, p-more, p-children, p-first, p-later}
-use Rattle.grammar.specs.Laws.Levels.Gives.{Any, Gives, g-fail}
+use Rattle.grammar.specs.Laws.Levels.Gives.{Gives}
 
 -- P holds of what an expression converts to, if it converts
 data Holds? {A : Type 0} (P : A → Type 0) : Maybe A → Type 0 where
@@ -119,6 +119,6 @@ pub pattern-placed : (e : Error) {t : Tree} → Placed t → Gives Placed (expec
 unfolding expect-pattern
 pattern-placed e {t} h q ts = go (to-pattern t) (convert-placed t pattern h)
   where
-    go : (m : Maybe Tree) → Holds? Placed m → Yields (λ p r. Placed p) Any (expect-pattern e m q ts)
-    go nothing none-held = g-fail
+    go : (m : Maybe Tree) → Holds? Placed m → Holds Placed (expect-pattern e m q ts)
+    go nothing none-held = k-failed
     go (just p) (held x) = k-ok x
