@@ -5,4 +5,5 @@ pub mod Laws
 pub mod Theorem
 pub mod Corollaries
 pub mod Never
+pub mod Levels
 pub mod Examples
