@@ -2,9 +2,9 @@ pub mod Reading
 pub mod Canonical
 pub mod Flat
 pub mod Contract
+pub mod Levels
 pub mod Sheets
 pub mod Looks
-pub mod Levels
 pub mod Laws
 pub mod Promise
 pub mod Locality

@@ -2,11 +2,12 @@
 -- with the answer, the whole reader and every word of the store, and the sheet's canonical tokens where it reads cleanly.
 -- Rows behind them rule out a wrong grouping, a wrong resynchronization, writers that leave a token out, and the errors 24, 28 and 32 where they seem near. Assumes nothing.
 use mathlib.Core.Path.{_≡_, refl}
+use mathlib.Core.Bool.{Bool, true, false}
 use mathlib.Core.List.{List, [], _∷_}
 use Prim.Native.Nat.{ℕ, zero, suc, _*_, _+_}
 use lib.ListN.{length}
 use Rattle.token.specs.Kind
-use Rattle.operator.specs.Operator.{which-unary-op, which-binary-op, which-assignment-op, op-level, op-number, op-token, unary-code, unary-token, assign-code, assign-token}
+use Rattle.operator.specs.Operator.{which-unary-op, which-binary-op, which-assignment-op, op-level, op-number, op-token, number-level, unary-code, unary-token, assign-code, assign-token}
 use Rattle.tree.specs.Tree.{Tree, none, more, one, count, snoc, records, all-records}
 use Rattle.tree.specs.Node
 use Rattle.tree.specs.Maybe.{Maybe, nothing, just, bindM}
@@ -24,6 +25,7 @@ use Rattle.grammar.specs.Reading.Depth.{primary-expr, unary-expr, at-dep
 use Rattle.grammar.specs.Reading.Next.{queue-fits, error-answer, fresh, Called, next-stmt, bare, halted, tree-called, reader-at, error-kind, start, front, failed, next}
 use Rattle.grammar.specs.Canonical.Write.{target-items, write, writes, run}
 use Rattle.grammar.specs.Canonical.Writing.{clean-from, clean-reading}
+use Rattle.grammar.specs.Levels.{in-order}
 use Rattle.grammar.specs.declared.Answer.{Answer}
 use Rattle.grammar.specs.declared.Answer.the-variants.{Tree as ATree, Error as AError, End, Stopped, Refused}
 use Rattle.grammar.specs.declared.Reader.{Reader}
@@ -261,3 +263,39 @@ table =
 pub sheets-tried : read table ≡ expected table
 unfolding canonical table
 sheets-tried = refl
+
+-- a tree, and whether its operators stand by their levels, as its records tell
+pub record Standing : Type 0 where
+  pub tree : Tree
+  pub stands : Bool
+
+abbrev x : Tree
+x = Node.identifier a
+
+-- the trees that come nearest, on either side of what document 02 says
+pub standings : List Standing
+standings =
+    -- a + a * a, a - a - a and a sign before a product's group
+    record { tree = Node.binary-op 3 x (Node.binary-op 0 x x); stands = true } ∷
+    record { tree = Node.binary-op 4 (Node.binary-op 4 x x) x; stands = true } ∷
+    record { tree = Node.unary-op 0 (Node.group 0 (Node.binary-op 0 x x)); stands = true } ∷
+    -- a left child above, a right one at the level, a right one above, an operator under a sign
+    record { tree = Node.binary-op 0 (Node.binary-op 3 x x) x; stands = false } ∷
+    record { tree = Node.binary-op 4 x (Node.binary-op 4 x x); stands = false } ∷
+    record { tree = Node.binary-op 0 x (Node.binary-op 3 x x); stands = false } ∷
+    record { tree = Node.unary-op 0 (Node.binary-op 0 x x); stands = false } ∷
+    -- the second of these in the index of a receiver inside a pattern
+    record { tree = Node.attribute-pattern (Node.primary x (one (Node.index (Node.binary-op 4 x (Node.binary-op 4 x x))))) a; stands = false } ∷
+    []
+
+abbrev scans : List Standing → List Bool
+scans [] = []
+scans (w ∷ rows) = in-order [] (records (w .tree)) ∷ scans rows
+
+abbrev answers : List Standing → List Bool
+answers [] = []
+answers (w ∷ rows) = w .stands ∷ answers rows
+
+pub levels-tried : scans standings ≡ answers standings
+unfolding count records in-order number-level op-level op-token which-binary-op standings
+levels-tried = refl
