@@ -1,5 +1,5 @@
--- Document 02, P1: what advisers rely on of each tree that is returned, by either entry, from any reader, also of a tree that comes before errors that wait (`levels`). Of the tree and of
--- the records that the store holds: a host that goes over the records sees it too. Assumes nothing.
+-- Document 02, P1: what advisers rely on of each tree that is returned, by either entry, from any reader, also of one that comes before errors that wait: how its operators stand by their
+-- levels, of the tree and of the records that the store holds (`levels`). Who goes over any tree's records, as `in-order` does, learns it of that tree (`scan-says`). Assumes nothing.
 use mathlib.Core.Path.{_≡_, refl}
 use mathlib.Core.Bool.{Bool, true, false}
 use mathlib.Core.List.{List, [], _∷_, _++_}
@@ -11,7 +11,7 @@ use lib.Seq.{take-at}
 use Rattle.tree.specs.Tree.{Tree, records}
 use Rattle.tree.specs.Maybe.{just}
 use Rattle.tree.specs.Decode.{decode}
-use Rattle.tree.specs.Records.{records-length, decode-records}
+use Rattle.tree.specs.Records.{records-length, decode-records, decode-text}
 use Rattle.grammar.specs.Levels.{Ordered, in-order}
 use Rattle.grammar.specs.Reading.Limit.{depth-limit}
 use Rattle.grammar.specs.Reading.Number
@@ -19,8 +19,8 @@ use Rattle.grammar.specs.Reading.Result.{Error, Res, ifb}
 use Rattle.grammar.specs.Reading.Next.{error-kind, error-answer, Called, called, answered}
 use Rattle.grammar.specs.Laws.Keep.{Holds, k-ok, k-bad, k-fail, k-stop}
 use Rattle.grammar.specs.Laws.Returned.{waiting-in}
-use Rattle.grammar.specs.Laws.Levels.Placed.{Placed, placed-ordered}
-use Rattle.grammar.specs.Laws.Levels.Records.{placed-in-order}
+use Rattle.grammar.specs.Laws.Levels.Leveled.{Leveled, leveled-ordered}
+use Rattle.grammar.specs.Laws.Levels.Records.{leveled-in-order, in-order-leveled}
 use Rattle.grammar.specs.Laws.Levels.Nonterminals.{next-levels}
 use Rattle.grammar.specs.Promise.{Outcome, no-sheet, no-reader, stopped, waited, short, reads, outcome}
 use Rattle.grammar.specs.declared.Answer.{Answer}
@@ -29,35 +29,35 @@ use Rattle.grammar.specs.declared.Reader.{Reader}
 use Rattle.agreement.specs.Calls.{Entry, Gives, unread}
 use Rattle.agreement.specs.Laws.Calls.{given-is}
 
--- the words are the records of one tree, which they tell, its operators stand by their levels, and so do they by the records
-pub record Leveled (words : List ℕ) : Type 0 where
+-- these words are the records of a tree, and of no other; its operators stand by their levels, and who goes over the words sees it
+pub record LeveledWords (words : List ℕ) : Type 0 where
   pub tree : Tree
   pub text : words ≡ records tree
   pub only : decode words ≡ just tree
   pub ordered : Ordered tree
   pub scanned : in-order [] words ≡ true
 
--- of an answer: where it is a tree of so many nodes, the words that the store holds of it are such
+-- of an answer: where it is a tree of so many nodes, its words in the store are such
 abbrev pub TreeLeveled : Answer → List ℕ → Type 0
-TreeLeveled (ATree nodes) store = Leveled (take (2 * nodes) store)
+TreeLeveled (ATree nodes) store = LeveledWords (take (2 * nodes) store)
 TreeLeveled (AError kind) store = Unit {0}
 TreeLeveled End store = Unit {0}
 TreeLeveled (Stopped n) store = Unit {0}
 TreeLeveled (Refused n) store = Unit {0}
 
-placed-leveled : {t : Tree} → Placed t → Leveled (records t)
-placed-leveled {t} h = record { tree = t; text = refl; only = decode-records (h .small); ordered = placed-ordered h; scanned = placed-in-order h }
+tree-leveled : {t : Tree} → Leveled t → LeveledWords (records t)
+tree-leveled {t} h = record { tree = t; text = refl; only = decode-records (h .small); ordered = leveled-ordered h; scanned = leveled-in-order h }
 
 -- a tree's records stand first in the store
-stored : {t : Tree} (m : ℕ) → Placed t → Leveled (take (2 * (length (records t) / 2)) (records t ++ replicate (m - length (records t)) 0))
-stored {t} m h = rw (take-at (records t) (replicate (m - length (records t)) 0) (2 * (length (records t) / 2)) (omega (arith, records-length t))) (placed-leveled h)
+stored : {t : Tree} (m : ℕ) → Leveled t → LeveledWords (take (2 * (length (records t) / 2)) (records t ++ replicate (m - length (records t)) 0))
+stored {t} m h = rw (take-at (records t) (replicate (m - length (records t)) 0) (2 * (length (records t) / 2)) (omega (arith, records-length t))) (tree-leveled h)
 
 error-leveled : (b : Bool) (e : Error) (store : List ℕ) → TreeLeveled (ifb b (λ _. End) (λ _. AError (error-kind e))) store
 unfolding ifb
 error-leveled true e store = tt
 error-leveled false e store = tt
 
-read-leveled : (n m p : ℕ) {d : Res Tree} → Holds Placed d → TreeLeveled (called n m p d .step .answer) (called n m p d .store)
+read-leveled : (n m p : ℕ) {d : Res Tree} → Holds Leveled d → TreeLeveled (called n m p d .step .answer) (called n m p d .store)
 unfolding error-answer
 read-leveled n m p (k-ok h) = stored m h
 read-leveled n m p (k-bad h) = stored m h
@@ -76,6 +76,12 @@ outcome-leveled {R} {m = m} (waited g h) = answered-leveled m R (waiting-in R)
 outcome-leveled (short g w l) = tt
 outcome-leveled {R} {T} {m} (reads g w l) = read-leveled (length T / 2) m (R .position) (next-levels depth-limit [] (unread T R))
 
--- every call, of any reader on any words with any store
+-- every call, of either entry, of any reader on any words with any store
 pub levels : (entry : Entry) (R : Reader) (T S : List ℕ) (g : Called) → Gives entry R T S g → TreeLeveled (g .step .answer) (g .store)
 levels entry R T S g k = rw (given-is entry R T S g k) (outcome-leveled (outcome R T (length S)))
+
+-- of any words that are a tree's records: where the scan passes, the operators stand by their levels
+pub scan-says : (words : List ℕ) {t : Tree} → decode words ≡ just t → in-order [] words ≡ true → Ordered t
+scan-says words d e =
+    let (text, small) = decode-text d in
+    leveled-ordered (in-order-leveled small (rw text e))

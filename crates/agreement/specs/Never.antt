@@ -11,12 +11,12 @@ use Rattle.grammar.specs.Reading.Result.{Error}
 use Rattle.grammar.specs.Reading.Next.{number, fresh, Called}
 use Rattle.grammar.specs.Laws.Facts.{clash}
 use Rattle.grammar.specs.Laws.Waits.{is-other, OtherThan, two-unmet, three-unmet, IsError}
-use Rattle.grammar.specs.Laws.Numbers.{Meets}
-use Rattle.grammar.specs.Laws.Top.{meets-but-two, meets-but-three}
+use Rattle.grammar.specs.Laws.Numbers.{Covers}
+use Rattle.grammar.specs.Laws.Top.{covers-but-two, covers-but-three}
 use Rattle.grammar.specs.Laws.Returned.{waiting-in}
 use Rattle.grammar.specs.declared.Reader.{Reader}
 use Rattle.agreement.specs.Calls.{Call, Run}
-use Rattle.agreement.specs.Laws.Met.{holds-fresh, run-holds, run-met, one-of}
+use Rattle.agreement.specs.Laws.Met.{only-fresh, run-only, run-met, one-of}
 
 -- no sheet gives the error e: on any words, after any list of calls from a fresh reader on, by value or on the kept reader, with any stores, refused calls among them, no answer
 -- of these has the number e, and e is none of the errors that then wait
@@ -30,15 +30,15 @@ pub record ThreeNeverMet : Type 0 where
   pub param-order : NeverMet Number.param-order
 
 -- an error that is not among those that can be met
-unmet : (xs : List Error) → Meets (OtherThan xs) → (e : Error) → IsError e → is-other xs e ≡ false → NeverMet e
+unmet : (xs : List Error) → Covers (OtherThan xs) → (e : Error) → IsError e → is-other xs e ≡ false → NeverMet e
 unmet xs M e i n = record {
-  answered = λ r g m x. clash (run-met M (holds-fresh _) r g m i x) n;
-  waiting = λ r m. clash (one-of (run-holds M (holds-fresh _) r .waits .errors) m) n;
+  answered = λ r g m x. clash (run-met M (only-fresh _) r g m i x) n;
+  waiting = λ r m. clash (one-of (run-only M (only-fresh _) r .waits .errors) m) n;
 }
 
 pub never-met : ThreeNeverMet
 never-met = record {
-  nested-ellipsis = unmet two-unmet meets-but-two Number.nested-ellipsis refl refl;
-  params-closing = unmet two-unmet meets-but-two Number.params-closing refl refl;
-  param-order = unmet three-unmet meets-but-three Number.param-order refl refl;
+  nested-ellipsis = unmet two-unmet covers-but-two Number.nested-ellipsis refl refl;
+  params-closing = unmet two-unmet covers-but-two Number.params-closing refl refl;
+  param-order = unmet three-unmet covers-but-three Number.param-order refl refl;
 }

@@ -14,8 +14,8 @@ use Rattle.tree.specs.Maybe.{Maybe, nothing, just}
 use Rattle.tree.specs.Tree.{Tree, Forest, node, none, more, count, records, kind-of}
 use Rattle.tree.specs.Node
 use Rattle.grammar.specs.Laws.Keep.{Holds, k-ok, k-failed, k-on, k-any, k-if, k-tested}
-use Rattle.grammar.specs.Laws.Levels.Placed.{p-none}
-use Rattle.grammar.specs.Laws.Levels.Nonterminals.{depth-levels, atom-placed, path-placed}
+use Rattle.grammar.specs.Laws.Levels.Leveled.{p-none}
+use Rattle.grammar.specs.Laws.Levels.Nonterminals.{depth-levels, atom-leveled, path-leveled}
 use Rattle.grammar.specs.Reading.Number
 use Rattle.grammar.specs.Reading.Result.{Res, ok, then, ifb, Error}
 use Rattle.grammar.specs.Reading.Look.{expect, expect-pattern}
@@ -26,7 +26,7 @@ use Rattle.grammar.specs.Reading.Primary.{atom, path, with-path, literal}
 use Rattle.grammar.specs.Reading.Block.{body, block-of}
 use Rattle.grammar.specs.Reading.Function.{Params, function-param-list, function-def, function-assignment-target, target-name, function-decl-expr}
 use Rattle.grammar.specs.Reading.Depth.{at-depth}
-use Rattle.grammar.specs.Laws.Levels.Parts.{with-path-placed}
+use Rattle.grammar.specs.Laws.Levels.Parts.{with-path-leveled}
 use Rattle.pattern.specs.Contract.{Whole}
 use Rattle.nodes.specs.Parts.{signature-words, path-words}
 use Rattle.scan.specs.Post.{clean, Wrote, Taken, waiting-errors}
@@ -71,7 +71,7 @@ module _ (d : ℕ) where
       let o₂ = h .room in
       let e : take at S₂ ≡ take at S = shorter S₂ S₁ at a (o .up) (prefix h j) ∙ prefix g i in
       record {
-        small = with-path-placed (h .what) (given (atom-placed (at-depth d) (depth-levels d) _ _) (g .same) .placed) (given (path-placed (at-depth d) (depth-levels d) false _ none p-none _ _) (h .same)) .small;
+        small = with-path-leveled (h .what) (given (atom-leveled (at-depth d) (depth-levels d) _ _) (g .same) .leveled) (given (path-leveled (at-depth d) (depth-levels d) false _ none p-none _ _) (h .same)) .small;
         text = h .text ∙ ap (λ (y : List ℕ). y ++ path-words (h .what)) (g .text) ∙ append-assoc (take at S) (records (g .what)) (path-words (h .what)) ∙ rw (e, path-text (g .what) (h .what));
         start = omega arith;
         within = k;

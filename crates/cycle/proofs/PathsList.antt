@@ -19,7 +19,7 @@ use Rattle.grammar.specs.Reading.Expr.{Depth, Stmts}
 use Rattle.grammar.specs.Reading.Block.{whole, split-before, split-last, split}
 use Rattle.grammar.specs.Reading.Stmt.{ends, is-control, control-flow, control-last, synchronized, stmt, caught, stmts}
 use Rattle.grammar.specs.Reading.Depth.{at-depth}
-use Rattle.grammar.specs.Laws.Levels.Nonterminals.{stmt-placed, depth-levels}
+use Rattle.grammar.specs.Laws.Levels.Nonterminals.{stmt-leveled, depth-levels}
 use Rattle.grammar.specs.Laws.Keep.{Holds, Keep, k-ok, k-fail, k-stop, k-all, k-unclean, k-on, k-any, k-or, k-if}
 use Rattle.scan.specs.Post.{As, no-words, Failed, Wrote, Agrees, Taken, Queues, waiting-errors}
 use Rattle.cycle.specs.Parts.{Place, a-stmt, a-control, a-caught, resume, turn, control-words}
@@ -208,7 +208,7 @@ unfolding turn
 turn-small d end k rest q ts =
     k-if _
     (λ _. k-or q (control-held (at-depth d) k q rest) (λ c q₁ r x. k-any q₁ (control-last end k q₁ r) λ u q₂ s. k-ok tt) (λ e q₁ r u. k-any q₁ (caught (at-depth d) e q₁ r) λ u q₂ s. k-ok tt))
-    (λ _. k-or q (stmt-placed (at-depth d) (depth-levels d) q ts) (λ t q₁ r x. k-ok (x .small)) (λ e q₁ r u. k-any q₁ (caught (at-depth d) e q₁ r) λ u q₂ s. k-ok tt))
+    (λ _. k-or q (stmt-leveled (at-depth d) (depth-levels d) q ts) (λ t q₁ r x. k-ok (x .small)) (λ e q₁ r u. k-any q₁ (caught (at-depth d) e q₁ r) λ u q₂ s. k-ok tt))
 
 pub place-small : (d end k : ℕ) (rest : List ℕ) (q : List Error) (ts : List ℕ) {q′ : List Error} {r : List ℕ} {t : Tree} → As q (turn (at-depth d) end k rest q ts) q′ (ok (a-stmt t) r) → Small t
 place-small d end k rest q ts a = given (turn-small d end k rest q ts) a

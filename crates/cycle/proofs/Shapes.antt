@@ -21,8 +21,8 @@ use Rattle.grammar.specs.Reading.Block.{body, block-expr, expr-label, branches}
 use Rattle.grammar.specs.Reading.Function.{params, function-def, function-assignment-target, function-decl-expr}
 use Rattle.grammar.specs.Reading.Depth.{primary-expr, unary-expr, at-depth}
 use Rattle.grammar.specs.Laws.Keep.{Holds, k-ok, k-bad, k-fail, k-failed, k-stop, k-weaken, k-both, k-on, k-any, k-if}
-use Rattle.grammar.specs.Laws.Levels.Placed.{Placed}
-use Rattle.grammar.specs.Laws.Levels.Nonterminals.{depth-levels, tuple-placed, expr-placed}
+use Rattle.grammar.specs.Laws.Levels.Leveled.{Leveled}
+use Rattle.grammar.specs.Laws.Levels.Nonterminals.{depth-levels, tuple-leveled, expr-leveled}
 use Rattle.scan.specs.Post.{As}
 use Rattle.nodes.specs.Ends.{Shape, other, a-tuple, lone, unpacked}
 
@@ -72,7 +72,7 @@ root-shape lone-root s = lone
 root-shape (unpack-root h) s = unpacked h (s .1 .0)
 
 -- both of what was read
-holds-shape : {d : Res Tree} → Holds Root d → Holds Placed d → Holds Shape d
+holds-shape : {d : Res Tree} → Holds Root d → Holds Leveled d → Holds Shape d
 holds-shape h g = k-weaken (λ t r x. root-shape (x .0) (x .1 .small)) (λ e r u. tt) (k-both h g)
 
 operators-root : (operand : List Error → List ℕ → Res Tree) (l n : ℕ) (left : Tree) (q : List Error) (ts : List ℕ) → Root left → Holds Root (operators operand l n left q ts)
@@ -209,7 +209,7 @@ depth-root zero q ts = k-stop
 depth-root (suc d) q ts = unary-expr-root (at-depth d) q ts
 
 pub tuple-shape : (d : ℕ) (q : List Error) (ts : List ℕ) → Holds Shape (tuple-expr (at-depth d) q ts)
-tuple-shape d q ts = holds-shape (tuple-expr-root (at-depth d) (depth-root d) q ts) (tuple-placed (at-depth d) (depth-levels d) q ts)
+tuple-shape d q ts = holds-shape (tuple-expr-root (at-depth d) (depth-root d) q ts) (tuple-leveled (at-depth d) (depth-levels d) q ts)
 
 pub expr-shape : (d : ℕ) (q : List Error) (ts : List ℕ) → Holds Shape (expr (at-depth d) q ts)
-expr-shape d q ts = holds-shape (expr-root (at-depth d) (depth-root d) q ts) (expr-placed (at-depth d) (depth-levels d) q ts)
+expr-shape d q ts = holds-shape (expr-root (at-depth d) (depth-root d) q ts) (expr-leveled (at-depth d) (depth-levels d) q ts)

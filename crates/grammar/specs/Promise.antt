@@ -21,7 +21,7 @@ use Rattle.grammar.specs.Reading.Next.{next, kind-number, number, error-
 use Rattle.grammar.specs.Reading.Looked.{looks, call-looks}
 use Rattle.grammar.specs.Laws.Facts.{and-l, and-r, or-true, not-true, apart, by-test}
 use Rattle.grammar.specs.Laws.Waits.{IsError, IsStop, All, a-cons, waits-none, n-fail, n-stop}
-use Rattle.grammar.specs.Laws.Top.{Top, t-end, t-num, meets-errors, next-numbers}
+use Rattle.grammar.specs.Laws.Top.{Top, t-end, t-num, covers-errors, next-numbers}
 use Rattle.grammar.specs.Laws.Returned.{fits-all}
 use Rattle.grammar.specs.declared.Answer.the-variants.{Stopped, Refused}
 use Rattle.grammar.specs.declared.Reader.{Reader}
@@ -231,7 +231,7 @@ module _ (R : Reader) (T : List ℕ) (m : ℕ) where
   told f (stopped s a h) = by-stop (a .stops, h) (was-stopped s a refl)
   told f (waited g h) = told-front f g h _ refl
   told f (short g w l) = by-store (record { going = g; none-waits = w; short = l })
-  told f (reads g w l) = let y : Ready R T m = record { going = g; none-waits = w; room = l } in told-reading y (reading T R) refl (next-numbers meets-errors _ 0 [] _ waits-none)
+  told f (reads g w l) = let y : Ready R T m = record { going = g; none-waits = w; room = l } in told-reading y (reading T R) refl (next-numbers covers-errors _ 0 [] _ waits-none)
 
 -- of a reader whose array has 96 places, as every reader's has
 module _ (R : Reader) (f : length (R .errors) ≡ queue-limit) (T : List ℕ) (m : ℕ) where

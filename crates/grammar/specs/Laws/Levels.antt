@@ -1,7 +1,7 @@
 -- Operators stand by their levels in every tree that a reading gives.
-pub mod Placed
+pub mod Leveled
 pub mod Records
 pub mod Parts
-pub mod Gives
+pub mod Always
 pub mod Patterns
 pub mod Nonterminals

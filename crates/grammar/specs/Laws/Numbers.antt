@@ -27,19 +27,19 @@ use Rattle.grammar.specs.Reading.Number
 use Rattle.grammar.specs.Reading.Next.{front, failed}
 use Rattle.grammar.specs.Laws.Facts.{clash, other}
 use Rattle.grammar.specs.Laws.Seen.{kind-at, look-seen, not-at}
-use Rattle.grammar.specs.Laws.Unmet.{primary-no-unpack, params-close, NoCommaBehind, param-ended, InOrder, joined-in-order}
+use Rattle.grammar.specs.Laws.Unmet.{primary-no-unpack, params-close, NoCommaBehind, param-no-comma, Orderly, joined-orderly}
 use Rattle.grammar.specs.Laws.Waits.{OtherThan, IsStop, three-unmet, n-after, n-tested, Waits, Num, n-ok, n-bad, n-fail, n-stop, waits-front, Caught, c-fail, Past, p-ok, p-bad, nums, waits-less, n-unclean, n-then, n-if, c-push, n-caught, n-stays, n-pop, p-either, p-if, n-behind, c-failing}
 
--- J holds of the wrong order of parameters, unless no comma follows an expression
+-- J holds of 32, the wrong order of parameters, or no comma follows an expression, so that 32 is not met
 abbrev pub Order : (Error → Type 0) → Depth → Type 0
 Order J low = J Number.param-order ⊎ NoCommaBehind low
 
--- J holds of each error that can be met: of all but these three, and of that order
-pub record Meets (J : Error → Type 0) : Type 0 where
+-- J covers the errors that can be met: it holds of each error's number but 24, 28 and 32, and of 32 if that is met
+pub record Covers (J : Error → Type 0) : Type 0 where
   pub others : (e : Error) → OtherThan three-unmet e → J e
   pub order : (d : ℕ) → Order J (at-depth d)
 
--- the same of a reading, whatever waits and is left
+-- what a reading may come to by its numbers, whatever waits and is left
 abbrev pub Numbered : {A : Type 0} → (Error → Type 0) → (List Error → List ℕ → Res A) → Type 0
 Numbered J f = (n : ℕ) (q : List Error) (ts : List ℕ) → Waits J n q → Num J n (f q ts)
 
@@ -48,7 +48,7 @@ pub record Nums (J : Error → Type 0) (low : Depth) : Type 0 where
   pub n-right : Numbered J (low .right)
   pub n-list : (end : ℕ) → Numbered J (low .list end)
 
-module _ {J : Error → Type 0} (M : Meets J) where
+module _ {J : Error → Type 0} (M : Covers J) where
   others : (e : Error) → OtherThan three-unmet e → J e
   others = M .others
 
@@ -224,15 +224,15 @@ module _ {J : Error → Type 0} (M : Meets J) where
     params-nums j (suc n) ps m q ts w = search (nums, look-nums, param-nums, joined-nums, params-nums j n) depth 9
 
     -- where it is not: the list so far has no default, or `)` follows
-    ordered-nums : NoCommaBehind low → (n : ℕ) (ps : Params) (m : ℕ) (q : List Error) (ts : List ℕ) → InOrder ps (kind-at ts) → Waits J m q → Num J m (params low n ps q ts)
+    ordered-nums : NoCommaBehind low → (n : ℕ) (ps : Params) (m : ℕ) (q : List Error) (ts : List ℕ) → Orderly ps (kind-at ts) → Waits J m q → Num J m (params low n ps q ts)
     unfolding params
     ordered-nums c zero ps m q ts i w = n-fail (others _ refl) w
     ordered-nums c (suc n) ps m q ts i w =
         n-after q w (look-nums m q ts w) (look-seen q ts) λ tok q₁ rest v s. n-tested _ (λ _ e. n-ok) λ _ e.
         let h : empty (ps .default-list) ≡ true = ⊎-elim (λ a. a) (λ a. clash a (not-at s Kind.CloseParen e)) i in
-        n-after q w (param-nums m q ts w) (param-ended low c q ts) λ p q₂ r x b.
+        n-after q w (param-nums m q ts w) (param-no-comma low c q ts) λ p q₂ r x b.
         n-after q₂ x (look-nums m q₂ r x) (look-seen q₂ r) λ tok₂ q₃ rest₂ y s₂.
-        n-after q₂ x (joined-nums ps p (tok₂ .kind) (λ a. clash h a) m q₂ r x) (joined-in-order ps p r (tok₂ .kind) q₂ r h (s₂ .at) b) λ ps₂ q₄ u z f. n-tested _
+        n-after q₂ x (joined-nums ps p (tok₂ .kind) (λ a. clash h a) m q₂ r x) (joined-orderly ps p r (tok₂ .kind) q₂ r h (s₂ .at) b) λ ps₂ q₄ u z f. n-tested _
         (λ _ d. ordered-nums c n ps₂ m q₂ rest₂ (inl (⊎-elim (λ a. a) (λ a. clash a (other (tok₂ .kind) Kind.Comma Kind.CloseParen d refl)) f)) x)
         (λ _ d. ordered-nums c n ps₂ m q₂ r (rw (s₂ .at) at f) x)
 

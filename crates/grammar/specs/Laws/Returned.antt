@@ -17,8 +17,8 @@ use Rattle.grammar.specs.Reading.Next.{is-error, queue-fits, pad, reader
 use Rattle.grammar.specs.declared.Reader.{Reader}
 use Rattle.grammar.specs.Laws.Facts.{if-both}
 use Rattle.grammar.specs.Laws.Waits.{IsError, IsStop, All, a-nil, a-cons, Waits, waits-none, waits-front, n-ok, n-bad, n-fail, n-stop}
-use Rattle.grammar.specs.Laws.Numbers.{Meets}
-use Rattle.grammar.specs.Laws.Top.{Top, t-end, t-num, meets-errors, next-numbers}
+use Rattle.grammar.specs.Laws.Numbers.{Covers}
+use Rattle.grammar.specs.Laws.Top.{Top, t-end, t-num, covers-errors, next-numbers}
 
 -- a queue in its array fits, and what fits is a queue
 
@@ -84,7 +84,7 @@ answered-leaves m (e ∷ q) f w = waiting-at _ q (f .within) (waits-front w .1)
 given-waits : {T : List ℕ} {R : Reader} → Accepted T R → Waits IsError 0 (waiting-in R)
 given-waits {R} f = record { errors = fits-all _ _ (f .queue); few = omega (arith, length-take (R .waiting) (R .errors)); many = omega arith }
 
-pub returned : {J : Error → Type 0} → Meets J → (R : Reader) (T : List ℕ) (m : ℕ) → Accepted T R → Waits J 0 (waiting-in R) → Returned J T R (next-stmt R T m .step .reader)
+pub returned : {J : Error → Type 0} → Covers J → (R : Reader) (T : List ℕ) (m : ℕ) → Accepted T R → Waits J 0 (waiting-in R) → Returned J T R (next-stmt R T m .step .reader)
 unfolding next-stmt
 returned {J} M R T m f w =
     if-both (Leaves J T R) _ (λ u. stopped-at _ (refl, omega arith)) λ u.
@@ -104,7 +104,7 @@ accepted-returned f (waiting-at p q h w) = record { within = h; few = w .few; st
 accepted-returned f (stopped-at n s) = record { within = f .within; few = omega arith; stops = s .0; queue = zeros-fit queue-limit }
 
 pub returned-accepted : (R : Reader) (T : List ℕ) (m : ℕ) → Accepted T R → Accepted T (next-stmt R T m .step .reader)
-returned-accepted R T m f = accepted-returned f (returned meets-errors R T m f (given-waits f))
+returned-accepted R T m f = accepted-returned f (returned covers-errors R T m f (given-waits f))
 
 whole-returned : {J : Error → Type 0} {T : List ℕ} {R S : Reader} → length (R .errors) ≡ queue-limit → Returned J T R S → length (S .errors) ≡ queue-limit
 whole-returned h as-given = h
@@ -115,12 +115,12 @@ whole-returned h (waiting-at p q l w) =
 whole-returned h (stopped-at n s) = refl
 
 pub returned-whole : (R : Reader) (T : List ℕ) (m : ℕ) → Accepted T R → length (R .errors) ≡ queue-limit → length (next-stmt R T m .step .reader .errors) ≡ queue-limit
-returned-whole R T m f h = whole-returned h (returned meets-errors R T m f (given-waits f))
+returned-whole R T m f h = whole-returned h (returned covers-errors R T m f (given-waits f))
 
 waits-returned : {J : Error → Type 0} {T : List ℕ} {R S : Reader} → Waits J 0 (waiting-in R) → Returned J T R S → Waits J 0 (waiting-in S)
 waits-returned w as-given = w
 waits-returned w (waiting-at p q h v) = rw (take-at q (replicate (queue-limit - length q) 0) (length q) refl) v
 waits-returned w (stopped-at n s) = waits-none
 
-pub returned-waits : {J : Error → Type 0} → Meets J → (R : Reader) (T : List ℕ) (m : ℕ) → Accepted T R → Waits J 0 (waiting-in R) → Waits J 0 (waiting-in (next-stmt R T m .step .reader))
+pub returned-waits : {J : Error → Type 0} → Covers J → (R : Reader) (T : List ℕ) (m : ℕ) → Accepted T R → Waits J 0 (waiting-in R) → Waits J 0 (waiting-in (next-stmt R T m .step .reader))
 returned-waits M R T m f w = waits-returned w (returned M R T m f w)

@@ -1,5 +1,5 @@
 -- The numbers at the top level, where a failure may be the end too: `next-numbers`. The end is the start's: `next-end`. A statement that was read with errors leaves one
--- that waits: `bad-waits`. Which errors can be met: `meets-errors`, `meets-but-two`, `meets-but-three`. Assumes nothing.
+-- that waits: `bad-waits`. Which errors can be met: `covers-errors`, `covers-but-two`, `covers-but-three`. Assumes nothing.
 use mathlib.Core.Path.{_≡_, refl}
 use mathlib.Core.Bool.{Bool, true, false, false≢true, not}
 use mathlib.Core.Logic.{inl, inr}
@@ -14,7 +14,7 @@ use Rattle.grammar.specs.Reading.Next.{start, next}
 use Rattle.grammar.specs.Laws.Facts.{and-r, if-both}
 use Rattle.grammar.specs.Laws.Unmet.{no-comma-behind}
 use Rattle.grammar.specs.Laws.Waits.{OtherThan, two-unmet, three-unmet, error-of, IsError, Waits, Num, n-ok, n-bad, n-fail, n-stop, waits-none, nums, n-unclean, n-then}
-use Rattle.grammar.specs.Laws.Numbers.{Meets, look-nums, stmt-numbers, failed-nums}
+use Rattle.grammar.specs.Laws.Numbers.{Covers, look-nums, stmt-numbers, failed-nums}
 
 -- at the top level: a failure with an error J, or the end, error 0, with q waiting as before and X of the words that are left
 pub data Top {A : Type 0} (J : Error → Type 0) (X : List ℕ → Type 0) (n : ℕ) (q : List Error) : Res A → Type 0 where
@@ -50,7 +50,7 @@ module _ {J : Error → Type 0} {X : List ℕ → Type 0} where
   t-either p or w (n-fail j v) f g = g _ _ _ j v
   t-either p or w (n-stop s) f g = t-num (n-stop s)
 
-module _ {J : Error → Type 0} (M : Meets J) where
+module _ {J : Error → Type 0} (M : Covers J) where
   -- a lexer error, or no token left, which is the end
   start-fails : {n : ℕ} (b : Bool) (e : Error) (q p : List Error) (ts r : List ℕ) → J e → Waits J n q → Top {A = Unit {0}} J (λ r. Unit {0}) n q (unclean p (ifb b (λ _. fail 0 q ts) (λ _. fail e q r)))
   unfolding unclean ifb
@@ -71,14 +71,14 @@ module _ {J : Error → Type 0} (M : Meets J) where
 
 -- which errors can be met: numbers of errors; of these neither 24 nor 28, whatever follows an expression; and not 32, since no comma does
 
-pub meets-errors : Meets IsError
-meets-errors = record { others = λ e h. error-of three-unmet e h; order = λ d. inl refl }
+pub covers-errors : Covers IsError
+covers-errors = record { others = λ e h. error-of three-unmet e h; order = λ d. inl refl }
 
-pub meets-but-two : Meets (OtherThan two-unmet)
-meets-but-two = record { others = λ e h. and-r (not (eqb e Number.param-order)) _ h; order = λ d. inl refl }
+pub covers-but-two : Covers (OtherThan two-unmet)
+covers-but-two = record { others = λ e h. and-r (not (eqb e Number.param-order)) _ h; order = λ d. inl refl }
 
-pub meets-but-three : Meets (OtherThan three-unmet)
-meets-but-three = record { others = λ e h. h; order = λ d. inr (no-comma-behind d) }
+pub covers-but-three : Covers (OtherThan three-unmet)
+covers-but-three = record { others = λ e h. h; order = λ d. inr (no-comma-behind d) }
 
 -- 0 is no error's number
 t-zero : {X : List ℕ → Type 0} {A : Type 0} {n : ℕ} {q p : List Error} {r : List ℕ} → Top {A = A} IsError X n q (fail 0 p r) → X r
@@ -86,11 +86,11 @@ t-zero (t-end x) = x
 t-zero (t-num (n-fail j w)) = absurd (false≢true j)
 
 pub next-end : (d : ℕ) (ts : List ℕ) {p : List Error} {r : List ℕ} → next d [] ts ≡ fail 0 p r → start (length ts) [] ts ≡ fail 0 [] r
-next-end d ts h = t-zero (rw h at (next-numbers meets-errors d 0 [] ts waits-none))
+next-end d ts h = t-zero (rw h at (next-numbers covers-errors d 0 [] ts waits-none))
 
 -- a statement that was read with errors leaves one that waits
 pub bad-waits : (d : ℕ) (ts : List ℕ) {t : Tree} {q : List Error} {r : List ℕ} → next d [] ts ≡ bad t q r → 0 < length q
-bad-waits d ts {t} {q} {r} h = go (rw h at (next-numbers meets-errors d 0 [] ts waits-none))
+bad-waits d ts {t} {q} {r} h = go (rw h at (next-numbers covers-errors d 0 [] ts waits-none))
   where
     go : Top IsError (λ s. start (length ts) [] ts ≡ fail 0 [] s) 0 [] (bad t q r) → 0 < length q
     go (t-num (n-bad w l)) = l

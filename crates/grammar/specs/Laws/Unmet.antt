@@ -82,32 +82,32 @@ no-comma-behind zero = expr-end (at-depth zero) (λ q ts. k-stop)
 no-comma-behind (suc d) = expr-end (at-depth (suc d)) (no-comma-behind d)
 
 -- no comma follows a parameter with a default
-abbrev pub Ended : Param → List ℕ → Type 0
-Ended (required v) r = Unit {0}
-Ended (variadic v) r = Unit {0}
-Ended (default v e) r = NotComma r
+abbrev pub NoCommaAfter : Param → List ℕ → Type 0
+NoCommaAfter (required v) r = Unit {0}
+NoCommaAfter (variadic v) r = Unit {0}
+NoCommaAfter (default v e) r = NotComma r
 
-plain-ended : (low : Depth) → NoCommaBehind low → (v : ℕ) (q : List Error) (ts : List ℕ) → Success Ended (plain-param low v q ts)
+plain-no-comma : (low : Depth) → NoCommaBehind low → (v : ℕ) (q : List Error) (ts : List ℕ) → Success NoCommaAfter (plain-param low v q ts)
 unfolding plain-param
-plain-ended low h v q ts = k-any q _ λ tok q₁ rest. k-if _ (λ _. k-on q (h q rest) λ e q₂ r x. k-ok x) (λ _. k-ok tt)
+plain-no-comma low h v q ts = k-any q _ λ tok q₁ rest. k-if _ (λ _. k-on q (h q rest) λ e q₂ r x. k-ok x) (λ _. k-ok tt)
 
-variadic-ended : (v : ℕ) (q : List Error) (ts : List ℕ) → Success Ended (variadic-param v q ts)
+variadic-no-comma : (v : ℕ) (q : List Error) (ts : List ℕ) → Success NoCommaAfter (variadic-param v q ts)
 unfolding variadic-param
-variadic-ended v q ts = search successes
+variadic-no-comma v q ts = search successes
 
-pub param-ended : (low : Depth) → NoCommaBehind low → (q : List Error) (ts : List ℕ) → Success Ended (param low q ts)
+pub param-no-comma : (low : Depth) → NoCommaBehind low → (q : List Error) (ts : List ℕ) → Success NoCommaAfter (param low q ts)
 unfolding param
-param-ended low h q ts = search (successes, plain-ended, variadic-ended) depth 9
+param-no-comma low h q ts = search (successes, plain-no-comma, variadic-no-comma) depth 9
 
 -- no default was read, or `)` follows, and then no parameter does
-abbrev pub InOrder : Params → ℕ → Type 0
-InOrder ps k = (empty (ps .default-list) ≡ true) ⊎ (eqb k Kind.CloseParen ≡ true)
+abbrev pub Orderly : Params → ℕ → Type 0
+Orderly ps k = (empty (ps .default-list) ≡ true) ⊎ (eqb k Kind.CloseParen ≡ true)
 
 closes : (k : ℕ) → eqb k Kind.Comma || eqb k Kind.CloseParen ≡ true → eqb k Kind.Comma ≡ false → eqb k Kind.CloseParen ≡ true
 closes k h n = or-true (eqb k Kind.Comma) _ h (λ e. clash e n) (λ e. e)
 
-pub joined-in-order : (ps : Params) (p : Param) (r : List ℕ) (k : ℕ) (q : List Error) (ts : List ℕ) → empty (ps .default-list) ≡ true → k ≡ kind-at r → Ended p r → Success (λ ps s. InOrder ps k) (joined ps p k q ts)
+pub joined-orderly : (ps : Params) (p : Param) (r : List ℕ) (k : ℕ) (q : List Error) (ts : List ℕ) → empty (ps .default-list) ≡ true → k ≡ kind-at r → NoCommaAfter p r → Success (λ ps s. Orderly ps k) (joined ps p k q ts)
 unfolding joined
-joined-in-order ps (required v) r k q ts h e x = search (successes, inl) depth 9
-joined-in-order ps (variadic v) r k q ts h e x = search (successes, inl) depth 9
-joined-in-order ps (default v t) r k q ts h e x = k-tested _ (λ _ c. k-ok (inr (closes k c (rw e x)))) (λ _ c. k-failed)
+joined-orderly ps (required v) r k q ts h e x = search (successes, inl) depth 9
+joined-orderly ps (variadic v) r k q ts h e x = search (successes, inl) depth 9
+joined-orderly ps (default v t) r k q ts h e x = k-tested _ (λ _ c. k-ok (inr (closes k c (rw e x)))) (λ _ c. k-failed)

@@ -11,7 +11,7 @@ use Rattle.scan.proofs.Laws.{way, here, link, goes, done, undone, did-not, take
 use Rattle.cycle.proofs.PathsPrimary.{unpack-looks, dots-looks, unpack-lone, unpack-some, dots-more, dots-none}
 use Rattle.cycle.proofs.Shapes.{given}
 use Rattle.cycle.proofs.Writing.{written, taller}
-use Rattle.grammar.specs.Laws.Levels.Nonterminals.{depth-levels, primary-placed}
+use Rattle.grammar.specs.Laws.Levels.Nonterminals.{depth-levels, primary-leveled}
 use Rattle.cycle.proofs.dots.Kinds as kinds
 use Rattle.cycle.proofs.dots.Reads as reads
 use Rattle.cycle.proofs.+arm+atom+begin+binop+block+body+call+catch+cond+def+dest+dots+each+expr+fun+group+index+item+jump+key+label+lhs+list+loops+param+part+path+prim+rhs+sig+stmt+sync+table+tail+term+tuple+turn+unop+val+whiles.Lts-dots as lts
@@ -129,7 +129,7 @@ returns-3 t c = let tk = taken (after-kind-of-after-look2 t (search) .kind .give
     let w = done (after-r-of-after-look2 t (search) .r .given .1) (after-prim-of-after-look2 t (search) .prim .ensures) in
     let on = goes _ path (w .same) in
     let tk2 = taken (known (Place lts.After-next t) (search) .next .given .1) (known (Place lts.After-look2 t) (search) .look2 .ensures) in
-    written (known (Place lts.After-unpack-end t) (search) .unpack-end .ensures (take (start-of-after-look2 t (search) .args .at) (start-of-after-look2 t (search) .args .store .now)) (w .what) (start-of-after-look2 t (search) .args .tokens .now) (given (primary-placed _ (depth-levels (start-of-after-look2 t (search) .args .depth)) _ _) (w .same) .placed .small) (w .text) (tk2 .within)) refl (link on (way _ (dots-more _ _ tk2 (known (Place lts.Then2 t) (search) .if2 .taken)))) (prefix w (omega (arith, start-of-after-look2 t (search) .pre))) (omega (arith, start-of-after-look2 t (search) .pre, w .moved, w .room, tk2 .within))
+    written (known (Place lts.After-unpack-end t) (search) .unpack-end .ensures (take (start-of-after-look2 t (search) .args .at) (start-of-after-look2 t (search) .args .store .now)) (w .what) (start-of-after-look2 t (search) .args .tokens .now) (given (primary-leveled _ (depth-levels (start-of-after-look2 t (search) .args .depth)) _ _) (w .same) .leveled .small) (w .text) (tk2 .within)) refl (link on (way _ (dots-more _ _ tk2 (known (Place lts.Then2 t) (search) .if2 .taken)))) (prefix w (omega (arith, start-of-after-look2 t (search) .pre))) (omega (arith, start-of-after-look2 t (search) .pre, w .moved, w .room, tk2 .within))
 
 pub enum-known-s : (t : ℕ) → lts.Need-enum-known-s (calls t) (dots-at t) reads.Post
 enum-known-s t c = search needs

@@ -5,7 +5,7 @@ use borrow.Fn.Kinds.{In, Out}
 use borrow.Author.Needs.{needs}
 use native.Mathlib.Omega.{arith}
 use lib.ListN.{take}
-use Rattle.grammar.specs.Laws.Levels.Nonterminals.{target-placed, depth-levels}
+use Rattle.grammar.specs.Laws.Levels.Nonterminals.{target-leveled, depth-levels}
 use Rattle.scan.proofs.Laws.{way, here, link, goes, done, undone, did-not, taken, not-taken, fails, fails-unseen, prefix, later}
 use Rattle.scan.proofs.Looking.{name-small}
 use Rattle.nodes.proofs.Made.{made-two}
@@ -122,7 +122,7 @@ returns-2 t c = let tk = taken (known (Place lts.After-kind t) (search) .kind .g
 pub target-name-requires : (t : ℕ) → lts.Need-target-name-requires (calls t) (fun-at t) reads.Post
 target-name-requires t c κs = let tk = taken (after-kind-of-after-dest-arg t (search) .kind .given .1) (after-look-of-after-dest-arg t (search) .look .ensures) in
     let g = done (known (Place lts.After-t t) (search) .t .given .1) (known (Place lts.After-dest t) (search) .dest .ensures) in
-    let small = given (target-placed _ (depth-levels (start-of-after-dest-arg t (search) .args .depth)) _ _) (g .same) .small in
+    let small = given (target-leveled _ (depth-levels (start-of-after-dest-arg t (search) .args .depth)) _ _) (g .same) .small in
     let names = given (target-named _ _ tk (else1-of-after-dest-arg t (search) .if1 .left)) (g .same) in
     let l = taller g (omega (arith, start-of-after-dest-arg t (search) .pre)) in
     (omega (arith, l), omega (arith, start-of-after-dest-arg t (search) .pre, g .moved, g .room, known (Place lts.After-dest t) (search) .dest .kept .1 .0), λ e. name-small (tk .fits) (names (sym (kind-read (known (Place lts.After-dest t) (search) .dest .last .1 .0) (take (start-of-after-dest-arg t (search) .args .at) (start-of-after-dest-arg t (search) .args .store .now)) (known (Place lts.After-t t) (search) .t .given .0 .1 .0) (g .what) small (g .text) (omega (arith, start-of-after-dest-arg t (search) .pre, g .moved, g .room, known (Place lts.After-dest t) (search) .dest .kept .1 .0))) ∙ e) .0))
@@ -142,7 +142,7 @@ returns-3 t c = let tk = taken (after-kind-of-after-target-name-arg t (search) .
     let g = done (after-t-of-after-target-name-arg t (search) .t .given .1) (after-dest-of-after-target-name-arg t (search) .dest .ensures) in
     let path = way _ (decl-target _ _ tk (else1-of-after-target-name-arg t (search) .if1 .left)) in
     let on = goes _ path (g .same) in
-    let small = given (target-placed _ (depth-levels (start-of-after-target-name-arg t (search) .args .depth)) _ _) (g .same) .small in
+    let small = given (target-leveled _ (depth-levels (start-of-after-target-name-arg t (search) .args .depth)) _ _) (g .same) .small in
     let names = given (target-named _ _ tk (else1-of-after-target-name-arg t (search) .if1 .left)) (g .same) in
     let name = known (Place lts.After-target-name t) (search) .target-name .ensures (take (start-of-after-target-name-arg t (search) .args .at) (start-of-after-target-name-arg t (search) .args .store .now)) (g .what) small (g .text) (λ e. names e .1) in
     let last = link on (way _ (decl-name _ (g .what) name _ _)) in
@@ -165,7 +165,7 @@ returns-4 t c = let tk = taken (after-kind-of-after-r t (search) .kind .given .1
     let h = done (known (Place lts.After-r t) (search) .r .given .1) (after-def2-of-after-r t (search) .def2 .ensures) in
     let path = way _ (decl-target _ _ tk (else1-of-after-r t (search) .if1 .left)) in
     let on = goes _ path (g .same) in
-    let small = given (target-placed _ (depth-levels (start-of-after-r t (search) .args .depth)) _ _) (g .same) .small in
+    let small = given (target-leveled _ (depth-levels (start-of-after-r t (search) .args .depth)) _ _) (g .same) .small in
     let names = given (target-named _ _ tk (else1-of-after-r t (search) .if1 .left)) (g .same) in
     let name = after-target-name-of-after-r t (search) .target-name .ensures (take (start-of-after-r t (search) .args .at) (start-of-after-r t (search) .args .store .now)) (g .what) small (g .text) (λ e. names e .1) in
     let last = link on (way _ (decl-name _ (g .what) name _ _)) in

@@ -10,7 +10,7 @@ use Rattle.cycle.proofs.PathsStmt.{ended-text, modified-text, lvalue-st
 use Rattle.cycle.proofs.Shapes.{given}
 use Rattle.cycle.proofs.Writing.{stored, unstored, stored-up, stands}
 use Rattle.grammar.specs.Reading.Pattern.{modified}
-use Rattle.grammar.specs.Laws.Levels.Nonterminals.{tuple-placed, depth-levels}
+use Rattle.grammar.specs.Laws.Levels.Nonterminals.{tuple-leveled, depth-levels}
 use Rattle.cycle.proofs.lhs.Kinds as kinds
 use Rattle.cycle.proofs.lhs.Reads as reads
 use Rattle.cycle.proofs.+arm+atom+begin+binop+block+body+call+catch+cond+def+dest+dots+each+expr+fun+group+index+item+jump+key+label+lhs+list+loops+param+part+path+prim+rhs+sig+stmt+sync+table+tail+term+tuple+turn+unop+val+whiles.Lts-lhs as lts
@@ -105,7 +105,7 @@ expect-pattern-requires t c κs = let f = found (after-p-of-after-tuple-arg2 t (
     let gon = g .on in
     let gwithin = g .within in
     let w = done (known (Place lts.After-r t) (search) .r .given .1) (known (Place lts.After-tuple t) (search) .tuple .ensures) in
-    let small = given (tuple-placed _ (depth-levels _) _ _) (w .same) .small in
+    let small = given (tuple-leveled _ (depth-levels _) _ _) (w .same) .small in
     record { tree = w .what; whole = stands w small (omega (arith, start-of-after-tuple-arg2 t (search) .pre, gon, gwithin)) (omega (arith, start-of-after-tuple-arg2 t (search) .pre, gon, gwithin, w .moved, w .room, known (Place lts.After-tuple t) (search) .tuple .kept .1 .0)) }
 
 pub enum-known-t : (t : ℕ) → lts.Need-enum-known-t (calls t) (lhs-at t) reads.Post
@@ -123,7 +123,7 @@ returns-2 t c = let f = found (after-p-of-after-expect-pattern t (search) .p .gi
     let on = gets _ g path in
     let w = done (known (Place lts.After-r t) (search) .r .given .1) (after-tuple-of-after-expect-pattern t (search) .tuple .ensures) in
     let on2 = goes _ on (w .same) in
-    let small = given (tuple-placed _ (depth-levels _) _ _) (w .same) .small in
+    let small = given (tuple-leveled _ (depth-levels _) _ _) (w .same) .small in
     let inside = stands w small (omega (arith, start-of-after-expect-pattern t (search) .pre, gon, gwithin)) (omega (arith, start-of-after-expect-pattern t (search) .pre, gon, gwithin, w .moved, w .room, after-tuple-of-after-expect-pattern t (search) .tuple .kept .1 .0)) in
     let ep = known (Place lts.After-expect-pattern t) (search) .expect-pattern .ensures (w .what) (start-of-after-expect-pattern t (search) .args .tokens .now) inside (w .moved .within) in
     let u = unstored (c .match3 .keys2) ep in
@@ -135,7 +135,7 @@ modified-requires t c κs = let f = found (after-p-of-after-expect-pattern t (se
     let gon = g .on in
     let gwithin = g .within in
     let w = done (after-r-of-after-expect-pattern t (search) .r .given .1) (after-tuple-of-after-expect-pattern t (search) .tuple .ensures) in
-    let small = given (tuple-placed _ (depth-levels _) _ _) (w .same) .small in
+    let small = given (tuple-leveled _ (depth-levels _) _ _) (w .same) .small in
     let inside = stands w small (omega (arith, start-of-after-expect-pattern t (search) .pre, gon, gwithin)) (omega (arith, start-of-after-expect-pattern t (search) .pre, gon, gwithin, w .moved, w .room, after-tuple-of-after-expect-pattern t (search) .tuple .kept .1 .0)) in
     let ep = known (Place lts.After-expect-pattern t) (search) .expect-pattern .ensures (w .what) (start-of-after-expect-pattern t (search) .args .tokens .now) inside (w .moved .within) in
     let st = stored (known (Place lts.After-t t) (search) .t .given .1) ep in
@@ -157,7 +157,7 @@ returns-3 t c = let f = found (after-p-of-after-store3 t (search) .p .given .1) 
     let on = gets _ g path in
     let w = done (after-r-of-after-store3 t (search) .r .given .1) (after-tuple-of-after-store3 t (search) .tuple .ensures) in
     let on2 = goes _ on (w .same) in
-    let small = given (tuple-placed _ (depth-levels _) _ _) (w .same) .small in
+    let small = given (tuple-leveled _ (depth-levels _) _ _) (w .same) .small in
     let inside = stands w small (omega (arith, start-of-after-store3 t (search) .pre, gon, gwithin)) (omega (arith, start-of-after-store3 t (search) .pre, gon, gwithin, w .moved, w .room, after-tuple-of-after-store3 t (search) .tuple .kept .1 .0)) in
     let ep = after-expect-pattern-of-after-store3 t (search) .expect-pattern .ensures (w .what) (start-of-after-store3 t (search) .args .tokens .now) inside (w .moved .within) in
     let st = stored (known (Place lts.After-t t) (search) .t .given .1) ep in

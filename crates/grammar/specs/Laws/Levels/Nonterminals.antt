@@ -1,4 +1,4 @@
--- Every tree that a reading gives, cleanly or before errors that wait, is placed: a lemma for each nonterminal, and `depth-levels`, `next-levels`.
+-- Every tree that a reading gives, cleanly or before errors that wait, is leveled: a lemma for each nonterminal, and `depth-levels`, `next-levels`.
 -- An operand is of the level 0, and an expression of the level l of no level above l. Assumes nothing.
 use mathlib.Core.Path.{_≡_, _∙_}
 use mathlib.Core.Bool.{Bool, true}
@@ -22,16 +22,16 @@ use Rattle.grammar.specs.Reading.Stmt.{loop, while-loop, lvalue-list, fo
 use Rattle.grammar.specs.Reading.Depth.{primary-expr, unary-expr, at-depth}
 use Rattle.grammar.specs.Reading.Next.{failed, next}
 use Rattle.grammar.specs.Laws.Keep.{k-ok, k-failed, k-stop, k-weaken, k-on, k-any, k-tested}
-use Rattle.grammar.specs.Laws.Levels.Placed.{Placed, All-placed, Within, p-none, p-unary, p-binary}
-use Rattle.grammar.specs.Laws.Levels.Parts.{parts, PlacedStmts, PlacedParam, PlacedParams, p-required, p-variadic, p-default}
-use Rattle.grammar.specs.Laws.Levels.Gives.{Gives, gives}
-use Rattle.grammar.specs.Laws.Levels.Patterns.{modified-placed, pattern-placed}
+use Rattle.grammar.specs.Laws.Levels.Leveled.{Leveled, All-leveled, Within, p-none, p-unary, p-binary}
+use Rattle.grammar.specs.Laws.Levels.Parts.{parts, LeveledStmts, LeveledParam, LeveledParams, p-required, p-variadic, p-default}
+use Rattle.grammar.specs.Laws.Levels.Always.{Always, always}
+use Rattle.grammar.specs.Laws.Levels.Patterns.{modified-leveled, pattern-leveled}
 
 -- what the readings with one depth less give
-pub record PlacedDepth (low : Depth) : Type 0 where
-  g-unary : Gives (Within 0) (low .unary)
-  g-right : Gives Placed (low .right)
-  g-list : (end : ℕ) → Gives PlacedStmts (low .list end)
+pub record LeveledDepth (low : Depth) : Type 0 where
+  g-unary : Always (Within 0) (low .unary)
+  g-right : Always Leveled (low .right)
+  g-list : (end : ℕ) → Always LeveledStmts (low .list end)
 
 -- an operator that is read at a level has that level by its number too
 operator-level : (k l : ℕ) → eqb (op-level k) (suc l) ≡ true → number-level (op-number k) ≡ suc l
@@ -40,204 +40,204 @@ operator-level k l h =
     number-level-is k (omega arith) ∙ e
 
 -- the operators of the level l + 1, which group leftward: what stands right of one is of l or less
-module _ (operand : List Error → List ℕ → Res Tree) (l : ℕ) (h : Gives (Within l) operand) where
-  operators-placed : (n : ℕ) {left : Tree} → Within (suc l) left → Gives (Within (suc l)) (operators operand (suc l) n left)
+module _ (operand : List Error → List ℕ → Res Tree) (l : ℕ) (h : Always (Within l) operand) where
+  operators-leveled : (n : ℕ) {left : Tree} → Within (suc l) left → Always (Within (suc l)) (operators operand (suc l) n left)
   unfolding operators
-  operators-placed zero w q ts = k-failed
-  operators-placed (suc n) w q ts =
+  operators-leveled zero w q ts = k-failed
+  operators-leveled (suc n) w q ts =
       k-any q (look q ts) λ tok q₁ rest. k-tested _
-      (λ u e. k-on q (h q rest) λ right q₂ r x. operators-placed n (p-binary _ (operator-level (tok .kind) l e) w x) q₂ r)
+      (λ u e. k-on q (h q rest) λ right q₂ r x. operators-leveled n (p-binary _ (operator-level (tok .kind) l e) w x) q₂ r)
       (λ u e. k-ok w)
 
-literal-placed : (tok : Token) → Gives (Within 0) (literal tok)
+literal-leveled : (tok : Token) → Always (Within 0) (literal tok)
 unfolding literal
-literal-placed tok = search (gives, parts) depth 15
+literal-leveled tok = search (always, parts) depth 15
 
-field-name-placed : (access : ℕ) (e : Error) → Gives Placed (field-name access e)
+field-name-leveled : (access : ℕ) (e : Error) → Always Leveled (field-name access e)
 unfolding field-name
-field-name-placed access e = search (gives, parts)
+field-name-leveled access e = search (always, parts)
 
-member-placed : Gives Placed member-access
+member-leveled : Always Leveled member-access
 unfolding member-access
-member-placed = search (gives, parts)
+member-leveled = search (always, parts)
 
-variadic-placed : (v : ℕ) → Gives PlacedParam (variadic-param v)
+variadic-leveled : (v : ℕ) → Always LeveledParam (variadic-param v)
 unfolding variadic-param
-variadic-placed v = search (gives, parts)
+variadic-leveled v = search (always, parts)
 
-joined-placed : (ps : Params) {p : Param} (k : ℕ) → All-placed (ps .required-list) → All-placed (ps .default-list) → Placed (ps .variadic-one) → PlacedParam p → Gives PlacedParams (joined ps p k)
+joined-leveled : (ps : Params) {p : Param} (k : ℕ) → All-leveled (ps .required-list) → All-leveled (ps .default-list) → Leveled (ps .variadic-one) → LeveledParam p → Always LeveledParams (joined ps p k)
 unfolding joined
-joined-placed ps k a b c p-required = search (gives, parts) depth 9
-joined-placed ps k a b c p-variadic = search (gives, parts) depth 9
-joined-placed ps k a b c (p-default h) = search (gives, parts) depth 9
+joined-leveled ps k a b c p-required = search (always, parts) depth 9
+joined-leveled ps k a b c p-variadic = search (always, parts) depth 9
+joined-leveled ps k a b c (p-default h) = search (always, parts) depth 9
 
-module _ (low : Depth) (P : PlacedDepth low) where
-  binop-placed : (l : ℕ) → Gives (Within l) (binop-expr low l)
+module _ (low : Depth) (P : LeveledDepth low) where
+  binop-leveled : (l : ℕ) → Always (Within l) (binop-expr low l)
   unfolding binop-expr
-  binop-placed zero q ts = P .g-unary q ts
-  binop-placed (suc l) q ts =
-      k-on q (binop-placed l q ts) λ left q₁ r w.
-      operators-placed (binop-expr low l) l (binop-placed l) (length r) (record { placed = w .placed; most = omega (arith, w .most) }) q₁ r
+  binop-leveled zero q ts = P .g-unary q ts
+  binop-leveled (suc l) q ts =
+      k-on q (binop-leveled l q ts) λ left q₁ r w.
+      operators-leveled (binop-expr low l) l (binop-leveled l) (length r) (record { leveled = w .leveled; most = omega (arith, w .most) }) q₁ r
 
-  inner-placed : Gives Placed (inner-expr low)
-  inner-placed q ts = k-weaken (λ t r w. w .placed) (λ e r u. u) (binop-placed level-count q ts)
+  inner-leveled : Always Leveled (inner-expr low)
+  inner-leveled q ts = k-weaken (λ t r w. w .leveled) (λ e r u. u) (binop-leveled level-count q ts)
 
-  members-placed : (n : ℕ) (f : Forest) → All-placed f → Gives Placed (members low n f)
+  members-leveled : (n : ℕ) (f : Forest) → All-leveled f → Always Leveled (members low n f)
   unfolding members
-  members-placed zero f g q ts = k-failed
-  members-placed (suc n) f g q ts = search (gives, parts, inner-placed, members-placed n) depth 15
+  members-leveled zero f g q ts = k-failed
+  members-leveled (suc n) f g q ts = search (always, parts, inner-leveled, members-leveled n) depth 15
 
-  pub tuple-placed : Gives Placed (tuple-expr low)
+  pub tuple-leveled : Always Leveled (tuple-expr low)
   unfolding tuple-expr
-  tuple-placed = search (gives, parts, inner-placed, members-placed) depth 15
+  tuple-leveled = search (always, parts, inner-leveled, members-leveled) depth 15
 
-  pub expr-placed : Gives Placed (expr low)
+  pub expr-leveled : Always Leveled (expr low)
   unfolding expr
-  expr-placed = search (gives, parts, tuple-placed, pattern-placed, P .g-right) depth 15
+  expr-leveled = search (always, parts, tuple-leveled, pattern-leveled, P .g-right) depth 15
 
-  group-placed : Gives (Within 0) (group-expr low)
+  group-leveled : Always (Within 0) (group-expr low)
   unfolding group-expr
-  group-placed = search (gives, parts, expr-placed) depth 15
+  group-leveled = search (always, parts, expr-leveled) depth 15
 
-  pub atom-placed : Gives (Within 0) (atom low)
+  pub atom-leveled : Always (Within 0) (atom low)
   unfolding atom
-  atom-placed = search (gives, group-placed, literal-placed)
+  atom-leveled = search (always, group-leveled, literal-leveled)
 
-  indexing-placed : Gives Placed (indexing-expr low)
+  indexing-leveled : Always Leveled (indexing-expr low)
   unfolding indexing-expr
-  indexing-placed = search (gives, expr-placed)
+  indexing-leveled = search (always, expr-leveled)
 
-  field-placed : Gives Placed (table-field low)
+  field-leveled : Always Leveled (table-field low)
   unfolding table-field
-  field-placed = search (gives, parts, indexing-placed, field-name-placed) depth 15
+  field-leveled = search (always, parts, indexing-leveled, field-name-leveled) depth 15
 
-  item-placed : Gives Placed (table-item low)
+  item-leveled : Always Leveled (table-item low)
   unfolding table-item
-  item-placed = search (gives, parts, field-placed, inner-placed) depth 15
+  item-leveled = search (always, parts, field-leveled, inner-leveled) depth 15
 
-  items-placed : (n : ℕ) (f : Forest) → All-placed f → Gives All-placed (table-items low n f)
+  items-leveled : (n : ℕ) (f : Forest) → All-leveled f → Always All-leveled (table-items low n f)
   unfolding table-items
-  items-placed zero f g q ts = k-failed
-  items-placed (suc n) f g q ts = search (gives, parts, item-placed, items-placed n) depth 15
+  items-leveled zero f g q ts = k-failed
+  items-leveled (suc n) f g q ts = search (always, parts, item-leveled, items-leveled n) depth 15
 
-  invocation-placed : Gives Placed (invocation low)
+  invocation-leveled : Always Leveled (invocation low)
   unfolding invocation
-  invocation-placed = search (gives, parts, expr-placed) depth 15
+  invocation-leveled = search (always, parts, expr-leveled) depth 15
 
-  pub path-placed : (calls : Bool) (n : ℕ) (f : Forest) → All-placed f → Gives All-placed (path low calls n f)
+  pub path-leveled : (calls : Bool) (n : ℕ) (f : Forest) → All-leveled f → Always All-leveled (path low calls n f)
   unfolding path
-  path-placed calls zero f g q ts = k-failed
-  path-placed calls (suc n) f g q ts = search (gives, parts, member-placed, indexing-placed, invocation-placed, items-placed, path-placed calls n) depth 15
+  path-leveled calls zero f g q ts = k-failed
+  path-leveled calls (suc n) f g q ts = search (always, parts, member-leveled, indexing-leveled, invocation-leveled, items-leveled, path-leveled calls n) depth 15
 
-  pub primary-placed : Gives (Within 0) (primary low)
+  pub primary-leveled : Always (Within 0) (primary low)
   unfolding primary
-  primary-placed = search (gives, parts, atom-placed, path-placed)
+  primary-leveled = search (always, parts, atom-leveled, path-leveled)
 
-  unpack-placed : Gives (Within 0) (unpack-expr low)
+  unpack-leveled : Always (Within 0) (unpack-expr low)
   unfolding unpack-expr
-  unpack-placed = search (gives, parts, primary-placed) depth 15
+  unpack-leveled = search (always, parts, primary-leveled) depth 15
 
-  body-placed : Gives PlacedStmts (body low)
+  body-leveled : Always LeveledStmts (body low)
   unfolding body
-  body-placed = search (gives, parts, P .g-list)
+  body-leveled = search (always, parts, P .g-list)
 
-  block-expr-placed : (l : ℕ) → Gives (Within 0) (block-expr low l)
+  block-expr-leveled : (l : ℕ) → Always (Within 0) (block-expr low l)
   unfolding block-expr
-  block-expr-placed l = search (gives, parts, body-placed) depth 9
+  block-expr-leveled l = search (always, parts, body-leveled) depth 9
 
-  expr-label-placed : (l : ℕ) → Gives (Within 0) (expr-label low l)
+  expr-label-leveled : (l : ℕ) → Always (Within 0) (expr-label low l)
   unfolding expr-label
-  expr-label-placed l = search (gives, block-expr-placed)
+  expr-label-leveled l = search (always, block-expr-leveled)
 
-  branches-placed : (n : ℕ) (f : Forest) → All-placed f → Gives (Within 0) (branches low n f)
+  branches-leveled : (n : ℕ) (f : Forest) → All-leveled f → Always (Within 0) (branches low n f)
   unfolding branches
-  branches-placed zero f g q ts = k-failed
-  branches-placed (suc n) f g q ts = search (gives, parts, expr-placed, body-placed, P .g-list, branches-placed n) depth 20
+  branches-leveled zero f g q ts = k-failed
+  branches-leveled (suc n) f g q ts = search (always, parts, expr-leveled, body-leveled, P .g-list, branches-leveled n) depth 20
 
-  plain-placed : (v : ℕ) → Gives PlacedParam (plain-param low v)
+  plain-leveled : (v : ℕ) → Always LeveledParam (plain-param low v)
   unfolding plain-param
-  plain-placed v = search (gives, parts, expr-placed)
+  plain-leveled v = search (always, parts, expr-leveled)
 
-  param-placed : Gives PlacedParam (param low)
+  param-leveled : Always LeveledParam (param low)
   unfolding param
-  param-placed = search (gives, variadic-placed, plain-placed)
+  param-leveled = search (always, variadic-leveled, plain-leveled)
 
-  params-placed : (n : ℕ) (ps : Params) → All-placed (ps .required-list) → All-placed (ps .default-list) → Placed (ps .variadic-one) → Gives PlacedParams (params low n ps)
+  params-leveled : (n : ℕ) (ps : Params) → All-leveled (ps .required-list) → All-leveled (ps .default-list) → Leveled (ps .variadic-one) → Always LeveledParams (params low n ps)
   unfolding params
-  params-placed zero ps a b c q ts = k-failed
-  params-placed (suc n) ps a b c q ts = search (gives, parts, param-placed, joined-placed, params-placed n) depth 15
+  params-leveled zero ps a b c q ts = k-failed
+  params-leveled (suc n) ps a b c q ts = search (always, parts, param-leveled, joined-leveled, params-leveled n) depth 15
 
-  function-def-placed : (name : ℕ) → Gives (Within 0) (function-def low name)
+  function-def-leveled : (name : ℕ) → Always (Within 0) (function-def low name)
   unfolding function-def
-  function-def-placed name = search (gives, parts, params-placed, body-placed) depth 15
+  function-def-leveled name = search (always, parts, params-leveled, body-leveled) depth 15
 
-  pub target-placed : Gives Placed (function-assignment-target low)
+  pub target-leveled : Always Leveled (function-assignment-target low)
   unfolding function-assignment-target
-  target-placed = search (gives, parts, atom-placed, path-placed, pattern-placed) depth 15
+  target-leveled = search (always, parts, atom-leveled, path-leveled, pattern-leveled) depth 15
 
-  function-placed : Gives (Within 0) (function-decl-expr low)
+  function-leveled : Always (Within 0) (function-decl-expr low)
   unfolding function-decl-expr
-  function-placed = search (gives, parts, function-def-placed, target-placed) depth 15
+  function-leveled = search (always, parts, function-def-leveled, target-leveled) depth 15
 
-  loop-placed : (l : ℕ) → Gives Placed (loop low l)
+  loop-leveled : (l : ℕ) → Always Leveled (loop low l)
   unfolding loop
-  loop-placed l = search (gives, parts, body-placed) depth 15
+  loop-leveled l = search (always, parts, body-leveled) depth 15
 
-  while-placed : (l : ℕ) → Gives Placed (while-loop low l)
+  while-leveled : (l : ℕ) → Always Leveled (while-loop low l)
   unfolding while-loop
-  while-placed l = search (gives, parts, expr-placed, body-placed) depth 15
+  while-leveled l = search (always, parts, expr-leveled, body-leveled) depth 15
 
-  lvalue-placed : Gives Placed (lvalue-list low)
+  lvalue-leveled : Always Leveled (lvalue-list low)
   unfolding lvalue-list
-  lvalue-placed = search (gives, tuple-placed, pattern-placed, modified-placed) depth 9
+  lvalue-leveled = search (always, tuple-leveled, pattern-leveled, modified-leveled) depth 9
 
-  for-placed : (l : ℕ) → Gives Placed (for-loop low l)
+  for-leveled : (l : ℕ) → Always Leveled (for-loop low l)
   unfolding for-loop
-  for-placed l = search (gives, parts, lvalue-placed, expr-placed, body-placed) depth 15
+  for-leveled l = search (always, parts, lvalue-leveled, expr-leveled, body-leveled) depth 15
 
-  stmt-label-placed : (l : ℕ) → Gives Placed (stmt-label low l)
+  stmt-label-leveled : (l : ℕ) → Always Leveled (stmt-label low l)
   unfolding stmt-label
-  stmt-label-placed l = search (gives, loop-placed, while-placed, for-placed)
+  stmt-label-leveled l = search (always, loop-leveled, while-leveled, for-leveled)
 
-  pub stmt-placed : Gives Placed (stmt low)
+  pub stmt-leveled : Always Leveled (stmt low)
   unfolding stmt
-  stmt-placed = search (gives, parts, loop-placed, while-placed, for-placed, stmt-label-placed, expr-placed) depth 15
+  stmt-leveled = search (always, parts, loop-leveled, while-leveled, for-leveled, stmt-label-leveled, expr-leveled) depth 15
 
-  control-value-placed : Gives Placed (control-value low)
+  control-value-leveled : Always Leveled (control-value low)
   unfolding control-value
-  control-value-placed = search (gives, parts, expr-placed)
+  control-value-leveled = search (always, parts, expr-leveled)
 
-  control-placed : (k : ℕ) → Gives Placed (control-flow low k)
+  control-leveled : (k : ℕ) → Always Leveled (control-flow low k)
   unfolding control-flow
-  control-placed k = search (gives, parts, control-value-placed) depth 9
+  control-leveled k = search (always, parts, control-value-leveled) depth 9
 
-  stmts-placed : (end n : ℕ) (f : Forest) → All-placed f → Gives PlacedStmts (stmts low end n f)
+  stmts-leveled : (end n : ℕ) (f : Forest) → All-leveled f → Always LeveledStmts (stmts low end n f)
   unfolding stmts
-  stmts-placed end zero f g q ts = k-failed
-  stmts-placed end (suc n) f g q ts = search (gives, parts, control-placed, stmt-placed, stmts-placed end n) depth 15
+  stmts-leveled end zero f g q ts = k-failed
+  stmts-leveled end (suc n) f g q ts = search (always, parts, control-leveled, stmt-leveled, stmts-leveled end n) depth 15
 
-  primary-expr-placed : Gives (Within 0) (primary-expr low)
+  primary-expr-leveled : Always (Within 0) (primary-expr low)
   unfolding primary-expr
-  primary-expr-placed = search (gives, parts, function-placed, branches-placed, block-expr-placed, items-placed, expr-label-placed, unpack-placed) depth 15
+  primary-expr-leveled = search (always, parts, function-leveled, branches-leveled, block-expr-leveled, items-leveled, expr-label-leveled, unpack-leveled) depth 15
 
-  unary-placed : Gives (Within 0) (unary-expr low)
+  unary-leveled : Always (Within 0) (unary-expr low)
   unfolding unary-expr
-  unary-placed = search (gives, parts, primary-expr-placed, p-unary, P .g-unary) depth 9
+  unary-leveled = search (always, parts, primary-expr-leveled, p-unary, P .g-unary) depth 9
 
-pub depth-levels : (d : ℕ) → PlacedDepth (at-depth d)
+pub depth-levels : (d : ℕ) → LeveledDepth (at-depth d)
 unfolding at-depth
 depth-levels zero = record { g-unary = λ q ts. k-stop; g-right = λ q ts. k-stop; g-list = λ end q ts. k-stop }
 depth-levels (suc d) =
     record {
-      g-unary = unary-placed (at-depth d) (depth-levels d);
-      g-right = expr-placed (at-depth d) (depth-levels d);
-      g-list = λ end q ts. stmts-placed (at-depth d) (depth-levels d) end (length ts) none p-none q ts;
+      g-unary = unary-leveled (at-depth d) (depth-levels d);
+      g-right = expr-leveled (at-depth d) (depth-levels d);
+      g-list = λ end q ts. stmts-leveled (at-depth d) (depth-levels d) end (length ts) none p-none q ts;
     }
 
-failed-placed : (d : ℕ) (e : Error) → Gives Placed (failed d e)
+failed-leveled : (d : ℕ) (e : Error) → Always Leveled (failed d e)
 unfolding failed
-failed-placed d e = search gives
+failed-leveled d e = search always
 
-pub next-levels : (d : ℕ) → Gives Placed (next d)
+pub next-levels : (d : ℕ) → Always Leveled (next d)
 unfolding next
-next-levels d = search (gives, stmt-placed (at-depth d) (depth-levels d), failed-placed)
+next-levels d = search (always, stmt-leveled (at-depth d) (depth-levels d), failed-leveled)

@@ -1,4 +1,4 @@
--- The scan of a tree's records says as much as the tree does: `placed-in-order`, `in-order-placed`. Assumes nothing.
+-- The scan of a tree's records says as much as the tree does: `leveled-in-order`, `in-order-leveled`. Assumes nothing.
 use mathlib.Core.Path.{_≡_, refl, sym, _∙_}
 use mathlib.Core.Bool.{true, _&&_, and-assoc, and-true}
 use mathlib.Core.List.{List, [], _∷_, _++_, append-assoc, append-nil}
@@ -9,7 +9,7 @@ use lib.Seq.{take-at, drop-at}
 use Rattle.tree.specs.Tree.{Tree, Forest, node, none, more, count, records, all-records}
 use Rattle.tree.specs.Records.{Small, Smalls}
 use Rattle.grammar.specs.Levels.{fits, in-order}
-use Rattle.grammar.specs.Laws.Levels.Placed.{level-of, levels, tree-fits, forest-fits, Placed}
+use Rattle.grammar.specs.Laws.Levels.Leveled.{level-of, levels, tree-fits, forest-fits, Leveled}
 
 -- the levels of a node's children are those that its record takes off
 
@@ -47,8 +47,8 @@ scan-is : (t : Tree) → Small t → in-order [] (records t) ≡ tree-fits t
 unfolding in-order
 scan-is t h = rw (← append-nil (records t)) (in-order-tree t h [] []) ∙ and-true (tree-fits t)
 
-pub placed-in-order : {t : Tree} → Placed t → in-order [] (records t) ≡ true
-placed-in-order {t} h = scan-is t (h .small) ∙ h .fit
+pub leveled-in-order : {t : Tree} → Leveled t → in-order [] (records t) ≡ true
+leveled-in-order {t} h = scan-is t (h .small) ∙ h .fit
 
-pub in-order-placed : {t : Tree} → Small t → in-order [] (records t) ≡ true → Placed t
-in-order-placed {t} h e = record { small = h; fit = sym (scan-is t h) ∙ e }
+pub in-order-leveled : {t : Tree} → Small t → in-order [] (records t) ≡ true → Leveled t
+in-order-leveled {t} h e = record { small = h; fit = sym (scan-is t h) ∙ e }

@@ -1,5 +1,5 @@
 -- The trees in which every node fits what stands under it, as the walk over the readings needs them: each with kinds below 256, so that its records tell the tree.
--- What such trees are put together to is such a tree, and such a tree is ordered in document 02's words: `placed-ordered`. Assumes nothing.
+-- What such trees are put together to is such a tree, and such a tree is ordered in document 02's words: `leveled-ordered`. Assumes nothing.
 use mathlib.Core.Path.{_≡_, refl}
 use mathlib.Core.Bool.{Bool, true, _&&_}
 use mathlib.Core.List.{List, [], _∷_}
@@ -32,17 +32,17 @@ unfoldable mutual
   forest-fits (more t f) = tree-fits t && forest-fits f
 
 -- what each reading keeps of the trees that it puts together
-pub record Placed (t : Tree) : Type 0 where
+pub record Leveled (t : Tree) : Type 0 where
   pub small : Small t
   pub fit : tree-fits t ≡ true
 
-pub record All-placed (f : Forest) : Type 0 where
+pub record All-leveled (f : Forest) : Type 0 where
   pub smalls : Smalls f
   pub fit : forest-fits f ≡ true
 
 -- a tree whose node is of the level l or less, as the operands of a level
 pub record Within (l : ℕ) (t : Tree) : Type 0 where
-  pub placed : Placed t
+  pub leveled : Leveled t
   pub most : level-of t ≤ l
 
 -- what they are put together to
@@ -50,85 +50,85 @@ pub record Within (l : ℕ) (t : Tree) : Type 0 where
 both : {a b : Bool} → a ≡ true → b ≡ true → a && b ≡ true
 both p q = rw p q
 
-pub p-none : All-placed none
+pub p-none : All-leveled none
 unfolding Small tree-fits
 p-none = record { smalls = tt; fit = refl }
 
-pub p-more : {t : Tree} {f : Forest} → Placed t → All-placed f → All-placed (more t f)
+pub p-more : {t : Tree} {f : Forest} → Leveled t → All-leveled f → All-leveled (more t f)
 unfolding Small tree-fits
 p-more h g = record { smalls = (h .small, g .smalls); fit = both (h .fit) (g .fit) }
 
-made : (k v : ℕ) {f : Forest} → ltb k 256 ≡ true → fits k v (levels f []) ≡ true → All-placed f → Placed (node k v f)
+made : (k v : ℕ) {f : Forest} → ltb k 256 ≡ true → fits k v (levels f []) ≡ true → All-leveled f → Leveled (node k v f)
 unfolding Small tree-fits
 made k v l e g = record { small = (ltb-true k 256 l, g .smalls); fit = both (g .fit) e }
 
 -- a node of a kind that is no operator's fits any children
-pub p-node : (k v : ℕ) {f : Forest} → ltb k 256 ≡ true → ((v : ℕ) (children : List ℕ) → fits k v children ≡ true) → All-placed f → Placed (node k v f)
+pub p-node : (k v : ℕ) {f : Forest} → ltb k 256 ≡ true → ((v : ℕ) (children : List ℕ) → fits k v children ≡ true) → All-leveled f → Leveled (node k v f)
 p-node k v {f} l e g = made k v l (e v (levels f [])) g
 
 -- operators, by the levels of what stands under them
-pub p-unary : (op : ℕ) {t : Tree} → Placed t → level-of t ≡ 0 → Placed (Node.unary-op op t)
+pub p-unary : (op : ℕ) {t : Tree} → Leveled t → level-of t ≡ 0 → Leveled (Node.unary-op op t)
 p-unary op {t} h e = made _ op refl (eq-eqb (level-of t) 0 e) (p-more h p-none)
 
 pub p-binary : {l : ℕ} (op : ℕ) {a b : Tree} → number-level op ≡ suc l → Within (suc l) a → Within l b → Within (suc l) (Node.binary-op op a b)
 p-binary op {a} {b} e g h =
     let left = le-leb (level-of a) (number-level op) (omega (arith, g .most)) in
     let right = lt-ltb (level-of b) (number-level op) (omega (arith, h .most)) in
-    record { placed = made _ op refl (both left right) (p-more (g .placed) (p-more (h .placed) p-none)); most = omega arith }
+    record { leveled = made _ op refl (both left right) (p-more (g .leveled) (p-more (h .leveled) p-none)); most = omega arith }
 
 -- what is no binary operator is an operand
-pub p-operand : {t : Tree} → Placed t → level-of t ≡ 0 → Within 0 t
-p-operand h e = record { placed = h; most = omega (arith, e) }
+pub p-operand : {t : Tree} → Leveled t → level-of t ≡ 0 → Within 0 t
+p-operand h e = record { leveled = h; most = omega (arith, e) }
 
 -- what they are put together of
 
-pub p-children : {k v : ℕ} {f : Forest} → Placed (node k v f) → All-placed f
+pub p-children : {k v : ℕ} {f : Forest} → Leveled (node k v f) → All-leveled f
 unfolding Small tree-fits
 p-children h = record { smalls = h .small .1; fit = and-l _ _ (h .fit) }
 
-pub p-first : {t : Tree} {f : Forest} → All-placed (more t f) → Placed t
+pub p-first : {t : Tree} {f : Forest} → All-leveled (more t f) → Leveled t
 unfolding Small tree-fits
 p-first g = record { small = g .smalls .0; fit = and-l _ _ (g .fit) }
 
-pub p-later : {t : Tree} {f : Forest} → All-placed (more t f) → All-placed f
+pub p-later : {t : Tree} {f : Forest} → All-leveled (more t f) → All-leveled f
 unfolding Small tree-fits
 p-later {t} g = record { smalls = g .smalls .1; fit = and-r (tree-fits t) _ (g .fit) }
 
-node-fits : {k v : ℕ} {f : Forest} → Placed (node k v f) → fits k v (levels f []) ≡ true
+node-fits : {k v : ℕ} {f : Forest} → Leveled (node k v f) → fits k v (levels f []) ≡ true
 unfolding tree-fits
 node-fits {f = f} h = and-r (forest-fits f) _ (h .fit)
 
 -- one tree more at the end
-pub p-snoc : {f : Forest} {t : Tree} → All-placed f → Placed t → All-placed (snoc f t)
+pub p-snoc : {f : Forest} {t : Tree} → All-leveled f → Leveled t → All-leveled (snoc f t)
 unfolding snoc
 p-snoc {f = none} g h = p-more h p-none
 p-snoc {f = more u f} g h = p-more (p-first g) (p-snoc (p-later g) h)
 
--- each node of a placed tree is placed, with what stands under it
+-- each node of a leveled tree is leveled, with what stands under it
 
 mutual
-  p-in : {u t : Tree} → In u t → Placed t → Placed u
+  p-in : {u t : Tree} → In u t → Leveled t → Leveled u
   p-in itself h = h
   p-in (under i) h = p-in-any i (p-children h)
 
-  p-in-any : {u : Tree} {f : Forest} → InAny u f → All-placed f → Placed u
+  p-in-any : {u : Tree} {f : Forest} → InAny u f → All-leveled f → Leveled u
   p-in-any (in-first i) g = p-in i (p-first g)
   p-in-any (in-later i) g = p-in-any i (p-later g)
 
 -- so what stands under an operator is as document 02 says
 
-sides : {op : ℕ} {a b : Tree} → Placed (Node.binary-op op a b) → (level-of a ≤ number-level op) × (level-of b < number-level op)
+sides : {op : ℕ} {a b : Tree} → Leveled (Node.binary-op op a b) → (level-of a ≤ number-level op) × (level-of b < number-level op)
 sides {op} {a} {b} h =
     let e = node-fits h in
     let l = leb (level-of a) (number-level op) in
     (leb-true _ _ (and-l l _ e), ltb-true _ _ (and-r l _ e))
 
-no-operator : {op o : ℕ} {a b : Tree} → Placed (Node.unary-op op (Node.binary-op o a b)) → ⊥
+no-operator : {op o : ℕ} {a b : Tree} → Leveled (Node.unary-op op (Node.binary-op o a b)) → ⊥
 no-operator {o = o} h =
     let e : number-level o ≡ 0 = eqb-true _ _ (node-fits h) in
     omega (arith, sides (p-first (p-children h)))
 
-pub placed-ordered : {t : Tree} → Placed t → Ordered t
-placed-ordered h = record { left = λ i. sides (p-in i h) .0; right = λ i. sides (p-in i h) .1; operand = λ i. no-operator (p-in i h) }
+pub leveled-ordered : {t : Tree} → Leveled t → Ordered t
+leveled-ordered h = record { left = λ i. sides (p-in i h) .0; right = λ i. sides (p-in i h) .1; operand = λ i. no-operator (p-in i h) }
 
-pub ruleset placing = (p-none, p-more, p-node, p-snoc, p-operand)
+pub ruleset leveling = (p-none, p-more, p-node, p-snoc, p-operand)
