@@ -1,6 +1,6 @@
 -- Document 02, P1: from a fresh reader, over every run of tokens, 24, 28 and 32 are never answered, and none of them ever waits (`never-met`). The claim is about a fresh reader,
 -- since a reader may be handed in in which one of them waits: 61 allows it, and then it is answered. That none is ever on its way is `stmt-numbers` in grammar's Laws/Numbers.antt, with
--- the three reasons in Laws/Unmet.antt; 24 and 28 do not lean on the reason for 32. Assumes nothing.
+-- the reasons for 24 and 28 in Laws/Unmet.antt and that for 32, on which the other two do not lean, in Laws/Order.antt. Assumes nothing.
 use mathlib.Core.Path.{_≡_, refl}
 use mathlib.Core.Logic.{_≢_}
 use mathlib.Core.Bool.{false}

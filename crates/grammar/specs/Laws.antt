@@ -15,6 +15,7 @@ pub mod Small
 pub mod Length
 pub mod Append
 pub mod Unmet
+pub mod Order
 pub mod Waits
 pub mod Numbers
 pub mod Top

@@ -145,3 +145,6 @@ module _ (I : List ℕ → Type 0) where
   k-pop (e ∷ q) i = k-fail i
 
 pub ruleset keeps = (k-ok, k-bad, k-fail, k-stop, k-then, k-near, k-either, k-if, k-push, k-pop, k-front, here)
+
+-- where nothing is asked of the readings before
+pub ruleset successes = (k-ok, k-failed, k-any, k-if)

@@ -27,7 +27,8 @@ use Rattle.grammar.specs.Reading.Number
 use Rattle.grammar.specs.Reading.Next.{front, failed}
 use Rattle.grammar.specs.Laws.Facts.{clash, other}
 use Rattle.grammar.specs.Laws.Seen.{kind-at, look-seen, not-at}
-use Rattle.grammar.specs.Laws.Unmet.{primary-no-unpack, params-close, NoCommaBehind, param-no-comma, Orderly, joined-orderly}
+use Rattle.grammar.specs.Laws.Unmet.{primary-no-unpack, params-close}
+use Rattle.grammar.specs.Laws.Order.{NoCommaBehind, param-no-comma, Orderly, joined-orderly}
 use Rattle.grammar.specs.Laws.Waits.{OtherThan, IsStop, three-unmet, n-after, n-tested, Waits, Num, n-ok, n-bad, n-fail, n-stop, waits-front, Caught, c-fail, Past, p-ok, p-bad, nums, waits-less, n-unclean, n-then, n-if, c-push, n-caught, n-stays, n-pop, p-either, p-if, n-behind, c-failing}
 
 -- J holds of 32, the wrong order of parameters, or no comma follows an expression, so that 32 is not met

@@ -12,7 +12,7 @@ use Rattle.grammar.specs.Reading.Number
 use Rattle.grammar.specs.Reading.Result.{Error, Res, bad, fail, unclean, either, then, ifb}
 use Rattle.grammar.specs.Reading.Next.{start, next}
 use Rattle.grammar.specs.Laws.Facts.{and-r, if-both}
-use Rattle.grammar.specs.Laws.Unmet.{no-comma-behind}
+use Rattle.grammar.specs.Laws.Order.{no-comma-behind}
 use Rattle.grammar.specs.Laws.Waits.{OtherThan, two-unmet, three-unmet, error-of, IsError, Waits, Num, n-ok, n-bad, n-fail, n-stop, waits-none, nums, n-unclean, n-then}
 use Rattle.grammar.specs.Laws.Numbers.{Covers, look-nums, stmt-numbers, failed-nums}
 
