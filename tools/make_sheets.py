@@ -21,13 +21,15 @@ import sys
 
 sys.dont_write_bytecode = True  # no compiled files beside the sources
 import canonical
+import stored
 import supplied
 
 ROOT = os.path.dirname(os.path.dirname(os.path.abspath(__file__)))
 HEADER = """# Sheets with the answers that the published parser gave for them, and what the writer makes of their trees. Made by
 #   tools/make_sheets.py --oracle DIR --build DIR --seeds %(seeds)s
 # from the sheets of document 01, gen.py's families a to f with these seeds, such sheets joined to nearly 500 tokens, sheets with a
-# lexer error in the place of each token in turn and before it, the sheets of canonical.txt, and trees of those, altered.
+# lexer error in the place of each token in turn and before it, sheets about request P1 of document 02 (the numbers 24, 28 and 32, the
+# operators' levels), the sheets of canonical.txt, and trees of all but the joined ones and P1's, altered.
 #
 # s WORDS            a sheet: two words for each token, kind + 256 x newline, then the value; the line above it has its text
 # t WORDS = READER   the next answer is a tree with these records, two words each
@@ -43,34 +45,6 @@ HEADER = """# Sheets with the answers that the published parser gave for them, a
 # there are those of the parser patched with document 01's own.
 """
 
-# document 01, "Sheets tried", the starred ones included
-TRIED = [
-    "",
-    "EOF",
-    "^n7 + 1 ^EOF",
-    "a",
-    ") a b EOF",
-    ") assert a EOF",
-    "begin 1 ; continue ; end EOF",
-    "begin continue x",
-    "::5 begin end EOF",
-    "class a EOF",
-    "a , EOF",
-    "begin LEXERR a end EOF",
-    "if c then continue x y d then 2 end EOF",
-    "a ( b ) EOF",
-    "a ^( b ) EOF",
-    "- " * 63 + "a EOF",
-    "- " * 64 + "a EOF",
-    "a = " * 63 + "a EOF",
-    "a = " * 64 + "a EOF",
-    "a ; b EOF",
-    "a b EOF",
-    "local a = 1 EOF",
-    "( a ) = 1 EOF",
-    "( a ) EOF",
-]
-
 # family, sheets for each seed, options of gen.py, tokens at least
 FAMILIES = [
     ("a", 60, [], 0),
@@ -81,18 +55,6 @@ FAMILIES = [
     ("d", 45, [], 0),
     ("e", 45, [], 0),
     ("f", 25, [], 0),
-]
-
-# every place of these is replaced by a lexer error in turn
-DAMAGED = [
-    "a + b ; c EOF",
-    "begin a ; continue end b EOF",
-    "loop begin ) ; a end ; break end EOF",
-    "if a then b elif c then d else f end EOF",
-    "fun f ( a , b = 1 , ... c ) a end EOF",
-    "let ( a , ... b ) = f ( 1 , x . y [ 2 ] ) EOF",
-    "for a , b in c do ::1 while d do continue ::1 end end EOF",
-    "{ a = 1 , [ b ] = 2 , let c = 3 } ; assert not a EOF",
 ]
 
 # values that an altered record gets: operators' and modifiers' numbers and one more, the ends of the names' range, the greatest word
@@ -341,7 +303,7 @@ def main():
     import tokens
     write = sys.stdout.write
     write(HEADER % {"seeds": args.seeds})
-    trees = group("document 01", [tokens.sheet(row) for row in TRIED], args, tokens, write)
+    trees = group("document 01", [tokens.sheet(row) for row in stored.TRIED], args, tokens, write)
     for family in "abcdef":
         sheets = []
         for seed in args.seeds.split(","):
@@ -351,8 +313,10 @@ def main():
         trees += group("family " + family, sheets, args, tokens, write)
     sheets = [toks for seed in args.seeds.split(",") for toks in generated(args.oracle, "mix", int(seed), 100, ["--max-tokens", "120"], 0)]
     group("joined to 500 tokens", joined(sheets, (tokens.EOF, 0, 0)), args, tokens, write)
-    broken = [toks for row in DAMAGED for toks in damaged(tokens.sheet(row), (tokens.LEXERR, 0, 0))]
+    broken = [toks for row in stored.DAMAGED for toks in damaged(tokens.sheet(row), (tokens.LEXERR, 0, 0))]
     trees += group("lexer errors everywhere", broken, args, tokens, write)
+    # the trees of P1's sheets stay out of those that are altered, so that these are the same with and without P1
+    group("numbers and levels", [tokens.sheet(row) for row in stored.NUMBERS + stored.mixed() + stored.PLACES], args, tokens, write)
     trees += supplied_group(args, tokens, write)
     altered_groups(trees, args, tokens, write)
 

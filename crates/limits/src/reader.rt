@@ -133,6 +133,13 @@ fn answered(t: Tally, error: u64, tokens: &[u64]) -> Tally {
     called(a, b"waiting", error, reader, tokens, 0, want, &[])
 }
 
+// The numbers that no reading gives are errors' numbers: where a host hands in a reader in which they wait, they are answered.
+fn never_read(t: Tally, tokens: &[u64]) -> Tally {
+    let a = answered(t, 24, tokens);
+    let b = answered(a, 28, tokens);
+    answered(b, 32, tokens)
+}
+
 // The statement `b` of the sheet `a ; b EOF`, by a reader in its middle, at the semicolon and behind it.
 fn middle(t: Tally, position: usize, tokens: &[u64]) -> Tally {
     let name = b"reader in the middle, position";
@@ -184,7 +191,8 @@ fn not_reading(t: Tally, tokens: &[u64]) -> Tally {
     let c = stopped(b, 64, tokens);
     let d = answered(c, 1, tokens);
     let e = answered(d, 2, tokens);
-    answered(e, 52, tokens)
+    let f = answered(e, 52, tokens);
+    never_read(f, tokens)
 }
 
 // Readers that read on.
