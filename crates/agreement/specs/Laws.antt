@@ -6,3 +6,4 @@ pub mod Deep
 pub mod Calls
 pub mod Met
 pub mod Writer
+pub mod Ordered

@@ -12,14 +12,14 @@ use Rattle.tree.specs.Tree.{Tree, records}
 use Rattle.tree.specs.Maybe.{just}
 use Rattle.tree.specs.Decode.{decode}
 use Rattle.tree.specs.Records.{records-length, decode-records, decode-text}
-use Rattle.grammar.specs.Levels.{Ordered, in-order}
+use Rattle.grammar.specs.Levels.{in-order}
 use Rattle.grammar.specs.Reading.Limit.{depth-limit}
 use Rattle.grammar.specs.Reading.Number
 use Rattle.grammar.specs.Reading.Result.{Error, Res, ifb}
 use Rattle.grammar.specs.Reading.Next.{error-kind, error-answer, Called, called, answered}
 use Rattle.grammar.specs.Laws.Keep.{Holds, k-ok, k-bad, k-fail, k-stop}
 use Rattle.grammar.specs.Laws.Returned.{waiting-in}
-use Rattle.grammar.specs.Laws.Levels.Leveled.{Leveled, leveled-ordered}
+use Rattle.grammar.specs.Laws.Levels.Leveled.{Leveled}
 use Rattle.grammar.specs.Laws.Levels.Records.{leveled-in-order, in-order-leveled}
 use Rattle.grammar.specs.Laws.Levels.Nonterminals.{next-levels}
 use Rattle.grammar.specs.Promise.{Outcome, no-sheet, no-reader, stopped, waited, short, reads, outcome}
@@ -27,7 +27,9 @@ use Rattle.grammar.specs.declared.Answer.{Answer}
 use Rattle.grammar.specs.declared.Answer.the-variants.{Tree as ATree, Error as AError, End, Stopped, Refused}
 use Rattle.grammar.specs.declared.Reader.{Reader}
 use Rattle.agreement.specs.Calls.{Entry, Gives, unread}
+use Rattle.agreement.specs.Ordered.{Ordered}
 use Rattle.agreement.specs.Laws.Calls.{given-is}
+use Rattle.agreement.specs.Laws.Ordered.{leveled-ordered}
 
 -- these words are the records of a tree, and of no other; its operators stand by their levels, and who goes over the words sees it
 pub record LeveledWords (words : List ℕ) : Type 0 where

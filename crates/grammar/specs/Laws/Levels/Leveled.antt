@@ -1,17 +1,17 @@
 -- The trees in which every node fits what stands under it, as the walk over the readings needs them: each with kinds below 256, so that its records tell the tree.
--- What such trees are put together to is such a tree, and such a tree is ordered in document 02's words: `leveled-ordered`. Assumes nothing.
+-- What such trees are put together to is such a tree, and so is what they are put together of. Assumes nothing.
 use mathlib.Core.Path.{_≡_, refl}
 use mathlib.Core.Bool.{Bool, true, _&&_}
 use mathlib.Core.List.{List, [], _∷_}
-use Prim.Native.Nat.{ℕ, suc, _≤_, _<_}
+use Prim.Native.Nat.{ℕ, suc, _≤_}
 use native.Mathlib.Omega.{arith}
-use borrow.Author.Tests.{eqb-true, leb-true, ltb-true, eq-eqb, le-leb, lt-ltb}
-use lib.Dec.{leb, ltb}
+use borrow.Author.Tests.{ltb-true, eq-eqb, le-leb, lt-ltb}
+use lib.Dec.{ltb}
 use Rattle.operator.specs.Operator.{number-level}
 use Rattle.tree.specs.Tree.{Tree, Forest, node, none, more, snoc}
 use Rattle.tree.specs.Node
 use Rattle.tree.specs.Records.{Small, Smalls}
-use Rattle.grammar.specs.Levels.{In, InAny, itself, under, in-first, in-later, Ordered, level, fits}
+use Rattle.grammar.specs.Levels.{level, fits}
 use Rattle.grammar.specs.Laws.Facts.{and-l, and-r}
 
 -- the level of a tree is that of its node; those of a forest's trees, pushed on a list
@@ -94,7 +94,7 @@ pub p-later : {t : Tree} {f : Forest} → All-leveled (more t f) → All-leveled
 unfolding Small tree-fits
 p-later {t} g = record { smalls = g .smalls .1; fit = and-r (tree-fits t) _ (g .fit) }
 
-node-fits : {k v : ℕ} {f : Forest} → Leveled (node k v f) → fits k v (levels f []) ≡ true
+pub node-fits : {k v : ℕ} {f : Forest} → Leveled (node k v f) → fits k v (levels f []) ≡ true
 unfolding tree-fits
 node-fits {f = f} h = and-r (forest-fits f) _ (h .fit)
 
@@ -103,32 +103,5 @@ pub p-snoc : {f : Forest} {t : Tree} → All-leveled f → Leveled t → All-lev
 unfolding snoc
 p-snoc {f = none} g h = p-more h p-none
 p-snoc {f = more u f} g h = p-more (p-first g) (p-snoc (p-later g) h)
-
--- each node of a leveled tree is leveled, with what stands under it
-
-mutual
-  p-in : {u t : Tree} → In u t → Leveled t → Leveled u
-  p-in itself h = h
-  p-in (under i) h = p-in-any i (p-children h)
-
-  p-in-any : {u : Tree} {f : Forest} → InAny u f → All-leveled f → Leveled u
-  p-in-any (in-first i) g = p-in i (p-first g)
-  p-in-any (in-later i) g = p-in-any i (p-later g)
-
--- so what stands under an operator is as document 02 says
-
-sides : {op : ℕ} {a b : Tree} → Leveled (Node.binary-op op a b) → (level-of a ≤ number-level op) × (level-of b < number-level op)
-sides {op} {a} {b} h =
-    let e = node-fits h in
-    let l = leb (level-of a) (number-level op) in
-    (leb-true _ _ (and-l l _ e), ltb-true _ _ (and-r l _ e))
-
-no-operator : {op o : ℕ} {a b : Tree} → Leveled (Node.unary-op op (Node.binary-op o a b)) → ⊥
-no-operator {o = o} h =
-    let e : number-level o ≡ 0 = eqb-true _ _ (node-fits h) in
-    omega (arith, sides (p-first (p-children h)))
-
-pub leveled-ordered : {t : Tree} → Leveled t → Ordered t
-leveled-ordered h = record { left = λ i. sides (p-in i h) .0; right = λ i. sides (p-in i h) .1; operand = λ i. no-operator (p-in i h) }
 
 pub ruleset leveling = (p-none, p-more, p-node, p-snoc, p-operand)
