@@ -16,9 +16,8 @@ use Rattle.grammar.specs.Levels.{in-order}
 use Rattle.grammar.specs.Reading.Limit.{depth-limit}
 use Rattle.grammar.specs.Reading.Number
 use Rattle.grammar.specs.Reading.Result.{Error, Res, ifb}
-use Rattle.grammar.specs.Reading.Next.{error-kind, error-answer, Called, called, answered}
+use Rattle.grammar.specs.Reading.Next.{waiting-in, error-kind, error-answer, Called, called, answered}
 use Rattle.grammar.specs.Laws.Keep.{Holds, k-ok, k-bad, k-fail, k-stop}
-use Rattle.grammar.specs.Laws.Returned.{waiting-in}
 use Rattle.grammar.specs.Laws.Levels.Leveled.{Leveled}
 use Rattle.grammar.specs.Laws.Levels.Records.{leveled-in-order, in-order-leveled}
 use Rattle.grammar.specs.Laws.Levels.Nonterminals.{next-levels}

@@ -1,6 +1,6 @@
 -- Document 02, P1: from a fresh reader, over every run of tokens, 24, 28 and 32 are never answered, and none of them ever waits (`never-met`). The claim is about a fresh reader,
 -- since a reader may be handed in in which one of them waits: 61 allows it, and then it is answered. That none is ever on its way is `stmt-numbers` in grammar's Laws/Numbers.antt, with
--- the reasons for 24 and 28 in Laws/Unmet.antt and that for 32, on which the other two do not lean, in Laws/Order.antt. Assumes nothing.
+-- the reasons for 24 and 28 in Laws/NeverMet.antt and that for 32, on which the other two do not lean, in Laws/ParamOrder.antt. Assumes nothing.
 use mathlib.Core.Path.{_≡_, refl}
 use mathlib.Core.Logic.{_≢_}
 use mathlib.Core.Bool.{false}
@@ -8,12 +8,10 @@ use mathlib.Core.List.{List, List·Memᴰ}
 use Prim.Native.Nat.{ℕ}
 use Rattle.grammar.specs.Reading.Number
 use Rattle.grammar.specs.Reading.Result.{Error}
-use Rattle.grammar.specs.Reading.Next.{number, fresh, Called}
+use Rattle.grammar.specs.Reading.Next.{number, fresh, waiting-in, Called}
 use Rattle.grammar.specs.Laws.Facts.{clash}
-use Rattle.grammar.specs.Laws.Waits.{is-other, OtherThan, two-unmet, three-unmet, IsError}
-use Rattle.grammar.specs.Laws.Numbers.{Covers}
-use Rattle.grammar.specs.Laws.Top.{covers-but-two, covers-but-three}
-use Rattle.grammar.specs.Laws.Returned.{waiting-in}
+use Rattle.grammar.specs.Laws.Waits.{is-error-but, ErrorBut, two-never, three-never, IsError}
+use Rattle.grammar.specs.Laws.Top.{Covers, covers-but-two, covers-but-three}
 use Rattle.grammar.specs.declared.Reader.{Reader}
 use Rattle.agreement.specs.Calls.{Call, Run}
 use Rattle.agreement.specs.Laws.Met.{only-fresh, run-only, run-met, one-of}
@@ -30,15 +28,15 @@ pub record ThreeNeverMet : Type 0 where
   pub param-order : NeverMet Number.param-order
 
 -- an error that is not among those that can be met
-unmet : (xs : List Error) → Covers (OtherThan xs) → (e : Error) → IsError e → is-other xs e ≡ false → NeverMet e
-unmet xs M e i n = record {
+never : (xs : List Error) → Covers (ErrorBut xs) → (e : Error) → IsError e → is-error-but xs e ≡ false → NeverMet e
+never xs M e i n = record {
   answered = λ r g m x. clash (run-met M (only-fresh _) r g m i x) n;
   waiting = λ r m. clash (one-of (run-only M (only-fresh _) r .waits .errors) m) n;
 }
 
 pub never-met : ThreeNeverMet
 never-met = record {
-  nested-ellipsis = unmet two-unmet covers-but-two Number.nested-ellipsis refl refl;
-  params-closing = unmet two-unmet covers-but-two Number.params-closing refl refl;
-  param-order = unmet three-unmet covers-but-three Number.param-order refl refl;
+  nested-ellipsis = never two-never covers-but-two Number.nested-ellipsis refl refl;
+  params-closing = never two-never covers-but-two Number.params-closing refl refl;
+  param-order = never three-never covers-but-three Number.param-order refl refl;
 }

@@ -14,10 +14,10 @@ pub mod Sound
 pub mod Small
 pub mod Length
 pub mod Append
-pub mod Unmet
-pub mod Order
+pub mod NeverMet
 pub mod Waits
 pub mod Numbers
+pub mod ParamOrder
 pub mod Top
 pub mod Levels
 pub mod Returned

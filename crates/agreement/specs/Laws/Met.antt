@@ -7,11 +7,10 @@ use lib.ListN.{length}
 use Rattle.tree.specs.Tree.{Tree}
 use Rattle.grammar.specs.Reading.Limit.{depth-limit, queue-limit}
 use Rattle.grammar.specs.Reading.Result.{Error, fail}
-use Rattle.grammar.specs.Reading.Next.{fresh, Accepted, Called, next-stmt}
+use Rattle.grammar.specs.Reading.Next.{fresh, waiting-in, Accepted, Called, next-stmt}
 use Rattle.grammar.specs.Laws.Waits.{IsError, All, a-cons, Waits, waits-none, waits-front, n-fail}
-use Rattle.grammar.specs.Laws.Numbers.{Covers}
-use Rattle.grammar.specs.Laws.Top.{Top, t-end, t-num, next-numbers}
-use Rattle.grammar.specs.Laws.Returned.{waiting-in, fresh-accepted, returned-accepted, returned-whole, returned-waits}
+use Rattle.grammar.specs.Laws.Top.{Covers, Top, t-end, t-num, next-numbers}
+use Rattle.grammar.specs.Laws.Returned.{fresh-accepted, returned-accepted, returned-whole, returned-waits}
 use Rattle.grammar.specs.Promise.{ErrorCause, front-waits, reading-fails, said, answers-error}
 use Rattle.grammar.specs.declared.Reader.{Reader}
 use Rattle.agreement.specs.Calls.{Call, Gives, Run, no-call, a-call, unread}

@@ -1,8 +1,7 @@
 -- Only errors that can be met wait or are on their way, never more of them than the queue takes and never fewer than waited before, and only numbers of stops stop: a lemma
--- for each nonterminal, and `depth-numbers`, `stmt-numbers`, `failed-nums`. Assumes nothing.
+-- for each nonterminal, and `depth-numbers`, `stmt-numbers`, `failed-nums`. 24 and 28 cannot (Laws/NeverMet.antt); 32 can where the list of parameters has it (`list`). Assumes nothing.
 use mathlib.Core.Path.{_≡_, refl}
 use mathlib.Core.Bool.{Bool, true, false}
-use mathlib.Core.Logic.{_⊎_, inl, ⊎-elim}
 use mathlib.Core.List.{List, [], _∷_}
 use Prim.Native.Nat.{ℕ, zero, suc}
 use native.Mathlib.Omega.{arith}
@@ -25,20 +24,10 @@ use Rattle.grammar.specs.Reading.Stmt.{loop, while-loop, lvalue-list, fo
 use Rattle.grammar.specs.Reading.Depth.{primary-expr, unary-expr, at-depth}
 use Rattle.grammar.specs.Reading.Number
 use Rattle.grammar.specs.Reading.Next.{front, failed}
-use Rattle.grammar.specs.Laws.Facts.{clash, other}
+use Rattle.grammar.specs.Laws.Facts.{clash}
 use Rattle.grammar.specs.Laws.Seen.{kind-at, look-seen, not-at}
-use Rattle.grammar.specs.Laws.Unmet.{primary-no-unpack, params-close}
-use Rattle.grammar.specs.Laws.Order.{NoCommaBehind, param-no-comma, Orderly, joined-orderly}
-use Rattle.grammar.specs.Laws.Waits.{OtherThan, IsStop, three-unmet, n-after, n-tested, Waits, Num, n-ok, n-bad, n-fail, n-stop, waits-front, Caught, c-fail, Past, p-ok, p-bad, nums, waits-less, n-unclean, n-then, n-if, c-push, n-caught, n-stays, n-pop, p-either, p-if, n-behind, c-failing}
-
--- J holds of 32, the wrong order of parameters, or no comma follows an expression, so that 32 is not met
-abbrev pub Order : (Error → Type 0) → Depth → Type 0
-Order J low = J Number.param-order ⊎ NoCommaBehind low
-
--- J covers the errors that can be met: it holds of each error's number but 24, 28 and 32, and of 32 if that is met
-pub record Covers (J : Error → Type 0) : Type 0 where
-  pub others : (e : Error) → OtherThan three-unmet e → J e
-  pub order : (d : ℕ) → Order J (at-depth d)
+use Rattle.grammar.specs.Laws.NeverMet.{primary-no-unpack, params-close}
+use Rattle.grammar.specs.Laws.Waits.{ErrorBut, IsStop, three-never, n-after, n-tested, Waits, Num, n-ok, n-bad, n-fail, n-stop, waits-front, Caught, c-fail, Past, p-ok, p-bad, nums, waits-less, n-unclean, n-then, n-if, c-push, n-caught, n-stays, n-pop, p-either, p-if, n-behind, c-failing}
 
 -- what a reading may come to by its numbers, whatever waits and is left
 abbrev pub Numbered : {A : Type 0} → (Error → Type 0) → (List Error → List ℕ → Res A) → Type 0
@@ -49,10 +38,8 @@ pub record Nums (J : Error → Type 0) (low : Depth) : Type 0 where
   pub n-right : Numbered J (low .right)
   pub n-list : (end : ℕ) → Numbered J (low .list end)
 
-module _ {J : Error → Type 0} (M : Covers J) where
-  others : (e : Error) → OtherThan three-unmet e → J e
-  others = M .others
-
+-- where J holds of each error's number but 24, 28 and 32
+module _ {J : Error → Type 0} (others : (e : Error) → ErrorBut three-never e → J e) where
   looked-nums : (n : ℕ) (q : List Error) (r : List ℕ) (s : Seen) → Waits J n q → Num J n (looked q r s)
   unfolding looked
   looked-nums m q r (Good tok) w = n-ok
@@ -109,7 +96,7 @@ module _ {J : Error → Type 0} (M : Covers J) where
   unfolding variadic-param
   variadic-nums v = search (nums, others, look-nums)
 
-  joined-nums : (ps : Params) (p : Param) (k : ℕ) → (empty (ps .default-list) ≡ false → J Number.param-order) → Numbered J (joined ps p k)
+  pub joined-nums : (ps : Params) (p : Param) (k : ℕ) → (empty (ps .default-list) ≡ false → J Number.param-order) → Numbered J (joined ps p k)
   unfolding joined
   joined-nums ps (variadic v) k j m q ts w = search (nums, others)
   joined-nums ps (default v e) k j m q ts w = search (nums, others)
@@ -129,7 +116,27 @@ module _ {J : Error → Type 0} (M : Covers J) where
       go (fail e p r) (n-fail j v) = n-stays p (n-pop p r v)
       go (stop k) (n-stop x) = n-stop x
 
-  module _ (low : Depth) (N : Nums J low) (O : Order J low) where
+  -- parameters, where the default is numbered
+  module _ (low : Depth) (expr-nums : Numbered J (expr low)) where
+    plain-nums : (v : ℕ) → Numbered J (plain-param low v)
+    unfolding plain-param
+    plain-nums v = search (nums, look-nums, expr-nums)
+
+    pub param-nums : Numbered J (param low)
+    unfolding param
+    param-nums = search (nums, others, mode-nums, expect-nums, look-nums, variadic-nums, plain-nums) depth 9
+
+    -- a list of them where 32 may be met
+    params-nums : J Number.param-order → (n : ℕ) (ps : Params) → Numbered J (params low n ps)
+    unfolding params
+    params-nums j zero ps m q ts w = n-fail (others _ refl) w
+    params-nums j (suc n) ps m q ts w = search (nums, others, look-nums, param-nums, joined-nums, params-nums j n) depth 9
+
+    pub list-nums : J Number.param-order → Numbered J (function-param-list low)
+    list-nums j m q ts w = params-nums j _ _ m q ts w
+
+  -- where the list of parameters is numbered
+  module _ (low : Depth) (N : Nums J low) (L : Numbered J (expr low) → Numbered J (function-param-list low)) where
     binop-nums : (l : ℕ) → Numbered J (binop-expr low l)
     unfolding binop-expr
     binop-nums zero m q ts w = N .n-unary m q ts w
@@ -210,36 +217,6 @@ module _ {J : Error → Type 0} (M : Covers J) where
     branches-nums zero f m q ts w = n-fail (others _ refl) w
     branches-nums (suc n) f m q ts w = search (nums, others, look-nums, expect-nums, expr-nums, body-nums, N .n-list, branches-nums n) depth 9
 
-    plain-nums : (v : ℕ) → Numbered J (plain-param low v)
-    unfolding plain-param
-    plain-nums v = search (nums, look-nums, expr-nums)
-
-    param-nums : Numbered J (param low)
-    unfolding param
-    param-nums = search (nums, others, mode-nums, expect-nums, look-nums, variadic-nums, plain-nums) depth 9
-
-    -- where 32 may be met
-    params-nums : J Number.param-order → (n : ℕ) (ps : Params) → Numbered J (params low n ps)
-    unfolding params
-    params-nums j zero ps m q ts w = n-fail (others _ refl) w
-    params-nums j (suc n) ps m q ts w = search (nums, look-nums, param-nums, joined-nums, params-nums j n) depth 9
-
-    -- where it is not: the list so far has no default, or `)` follows
-    ordered-nums : NoCommaBehind low → (n : ℕ) (ps : Params) (m : ℕ) (q : List Error) (ts : List ℕ) → Orderly ps (kind-at ts) → Waits J m q → Num J m (params low n ps q ts)
-    unfolding params
-    ordered-nums c zero ps m q ts i w = n-fail (others _ refl) w
-    ordered-nums c (suc n) ps m q ts i w =
-        n-after q w (look-nums m q ts w) (look-seen q ts) λ tok q₁ rest v s. n-tested _ (λ _ e. n-ok) λ _ e.
-        let h : empty (ps .default-list) ≡ true = ⊎-elim (λ a. a) (λ a. clash a (not-at s Kind.CloseParen e)) i in
-        n-after q w (param-nums m q ts w) (param-no-comma low c q ts) λ p q₂ r x b.
-        n-after q₂ x (look-nums m q₂ r x) (look-seen q₂ r) λ tok₂ q₃ rest₂ y s₂.
-        n-after q₂ x (joined-nums ps p (tok₂ .kind) (λ a. clash h a) m q₂ r x) (joined-orderly ps p r (tok₂ .kind) q₂ r h (s₂ .at) b) λ ps₂ q₄ u z f. n-tested _
-        (λ _ d. ordered-nums c n ps₂ m q₂ rest₂ (inl (⊎-elim (λ a. a) (λ a. clash a (other (tok₂ .kind) Kind.Comma Kind.CloseParen d refl)) f)) x)
-        (λ _ d. ordered-nums c n ps₂ m q₂ r (rw (s₂ .at) at f) x)
-
-    param-list-nums : Numbered J (function-param-list low)
-    param-list-nums m q ts w = ⊎-elim (λ j. params-nums j _ _ m q ts w) (λ c. ordered-nums c _ _ m q ts (inl refl) w) O
-
     -- the parameters end before `)`, so their closing is there
     closing-nums : (q : List Error) (ts : List ℕ) → eqb (kind-at ts) Kind.CloseParen ≡ true → (m : ℕ) → Waits J m q → Num J m (expect Kind.CloseParen Number.params-closing q ts)
     unfolding expect
@@ -249,7 +226,7 @@ module _ {J : Error → Type 0} (M : Covers J) where
     unfolding function-def
     function-def-nums name m q ts w =
         n-then q w (expect-nums _ _ (others _ refl) m q ts w) λ tok q₁ r v.
-        n-after q₁ v (param-list-nums m q₁ r v) (params-close low _ _ q₁ r) λ ps q₂ s x h.
+        n-after q₁ v (L expr-nums m q₁ r v) (params-close low _ _ q₁ r) λ ps q₂ s x h.
         n-then q₂ x (closing-nums q₂ s h m x) (search (nums, body-nums))
 
     target-nums : Numbered J (function-assignment-target low)
@@ -318,25 +295,26 @@ module _ {J : Error → Type 0} (M : Covers J) where
     unfolding unary-expr
     unary-nums = search (nums, look-nums, primary-expr-nums, N .n-unary)
 
-  pub depth-numbers : (d : ℕ) → Nums J (at-depth d)
-  unfolding at-depth
-  depth-numbers zero =
-      let deep : IsStop too-deep = (refl, omega arith) in
-      record { n-unary = λ n q ts w. n-stop deep; n-right = λ n q ts w. n-stop deep; n-list = λ end n q ts w. n-stop deep }
-  depth-numbers (suc d) =
-      record {
-        n-unary = unary-nums (at-depth d) (depth-numbers d) (M .order d);
-        n-right = expr-nums (at-depth d) (depth-numbers d) (M .order d);
-        n-list = λ end n q ts w. stmts-nums (at-depth d) (depth-numbers d) (M .order d) end _ _ n q ts w;
-      }
+  module _ (list : (d : ℕ) → Numbered J (expr (at-depth d)) → Numbered J (function-param-list (at-depth d))) where
+    pub depth-numbers : (d : ℕ) → Nums J (at-depth d)
+    unfolding at-depth
+    depth-numbers zero =
+        let deep : IsStop too-deep = (refl, omega arith) in
+        record { n-unary = λ n q ts w. n-stop deep; n-right = λ n q ts w. n-stop deep; n-list = λ end n q ts w. n-stop deep }
+    depth-numbers (suc d) =
+        record {
+          n-unary = unary-nums (at-depth d) (depth-numbers d) (list d);
+          n-right = expr-nums (at-depth d) (depth-numbers d) (list d);
+          n-list = λ end n q ts w. stmts-nums (at-depth d) (depth-numbers d) (list d) end _ _ n q ts w;
+        }
 
-  pub stmt-numbers : (d : ℕ) → Numbered J (stmt (at-depth d))
-  stmt-numbers d = stmt-nums (at-depth d) (depth-numbers d) (M .order d)
+    pub stmt-numbers : (d : ℕ) → Numbered J (stmt (at-depth d))
+    stmt-numbers d = stmt-nums (at-depth d) (depth-numbers d) (list d)
 
-  pub failed-nums : (d : ℕ) (e : Error) → J e → (n : ℕ) (q : List Error) (ts : List ℕ) → Waits J n q → Caught J n (failed d e q ts)
-  unfolding failed front
-  failed-nums d e j n q ts w = c-push e q j w λ q₁ v. go q₁ v
-    where
-      go : (q₁ : List Error) → Waits J (suc n) q₁ → Num {A = Tree} J n (front q₁ λ f q₂. then q₂ (synchronize (at-depth d) false (length ts) q₂ ts) λ u q₃ r. fail f q₃ r)
-      go [] v = absurd (omega (arith, v .many))
-      go (f ∷ q₂) v = let (i, x) = waits-front v in n-caught (c-failing q₂ f i x (synchronize-nums (at-depth d) (depth-numbers d) (M .order d) false (length ts) n q₂ ts x))
+    pub failed-nums : (d : ℕ) (e : Error) → J e → (n : ℕ) (q : List Error) (ts : List ℕ) → Waits J n q → Caught J n (failed d e q ts)
+    unfolding failed front
+    failed-nums d e j n q ts w = c-push e q j w λ q₁ v. go q₁ v
+      where
+        go : (q₁ : List Error) → Waits J (suc n) q₁ → Num {A = Tree} J n (front q₁ λ f q₂. then q₂ (synchronize (at-depth d) false (length ts) q₂ ts) λ u q₃ r. fail f q₃ r)
+        go [] v = absurd (omega (arith, v .many))
+        go (f ∷ q₂) v = let (i, x) = waits-front v in n-caught (c-failing q₂ f i x (synchronize-nums (at-depth d) (depth-numbers d) (list d) false (length ts) n q₂ ts x))

@@ -13,12 +13,11 @@ use lib.Seq.{take-at}
 use Rattle.tree.specs.Tree.{Tree}
 use Rattle.grammar.specs.Reading.Limit.{queue-limit}
 use Rattle.grammar.specs.Reading.Result.{Error, Res, ifb}
-use Rattle.grammar.specs.Reading.Next.{is-error, queue-fits, pad, reader-at, fresh, Accepted, Called, called, answered, next-stmt}
+use Rattle.grammar.specs.Reading.Next.{is-error, queue-fits, pad, reader-at, fresh, waiting-in, Accepted, Called, called, answered, next-stmt}
 use Rattle.grammar.specs.declared.Reader.{Reader}
 use Rattle.grammar.specs.Laws.Facts.{if-both}
 use Rattle.grammar.specs.Laws.Waits.{IsError, IsStop, All, a-nil, a-cons, Waits, waits-none, waits-front, n-ok, n-bad, n-fail, n-stop}
-use Rattle.grammar.specs.Laws.Numbers.{Covers}
-use Rattle.grammar.specs.Laws.Top.{Top, t-end, t-num, covers-errors, next-numbers}
+use Rattle.grammar.specs.Laws.Top.{Covers, Top, t-end, t-num, covers-errors, next-numbers}
 
 -- a queue in its array fits, and what fits is a queue
 
@@ -56,10 +55,6 @@ fits-all (suc w) (e ∷ es) h = let (j, k) = both (is-error e) _ h in a-cons j (
 pub fresh-accepted : (T : List ℕ) → Accepted T fresh
 unfolding queue-fits ifb
 fresh-accepted T = record { within = omega arith; few = omega arith; stops = refl; queue = refl }
-
--- what waits in a reader
-abbrev pub waiting-in : Reader → List Error
-waiting-in R = take (R .waiting) (R .errors)
 
 -- the readers that a call returns where R was given, if errors J can be met
 pub data Returned (J : Error → Type 0) (T : List ℕ) (R : Reader) : Reader → Type 0 where

@@ -2,7 +2,6 @@
 -- that waits: `bad-waits`. Which errors can be met: `covers-errors`, `covers-but-two`, `covers-but-three`. Assumes nothing.
 use mathlib.Core.Path.{_≡_, refl}
 use mathlib.Core.Bool.{Bool, true, false, false≢true, not}
-use mathlib.Core.Logic.{inl, inr}
 use mathlib.Core.List.{List, []}
 use Prim.Native.Nat.{ℕ, zero, suc, _<_}
 use lib.Dec.{eqb}
@@ -10,11 +9,14 @@ use lib.ListN.{length}
 use Rattle.tree.specs.Tree.{Tree}
 use Rattle.grammar.specs.Reading.Number
 use Rattle.grammar.specs.Reading.Result.{Error, Res, bad, fail, unclean, either, then, ifb}
+use Rattle.grammar.specs.Reading.Expr.{expr}
+use Rattle.grammar.specs.Reading.Function.{function-param-list}
+use Rattle.grammar.specs.Reading.Depth.{at-depth}
 use Rattle.grammar.specs.Reading.Next.{start, next}
 use Rattle.grammar.specs.Laws.Facts.{and-r, if-both}
-use Rattle.grammar.specs.Laws.Order.{no-comma-behind}
-use Rattle.grammar.specs.Laws.Waits.{OtherThan, two-unmet, three-unmet, error-of, IsError, Waits, Num, n-ok, n-bad, n-fail, n-stop, waits-none, nums, n-unclean, n-then}
-use Rattle.grammar.specs.Laws.Numbers.{Covers, look-nums, stmt-numbers, failed-nums}
+use Rattle.grammar.specs.Laws.ParamOrder.{no-comma-behind, ordered-list}
+use Rattle.grammar.specs.Laws.Waits.{ErrorBut, two-never, three-never, error-of, IsError, Waits, Num, n-ok, n-bad, n-fail, n-stop, waits-none, n-unclean, n-then, n-either}
+use Rattle.grammar.specs.Laws.Numbers.{Numbered, look-nums, list-nums, stmt-numbers, failed-nums}
 
 -- at the top level: a failure with an error J, or the end, error 0, with q waiting as before and X of the words that are left
 pub data Top {A : Type 0} (J : Error → Type 0) (X : List ℕ → Type 0) (n : ℕ) (q : List Error) : Res A → Type 0 where
@@ -50,6 +52,11 @@ module _ {J : Error → Type 0} {X : List ℕ → Type 0} where
   t-either p or w (n-fail j v) f g = g _ _ _ j v
   t-either p or w (n-stop s) f g = t-num (n-stop s)
 
+-- J covers the errors that can be met: it holds of each error's number but 24, 28 and 32, and of what a list of parameters has on its way where a default has it
+pub record Covers (J : Error → Type 0) : Type 0 where
+  pub others : (e : Error) → ErrorBut three-never e → J e
+  pub list : (d : ℕ) → Numbered J (expr (at-depth d)) → Numbered J (function-param-list (at-depth d))
+
 module _ {J : Error → Type 0} (M : Covers J) where
   -- a lexer error, or no token left, which is the end
   start-fails : {n : ℕ} (b : Bool) (e : Error) (q p : List Error) (ts r : List ℕ) → J e → Waits J n q → Top {A = Unit {0}} J (λ r. Unit {0}) n q (unclean p (ifb b (λ _. fail 0 q ts) (λ _. fail e q r)))
@@ -61,24 +68,31 @@ module _ {J : Error → Type 0} (M : Covers J) where
   unfolding start
   start-numbers zero n q ts w = t-end tt
   start-numbers (suc k) n q ts w =
-      t-either q _ w (look-nums M n q ts w)
+      t-either q _ w (look-nums (M .others) n q ts w)
       (λ tok p rest v. t-if _ (λ u. t-end tt) λ u. t-if _ (λ u. start-numbers k n q rest w) (λ u. t-num n-ok))
       (λ e p r j v. start-fails _ e q p ts r j w)
 
   pub next-numbers : (d n : ℕ) (q : List Error) (ts : List ℕ) → Waits J n q → Top J (λ r. start (length ts) q ts ≡ fail 0 q r) n q (next d q ts)
   unfolding next
-  next-numbers d n q ts w = t-then w (t-self (start-numbers (length ts) n q ts w)) (search (nums, stmt-numbers M, failed-nums M))
+  next-numbers d n q ts w =
+      t-then w (t-self (start-numbers (length ts) n q ts w)) λ u q₁ r v.
+      n-either q₁ v (stmt-numbers (M .others) (M .list) d n q₁ r v) (λ t q₂ s x. n-ok) (λ e q₂ s j x. failed-nums (M .others) (M .list) d e j n q₂ s x)
 
 -- which errors can be met: numbers of errors; of these neither 24 nor 28, whatever follows an expression; and not 32, since no comma does
 
+-- where 32 is among them
+covers : {J : Error → Type 0} → ((e : Error) → ErrorBut three-never e → J e) → J Number.param-order → Covers J
+covers others j = record { others = others; list = λ d h. list-nums others (at-depth d) h j }
+
 pub covers-errors : Covers IsError
-covers-errors = record { others = λ e h. error-of three-unmet e h; order = λ d. inl refl }
+covers-errors = covers (error-of three-never) refl
 
-pub covers-but-two : Covers (OtherThan two-unmet)
-covers-but-two = record { others = λ e h. and-r (not (eqb e Number.param-order)) _ h; order = λ d. inl refl }
+pub covers-but-two : Covers (ErrorBut two-never)
+covers-but-two = covers (λ e h. and-r (not (eqb e Number.param-order)) _ h) refl
 
-pub covers-but-three : Covers (OtherThan three-unmet)
-covers-but-three = record { others = λ e h. h; order = λ d. inr (no-comma-behind d) }
+-- where it is not
+pub covers-but-three : Covers (ErrorBut three-never)
+covers-but-three = record { others = λ e h. h; list = λ d h. ordered-list (λ e x. x) (at-depth d) h (no-comma-behind d) }
 
 -- 0 is no error's number
 t-zero : {X : List ℕ → Type 0} {A : Type 0} {n : ℕ} {q p : List Error} {r : List ℕ} → Top {A = A} IsError X n q (fail 0 p r) → X r

@@ -19,24 +19,24 @@ use Rattle.grammar.specs.Laws.Facts.{and-r, if-tested, if-both}
 use Rattle.grammar.specs.Laws.Keep.{Success, k-ok, k-bad, k-fail, k-stop}
 
 -- the number of an error that is none of these
-abbrev pub is-other : List Error → ℕ → Bool
-is-other [] e = is-error e
-is-other (x ∷ xs) e = not (eqb e x) && is-other xs e
+abbrev pub is-error-but : List Error → ℕ → Bool
+is-error-but [] e = is-error e
+is-error-but (x ∷ xs) e = not (eqb e x) && is-error-but xs e
 
-abbrev pub OtherThan : List Error → Error → Type 0
-OtherThan xs e = is-other xs e ≡ true
+abbrev pub ErrorBut : List Error → Error → Type 0
+ErrorBut xs e = is-error-but xs e ≡ true
 
 -- it is an error's number
-pub error-of : (xs : List Error) (e : Error) → OtherThan xs e → is-error e ≡ true
+pub error-of : (xs : List Error) (e : Error) → ErrorBut xs e → is-error e ≡ true
 error-of [] e h = h
 error-of (x ∷ xs) e h = error-of xs e (and-r (not (eqb e x)) _ h)
 
 -- the numbers that no sheet gives
-abbrev pub two-unmet : List Error
-two-unmet = Number.nested-ellipsis ∷ Number.params-closing ∷ []
+abbrev pub two-never : List Error
+two-never = Number.nested-ellipsis ∷ Number.params-closing ∷ []
 
-abbrev pub three-unmet : List Error
-three-unmet = Number.param-order ∷ two-unmet
+abbrev pub three-never : List Error
+three-never = Number.param-order ∷ two-never
 
 -- the number of an error
 abbrev pub IsError : Error → Type 0
@@ -208,17 +208,17 @@ module _ {J : Error → Type 0} where
   c-failing q e j w (p-stop k) = c-stop k
 
 -- an error chosen among errors
-e-cond : (b : Bool) (x y : Error) → OtherThan three-unmet x → OtherThan three-unmet y → OtherThan three-unmet (cond b x y)
+e-cond : (b : Bool) (x y : Error) → ErrorBut three-never x → ErrorBut three-never y → ErrorBut three-never (cond b x y)
 e-cond true x y i j = i
 e-cond false x y i j = j
 
-pub keyword-alone-is : (m : ℕ) → OtherThan three-unmet (keyword-alone m)
+pub keyword-alone-is : (m : ℕ) → ErrorBut three-never (keyword-alone m)
 keyword-alone-is m = search e-cond
 
-pub atom-error-is : (k : ℕ) → OtherThan three-unmet (atom-error k)
+pub atom-error-is : (k : ℕ) → ErrorBut three-never (atom-error k)
 atom-error-is k = search e-cond depth 12
 
-pub not-last-is : (k : ℕ) → OtherThan three-unmet (not-last k)
+pub not-last-is : (k : ℕ) → ErrorBut three-never (not-last k)
 not-last-is k = search e-cond
 
 pub ruleset nums = (n-ok, n-fail, n-then, n-either, n-if, n-push, c-fail, c-then, keyword-alone-is, atom-error-is, not-last-is)

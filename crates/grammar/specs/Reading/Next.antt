@@ -99,6 +99,10 @@ reader-at p q = record { position = p; waiting = length q; errors = pad q; stopp
 abbrev pub fresh : Reader
 fresh = reader-at 0 []
 
+-- the errors that wait in a reader, the oldest first
+abbrev pub waiting-in : Reader → List Error
+waiting-in R = take (R .waiting) (R .errors)
+
 -- what a call leaves
 pub record Called : Type 0 where
   pub step : Stepped
