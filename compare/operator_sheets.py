@@ -1,6 +1,7 @@
 """Sheets for compare/levels, in families: `every place`, `damaged`, `waiting` and `numbers` (README.md).
 
 A sheet is made of templates, words in the notation of oracle/tokens.py in which `E` stands for an expression and `S` for the statements of a list.
+Imported behind programs.py, which adds the folders of oracle/ and tools/ to the path.
 """
 import functools
 import tokens

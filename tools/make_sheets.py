@@ -315,7 +315,7 @@ def main():
     group("joined to 500 tokens", joined(sheets, (tokens.EOF, 0, 0)), args, tokens, write)
     broken = [toks for row in stored.DAMAGED for toks in damaged(tokens.sheet(row), (tokens.LEXERR, 0, 0))]
     trees += group("lexer errors everywhere", broken, args, tokens, write)
-    # the trees of P1's sheets stay out of those that are altered, so that these are the same with and without P1
+    # their trees are not altered; those of the other groups are, but for the joined ones
     group("numbers and levels", [tokens.sheet(row) for row in stored.NUMBERS + stored.mixed() + stored.PLACES], args, tokens, write)
     trees += supplied_group(args, tokens, write)
     altered_groups(trees, args, tokens, write)

@@ -7,3 +7,4 @@ pub mod Calls
 pub mod Met
 pub mod Writer
 pub mod Ordered
+pub mod Trees

@@ -2,6 +2,7 @@ pub mod Calls
 pub mod Answers
 pub mod Statement
 pub mod Ordered
+pub mod Trees
 pub mod Laws
 pub mod Theorem
 pub mod Corollaries

@@ -7,9 +7,10 @@ use lib.ListN.{take, drop}
 use Rattle.operator.specs.Operator.{number-level}
 use Rattle.tree.specs.NodeKind
 
--- the level of a node of the kind k and the value v: of a binary operator its operator's, which is 1 or more, of any other node 0
-abbrev pub level : ℕ → ℕ → ℕ
-level k v = cond (eqb k NodeKind.BinaryOp) (number-level v) 0
+-- the level of a node of the kind k and the value v: of a binary operator its operator's, of any other node 0. A number that is no operator's has
+-- the level 0 too, and then nothing fits under the node
+abbrev pub node-level : ℕ → ℕ → ℕ
+node-level k v = cond (eqb k NodeKind.BinaryOp) (number-level v) 0
 
 -- by the levels of its children, the last one first: what a binary operator of level p may have under it, a unary operator, and a node of any kind
 abbrev pub sides-fit : ℕ → List ℕ → Bool
@@ -34,4 +35,4 @@ fits k v children =
 unfoldable pub in-order : List ℕ → List ℕ → Bool
 in-order before [] = true
 in-order before (w ∷ []) = false
-in-order before (w ∷ v ∷ r) = fits (w % 256) v (take (w / 256) before) && in-order (level (w % 256) v ∷ drop (w / 256) before) r
+in-order before (w ∷ v ∷ r) = fits (w % 256) v (take (w / 256) before) && in-order (node-level (w % 256) v ∷ drop (w / 256) before) r

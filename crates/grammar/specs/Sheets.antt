@@ -1,6 +1,7 @@
--- The sheets of document 01 that are to be proved, as one table and one theorem: every call from a fresh reader to the first end or stop,
+-- The sheets of document 01 that are to be proved, as one table and one theorem, `sheets-tried`: every call from a fresh reader to the first end or stop,
 -- with the answer, the whole reader and every word of the store, and the sheet's canonical tokens where it reads cleanly.
--- Rows behind them rule out a wrong grouping, a wrong resynchronization, writers that leave a token out, and the errors 24, 28 and 32 where they seem near. Assumes nothing.
+-- Rows behind them rule out a wrong grouping, a wrong resynchronization, writers that leave a token out, and the errors 24, 28 and 32 where they seem near.
+-- Then trees on either side of what document 02 says of operators, `levels-tried`. Assumes nothing.
 use mathlib.Core.Path.{_≡_, refl}
 use mathlib.Core.Bool.{Bool, true, false}
 use mathlib.Core.List.{List, [], _∷_}

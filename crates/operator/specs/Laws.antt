@@ -1,4 +1,4 @@
--- Laws of the operators' tables, each at all token kinds or all numbers by one test that antt computes. Assumes nothing.
+-- Laws of the operators' tables at all token kinds or all numbers: below a bound by one test that antt computes, and past the symbols there is no operator. Assumes nothing.
 use mathlib.Core.Path.{_≡_, ap}
 use mathlib.Core.Logic.{_≢_}
 use mathlib.Core.Bool.{true, false}

@@ -8,7 +8,7 @@ use Rattle.operator.specs.Operator.{number-level}
 use Rattle.tree.specs.Tree.{Tree, Forest}
 use Rattle.tree.specs.Node
 use Rattle.grammar.specs.Laws.Facts.{and-l, and-r}
-use Rattle.grammar.specs.Laws.Levels.Leveled.{level-of, Leveled, All-leveled, p-children, p-first, p-later, node-fits}
+use Rattle.grammar.specs.Laws.Levels.Leveled.{tree-level, Leveled, All-leveled, p-children, p-first, p-later, node-fits}
 use Rattle.agreement.specs.Ordered.{In, InAny, itself, under, in-first, in-later, Ordered}
 
 -- each node of a leveled tree is leveled, with what stands under it
@@ -24,10 +24,10 @@ mutual
 
 -- so what stands under an operator is as document 02 says
 
-sides : {op : ℕ} {a b : Tree} → Leveled (Node.binary-op op a b) → (level-of a ≤ number-level op) × (level-of b < number-level op)
+sides : {op : ℕ} {a b : Tree} → Leveled (Node.binary-op op a b) → (tree-level a ≤ number-level op) × (tree-level b < number-level op)
 sides {op} {a} {b} h =
     let e = node-fits h in
-    let l = leb (level-of a) (number-level op) in
+    let l = leb (tree-level a) (number-level op) in
     (leb-true _ _ (and-l l _ e), ltb-true _ _ (and-r l _ e))
 
 no-operator : {op o : ℕ} {a b : Tree} → Leveled (Node.unary-op op (Node.binary-op o a b)) → ⊥

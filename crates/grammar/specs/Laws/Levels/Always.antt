@@ -9,7 +9,7 @@ use Rattle.grammar.specs.Reading.Result.{Error, Res, either, then}
 use Rattle.grammar.specs.Reading.Expr.{Stmts}
 use Rattle.grammar.specs.Reading.Function.{Params}
 use Rattle.grammar.specs.Laws.Keep.{Success, Holds, k-ok, k-failed, k-stop, k-on, k-any, k-or, k-if, k-push, k-front}
-use Rattle.grammar.specs.Laws.Levels.Leveled.{level-of, Leveled, All-leveled, Within}
+use Rattle.grammar.specs.Laws.Levels.Leveled.{tree-level, Leveled, All-leveled, Within}
 use Rattle.grammar.specs.Laws.Levels.Parts.{LeveledStmts, LeveledParam, LeveledParams}
 
 -- P holds of what the reading f gives, whatever waits and is left
@@ -33,7 +33,7 @@ module _ {B : Type 0} {P : B → List ℕ → Type 0} where
   g-param q d go = k-on q
 
   pub g-operand : (q : List Error) {d : Res Tree} {go : Tree → List Error → List ℕ → Res B}
-      → Holds (Within 0) d → ((t : Tree) (q : List Error) (r : List ℕ) → Leveled t → level-of t ≡ 0 → Success P (go t q r)) → Success P (then q d go)
+      → Holds (Within 0) d → ((t : Tree) (q : List Error) (r : List ℕ) → Leveled t → tree-level t ≡ 0 → Success P (go t q r)) → Success P (then q d go)
   g-operand q h f = k-on q h λ t q r w. f t q r (w .leveled) (omega (arith, w .most))
 
   pub g-params : (q : List Error) {d : Res Params} {go : Params → List Error → List ℕ → Res B}

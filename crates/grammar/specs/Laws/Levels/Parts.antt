@@ -11,7 +11,7 @@ use Rattle.grammar.specs.Reading.Primary.{with-action, list-members, arg
 use Rattle.grammar.specs.Reading.Block.{Split, whole, result, split-before, split-kids, split-last, split, block-split, block-of}
 use Rattle.grammar.specs.Reading.Function.{Param, required, variadic, default, Params}
 use Rattle.grammar.specs.Laws.Facts.{if-both}
-use Rattle.grammar.specs.Laws.Levels.Leveled.{level-of, Leveled, All-leveled, leveling, p-none, p-more, p-children, p-first, p-later}
+use Rattle.grammar.specs.Laws.Levels.Leveled.{tree-level, Leveled, All-leveled, leveling, p-none, p-more, p-children, p-first, p-later}
 
 -- of a statement list
 pub record LeveledStmts (s : Stmts) : Type 0 where
@@ -61,7 +61,7 @@ pub with-path-leveled : {a : Tree} (f : Forest) → Leveled a → All-leveled f 
 with-path-leveled none h g = h
 with-path-leveled (more i f) h g = search leveling depth 9
 
-pub with-path-level : (a : Tree) (f : Forest) → level-of a ≡ 0 → level-of (with-path a f) ≡ 0
+pub with-path-level : (a : Tree) (f : Forest) → tree-level a ≡ 0 → tree-level (with-path a f) ≡ 0
 with-path-level a none e = e
 with-path-level a (more i f) e = refl
 

@@ -1,4 +1,4 @@
--- What is shown of a clean reading's success: the tokens that were seen, and in which roles a tree is valid, by what stands before and behind it. Assumes nothing.
+-- What is shown of a clean reading's success: the tokens that were taken, and in which roles a tree is valid, by what stands before and behind it. Assumes nothing.
 use mathlib.Core.Path.{_≡_, refl, sym, subst}
 use mathlib.Core.Bool.{Bool, true, false, cond, _&&_}
 use mathlib.Core.List.{List}

@@ -6,7 +6,7 @@ use native.Mathlib.Omega.{arith}
 use lib.Dec.{eqb, leb}
 use borrow.Author.Tests.{eqb-true, ne-eqb, ltb-false, lt-ltb, le-leb}
 use Rattle.token.specs.Kind
-use Rattle.operator.specs.Operator.{which-unary-op, which-binary-op, op-level, op-token, unary-code}
+use Rattle.operator.specs.Operator.{which-unary-op, which-binary-op, op-level, op-token, number-level, unary-code}
 use Rattle.operator.specs.Below.{equal-below}
 use Rattle.operator.specs.Laws.{op-number-token}
 use Rattle.tree.specs.NodeKind
@@ -51,13 +51,14 @@ pub of-unary : Rule NodeKind.UnaryOp
 unfolding tables
 of-unary v h t k = simple refl refl (as-unary λ begin p. unary-valid v (ltb-false 3 v h) (unary-in k))
 
-level-is : (v : ℕ) → v < suc LastBinary → op-level (op-token v) ≡ level v
-unfolding op-level op-token which-binary-op level binary-of
-level-is = equal-below (λ v. op-level (op-token v)) level (suc LastBinary) tt
+level-is : (v : ℕ) → v < suc LastBinary → number-level v ≡ level v
+unfolding number-level op-level op-token which-binary-op level binary-of
+level-is = equal-below number-level level (suc LastBinary) tt
 
 binary-valid : {begin : Bool} {t u : Tree} (v l : ℕ) → v < suc LastBinary → level v ≡ suc l → Valid (binop begin (suc l)) t → Valid (binop true l) u → Valid (binop begin (suc l)) (Node.binary-op v t u)
+unfolding number-level
 binary-valid {begin} {t} {u} v l h e x y =
-    let x′ : op-level (op-token v) ≡ suc l = omega (arith, level-is v h) in
+    let x′ : number-level v ≡ suc l = omega (arith, level-is v h) in
     subst (λ n. Valid (binop begin (suc l)) (Node.binary-op n t u)) (op-number-token v h) (v-binary-op (op-token v) x′ x y)
 
 pub of-binary : Rule NodeKind.BinaryOp
