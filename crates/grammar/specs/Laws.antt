@@ -8,6 +8,7 @@ pub mod Facts
 pub mod Roles
 pub mod Post
 pub mod Seen
+pub mod Commas
 pub mod Convert
 pub mod Views
 pub mod Sound

@@ -6,48 +6,19 @@ use mathlib.Core.List.{List}
 use Prim.Native.Nat.{ℕ, zero, suc}
 use lib.Dec.{eqb}
 use Rattle.token.specs.Kind
-use Rattle.tree.specs.Tree.{Forest, empty}
+use Rattle.tree.specs.Tree.{empty}
 use Rattle.grammar.specs.Reading.Result.{Error}
-use Rattle.grammar.specs.Reading.Expr.{Depth, members, tuple-expr, expr}
+use Rattle.grammar.specs.Reading.Expr.{Depth, expr}
 use Rattle.grammar.specs.Reading.Function.{Param, required, variadic, default, Params, variadic-param, plain-param, param, joined, params, function-param-list}
-use Rattle.grammar.specs.Reading.Depth.{at-depth}
 use Rattle.grammar.specs.Laws.Facts.{clash, other, or-true}
-use Rattle.grammar.specs.Laws.Keep.{successes, Success, k-ok, k-failed, k-stop, k-on, k-any, k-if, k-tested}
+use Rattle.grammar.specs.Laws.Keep.{successes, Success, k-ok, k-failed, k-on, k-any, k-if, k-tested}
 use Rattle.grammar.specs.Laws.Waits.{ErrorBut, three-never, Waits, Num, n-ok, n-fail, n-after, n-tested}
 use Rattle.grammar.specs.Laws.Numbers.{Numbered, look-nums, param-nums, joined-nums}
-use Rattle.grammar.specs.Laws.Seen.{kind-at, look-seen, isnt, not-at, NotComma}
-
--- no comma follows an expression
-abbrev pub NoCommaBehind : Depth → Type 0
-NoCommaBehind low = (q : List Error) (ts : List ℕ) → Success (λ t r. NotComma r) (expr low q ts)
-
-members-end : (low : Depth) (n : ℕ) (f : Forest) (q : List Error) (ts : List ℕ) → Success (λ t r. NotComma r) (members low n f q ts)
-unfolding members
-members-end low zero f q ts = k-failed
-members-end low (suc n) f q ts =
-    k-on q (look-seen q ts) λ tok q₁ rest s. k-tested _
-    (λ _ e. k-on q (look-seen q rest) λ tok₂ q₂ rest₂ s₂. k-tested _ (λ _ c. k-ok (isnt s₂ Kind.CloseParen Kind.Comma c refl)) (λ _ c. search (successes, members-end low n)))
-    (λ _ e. k-ok (not-at s Kind.Comma e))
-
-tuple-end : (low : Depth) (q : List Error) (ts : List ℕ) → Success (λ t r. NotComma r) (tuple-expr low q ts)
-unfolding tuple-expr
-tuple-end low q ts =
-    k-any q _ λ t q₁ r.
-    k-on q₁ (look-seen q₁ r) λ tok q₂ rest s. k-tested _ (λ _ e. members-end low _ _ q₁ r) (λ _ e. k-ok (not-at s Kind.Comma e))
-
-expr-end : (low : Depth) → ((q : List Error) (ts : List ℕ) → Success (λ t r. NotComma r) (low .right q ts)) → NoCommaBehind low
-unfolding expr
-expr-end low h q ts =
-    k-any q _ λ m q₁ r. k-on q₁ (tuple-end low q₁ r) λ lhs q₂ s i. k-any q₂ _ λ tok q₃ rest.
-    k-if _ (λ _. search successes) (λ _. k-any q₂ _ λ p q₄ u. k-on q₂ (h q₂ u) λ rhs q₅ x j. k-ok j)
-
-pub no-comma-behind : (d : ℕ) → NoCommaBehind (at-depth d)
-unfolding at-depth
-no-comma-behind zero = expr-end (at-depth zero) (λ q ts. k-stop)
-no-comma-behind (suc d) = expr-end (at-depth (suc d)) (no-comma-behind d)
+use Rattle.grammar.specs.Laws.Commas.{NoCommaBehind}
+use Rattle.grammar.specs.Laws.Seen.{kind-at, look-seen, not-at, NotComma}
 
 -- no comma follows a parameter with a default
-abbrev pub NoCommaAfter : Param → List ℕ → Type 0
+abbrev NoCommaAfter : Param → List ℕ → Type 0
 NoCommaAfter (required v) r = Unit {0}
 NoCommaAfter (variadic v) r = Unit {0}
 NoCommaAfter (default v e) r = NotComma r
@@ -60,24 +31,24 @@ variadic-no-comma : (v : ℕ) (q : List Error) (ts : List ℕ) → Success NoCom
 unfolding variadic-param
 variadic-no-comma v q ts = search successes
 
-pub param-no-comma : (low : Depth) → NoCommaBehind low → (q : List Error) (ts : List ℕ) → Success NoCommaAfter (param low q ts)
+param-no-comma : (low : Depth) → NoCommaBehind low → (q : List Error) (ts : List ℕ) → Success NoCommaAfter (param low q ts)
 unfolding param
 param-no-comma low h q ts = search (successes, plain-no-comma, variadic-no-comma) depth 9
 
 -- no default was read, or `)` follows, and then no parameter does
-abbrev pub DefaultLast : Params → ℕ → Type 0
+abbrev DefaultLast : Params → ℕ → Type 0
 DefaultLast ps k = (empty (ps .default-list) ≡ true) ⊎ (eqb k Kind.CloseParen ≡ true)
 
 closes : (k : ℕ) → eqb k Kind.Comma || eqb k Kind.CloseParen ≡ true → eqb k Kind.Comma ≡ false → eqb k Kind.CloseParen ≡ true
 closes k h n = or-true (eqb k Kind.Comma) _ h (λ e. clash e n) (λ e. e)
 
-pub joined-default-last : (ps : Params) (p : Param) (r : List ℕ) (k : ℕ) (q : List Error) (ts : List ℕ) → empty (ps .default-list) ≡ true → k ≡ kind-at r → NoCommaAfter p r → Success (λ ps s. DefaultLast ps k) (joined ps p k q ts)
+joined-default-last : (ps : Params) (p : Param) (r : List ℕ) (k : ℕ) (q : List Error) (ts : List ℕ) → empty (ps .default-list) ≡ true → k ≡ kind-at r → NoCommaAfter p r → Success (λ ps s. DefaultLast ps k) (joined ps p k q ts)
 unfolding joined
 joined-default-last ps (required v) r k q ts h e x = search (successes, inl) depth 9
 joined-default-last ps (variadic v) r k q ts h e x = search (successes, inl) depth 9
 joined-default-last ps (default v t) r k q ts h e x = k-tested _ (λ _ c. k-ok (inr (closes k c (rw e x)))) (λ _ c. k-failed)
 
--- so a list of parameters is numbered where 32 is not met: so far it has no default, or `)` follows
+-- so a list of parameters, in which so far there is no default or `)` follows, has 32 never on its way
 module _ {J : Error → Type 0} (others : (e : Error) → ErrorBut three-never e → J e) (low : Depth) (E : Numbered J (expr low)) (c : NoCommaBehind low) where
   ordered-nums : (n : ℕ) (ps : Params) (m : ℕ) (q : List Error) (ts : List ℕ) → DefaultLast ps (kind-at ts) → Waits J m q → Num J m (params low n ps q ts)
   unfolding params

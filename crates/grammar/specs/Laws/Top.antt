@@ -14,7 +14,8 @@ use Rattle.grammar.specs.Reading.Function.{function-param-list}
 use Rattle.grammar.specs.Reading.Depth.{at-depth}
 use Rattle.grammar.specs.Reading.Next.{start, next}
 use Rattle.grammar.specs.Laws.Facts.{and-r, if-both}
-use Rattle.grammar.specs.Laws.ParamOrder.{no-comma-behind, ordered-list}
+use Rattle.grammar.specs.Laws.Commas.{no-comma-behind}
+use Rattle.grammar.specs.Laws.ParamOrder.{ordered-list}
 use Rattle.grammar.specs.Laws.Waits.{ErrorBut, two-never, three-never, error-of, IsError, Waits, Num, n-ok, n-bad, n-fail, n-stop, waits-none, n-unclean, n-then, n-either}
 use Rattle.grammar.specs.Laws.Numbers.{Numbered, look-nums, list-nums, stmt-numbers, failed-nums}
 
@@ -52,7 +53,7 @@ module _ {J : Error → Type 0} {X : List ℕ → Type 0} where
   t-either p or w (n-fail j v) f g = g _ _ _ j v
   t-either p or w (n-stop s) f g = t-num (n-stop s)
 
--- J covers the errors that can be met: it holds of each error's number but 24, 28 and 32, and of what a list of parameters has on its way where a default has it
+-- J covers the errors that can be met: it holds of each error's number but 24, 28 and 32, and a list of parameters has only errors J on its way if a default has
 pub record Covers (J : Error → Type 0) : Type 0 where
   pub others : (e : Error) → ErrorBut three-never e → J e
   pub list : (d : ℕ) → Numbered J (expr (at-depth d)) → Numbered J (function-param-list (at-depth d))

@@ -21,7 +21,8 @@ use Rattle.grammar.specs.Canonical.Write.{own, fun-gives, has-function}
 use Rattle.grammar.specs.Canonical.Valid.{IsName, Role, unary, binop, assign, plain, ex, stmt, control, Valid, Valids, Pattern, v-binary-op, v-assign, v-inner, v-single, v-tuple, v-local, v-plain, v-keyword, v-none, v-target, tight}
 use borrow.Author.Tests.{eqb-true}
 use Rattle.grammar.specs.Laws.Facts.{clash, other, by-test, and-l, and-r}
-use Rattle.grammar.specs.Laws.Seen.{kind-at, look-saw, is-at, NotClose, NotLabel, NotComma}
+use Rattle.grammar.specs.Laws.Commas.{NoCommaBehind}
+use Rattle.grammar.specs.Laws.Seen.{kind-at, look-saw, is-at, NotClose, NotLabel}
 use Rattle.grammar.specs.Laws.Post.{Post, p-ok, p-fail, post-then, post-if}
 use Rattle.grammar.specs.Laws.Convert.{PatternOk, no-pattern, a-pattern, Converts, Convert, c-none, c-more, convert-snoc, none-sound, tuple-sound}
 use Rattle.grammar.specs.Laws.Roles.{as-inner, valids-snoc}
@@ -54,7 +55,6 @@ pub record ExprOk (role : Bool → Bool → Role) (ts : List ℕ) (t : Tree) (r 
   pub valid : (b c : Bool) → (b ≡ false → NotLabel ts) → (c ≡ false → NotClose r) → Valid (role b c) t
   pub converts : Converts t
   pub start : NotClose ts
-  pub follow : NotComma r
 
 -- without a keyword it is plain
 pub record AnyOk (ts : List ℕ) (t : Tree) (r : List ℕ) : Type 0 where
@@ -69,6 +69,7 @@ pub record Sound (low : Depth) : Type 0 where
   pub s-unary : (q : List Error) (ts : List ℕ) → Post (λ t r. OperandOk unary ts t) (low .unary q ts)
   pub s-right : (q : List Error) (ts : List ℕ) → Post (AnyOk ts) (low .right q ts)
   pub s-list : (end : ℕ) (q : List Error) (ts : List ℕ) → Post (λ s r. ListOk s) (low .list end q ts)
+  pub s-comma : NoCommaBehind low
 
 -- nothing is asked where a label may come first, or where `)` may come next
 pub anyhow : {A : Type 0} → true ≡ false → A
@@ -102,23 +103,21 @@ unfolding snoc
 members-snoc (first x c) h d = others x h v-none (c-more d c-none)
 members-snoc (others x g f c) h d = others x g (valids-snoc f h) (convert-snoc c d)
 
--- a tuple that ends before r, where no comma stands
-pub tuple-made : {us ts : List ℕ} {f : Forest} (r : List ℕ) → MembersOk us ts f → (eqb (kind-at ts) Kind.Comma ≡ true → eqb (kind-at r) Kind.CloseParen ≡ true) → NotComma r → ExprOk plain us (Node.tuple f) r
-tuple-made r (first {t = t} x c) close follow = record {
+-- a tuple that ends before r
+pub tuple-made : {us ts : List ℕ} {f : Forest} (r : List ℕ) → MembersOk us ts f → (eqb (kind-at ts) Kind.Comma ≡ true → eqb (kind-at r) Kind.CloseParen ≡ true) → ExprOk plain us (Node.tuple f) r
+tuple-made r (first {t = t} x c) close = record {
   valid = λ b c′ h g. single b c′ (x .valid b h) g;
   converts = tuple-sound (c-more (x .converts) c-none);
   start = x .start;
-  follow = follow;
 }
   where
     single : (b c′ : Bool) → Valid (binop b level-count) t → (c′ ≡ false → NotClose r) → Valid (plain b c′) (Node.tuple (one t))
     single b true h g = v-single h
     single b false h g = clash (close c) (g refl)
-tuple-made r (others x g f c) close follow = record {
+tuple-made r (others x g f c) close = record {
   valid = λ b c′ h i. v-tuple (x .valid b h) g f;
   converts = tuple-sound (c-more (x .converts) c);
   start = x .start;
-  follow = follow;
 }
 
 -- a keyword that was taken, 1 + its action, or none
@@ -190,7 +189,7 @@ ex-of {a = suc a} h (by-assign x) = v-keyword {a = a} (omega arith) x
 -- what is no assignment has no keyword
 pub plain-any : {ts r s : List ℕ} {m : ℕ} {t : Tree} → Keyed ts m r → eqb m 0 ≡ true → ExprOk plain r t s → AnyOk ts t s
 plain-any (no-keyword k) z x = record {
-  all = record { valid = λ b c h g. v-plain (x .valid b c h g); converts = x .converts; start = x .start; follow = x .follow };
+  all = record { valid = λ b c h g. v-plain (x .valid b c h g); converts = x .converts; start = x .start };
   bare = λ _. x .valid;
 }
 plain-any (a-keyword {a = a} h k n) z x = let e = eqb-true (suc a) 0 z in absurd (omega arith)
@@ -203,7 +202,6 @@ assigned k (no-keyword w) c n h z = record {
     valid = λ b c′ _ g. v-plain (plain-of (assign-ok 0 k n h (z .all .valid true c′ anyhow g)));
     converts = none-sound refl;
     start = c;
-    follow = z .all .follow;
   };
   bare = λ _ b c′ _ g. plain-of (assign-ok 0 k n h (z .all .valid true c′ anyhow g));
 }
@@ -212,7 +210,6 @@ assigned k (a-keyword {a = a} ha w nc) c n h z = record {
     valid = λ b c′ _ g. ex-of ha (assign-ok a k n h (z .all .valid true c′ anyhow g));
     converts = none-sound refl;
     start = nc;
-    follow = z .all .follow;
   };
   bare = λ y. clash y w;
 }

@@ -1,5 +1,4 @@
 -- Operators, tuples and assignments that are read cleanly are valid. Assumes nothing.
-use mathlib.Core.Path.{refl}
 use mathlib.Core.Bool.{true}
 use mathlib.Core.List.{List}
 use Prim.Native.Nat.{ℕ, zero, suc}
@@ -13,7 +12,7 @@ use Rattle.grammar.specs.Reading.Expr.{Depth, binop-expr, members, tuple
 use Rattle.grammar.specs.Canonical.Valid.{binop, plain, v-unary, v-up, v-inner}
 use Rattle.grammar.specs.Laws.Facts.{clash}
 use Rattle.grammar.specs.Laws.Post.{Post, p-ok, p-fail, post-then, post-if, post-map}
-use Rattle.grammar.specs.Laws.Seen.{look-saw, isnt, not-at, is-at}
+use Rattle.grammar.specs.Laws.Seen.{look-saw, not-at, is-at}
 use Rattle.grammar.specs.Laws.Sound.Base.{OperandOk, ExprOk, AnyOk, Sound, anyhow, operators-sound, MembersOk, first, members-snoc, tuple-made, keyword-sound, pattern-sound, plain-any, assigned}
 
 module _ (low : Depth) (S : Sound low) where
@@ -30,9 +29,9 @@ module _ (low : Depth) (S : Sound low) where
   members-sound us (suc n) f q ts x =
       post-then q (look-saw q ts) λ tok q₁ rest s. post-if
       (λ _ c. post-then q (look-saw q rest) λ tok₂ q₂ rest₂ s₂. post-if
-      (λ _ e. p-ok (tuple-made rest x (λ _. is-at s₂ Kind.CloseParen e) (isnt s₂ Kind.CloseParen Kind.Comma e refl)))
+      (λ _ e. p-ok (tuple-made rest x (λ _. is-at s₂ Kind.CloseParen e)))
       (λ _ e. post-then q (binop-sound level-count q rest) λ t q₃ r y. members-sound us n (snoc f t) q₃ r (members-snoc x (y .valid true anyhow) (y .converts))))
-      (λ _ c. p-ok (tuple-made ts x (λ e. clash e (not-at s Kind.Comma c)) (not-at s Kind.Comma c)))
+      (λ _ c. p-ok (tuple-made ts x (λ e. clash e (not-at s Kind.Comma c))))
 
   pub tuple-expr-sound : (q : List Error) (ts : List ℕ) → Post (ExprOk plain ts) (tuple-expr low q ts)
   unfolding tuple-expr
@@ -40,7 +39,7 @@ module _ (low : Depth) (S : Sound low) where
       post-then q (binop-sound level-count q ts) λ t q₁ r x.
       post-then q₁ (look-saw q₁ r) λ tok q₂ rest s. post-if
       (λ _ c. members-sound ts (length r) (one t) q₁ r (first x (is-at s Kind.Comma c)))
-      (λ _ c. p-ok (record { valid = λ b c′ h g. v-inner (x .valid b h); converts = x .converts; start = x .start; follow = not-at s Kind.Comma c }))
+      (λ _ c. p-ok (record { valid = λ b c′ h g. v-inner (x .valid b h); converts = x .converts; start = x .start }))
 
   pub expr-sound : (q : List Error) (ts : List ℕ) → Post (AnyOk ts) (expr low q ts)
   unfolding expr

@@ -19,7 +19,7 @@ use Rattle.grammar.specs.Reading.Pattern.{conv, to-pattern, by-item}
 use Rattle.grammar.specs.Reading.Function.{Param, required, variadic, default, Params, param-mode, variadic-param, plain-param, param as param-read, joined, params, function-def, function-assignment-target, target-name, function-decl-expr}
 use Rattle.grammar.specs.Canonical.Valid.{IsName, IsNamed, read-only, read-write, atom, tight, ex, function, item, param, block, Valid, Valids, Target, v-function, v-target, v-function-def, v-function-default, v-function-variadic, v-param, v-none, v-more, t-name, t-attribute, t-index, v-nil, v-empty-tuple, v-identifier, v-true, v-false, v-integer, v-float, v-string, v-group, v-modified, v-attribute, v-index}
 use Rattle.grammar.specs.Laws.Facts.{clash, other, or-true}
-use Rattle.grammar.specs.Laws.Post.{Post, p-ok, p-fail, post-then, post-if, post-map, post-both}
+use Rattle.grammar.specs.Laws.Post.{Post, p-ok, p-fail, post-then, post-if, post-map, post-both, post-success}
 use Rattle.grammar.specs.Laws.Convert.{Converts, none-sound, front-valid, last-valid}
 use Rattle.grammar.specs.Canonical.Write.{target-atom}
 use Rattle.grammar.specs.Laws.Roles.{valids-snoc}
@@ -141,7 +141,7 @@ module _ (low : Depth) (S : Sound low) where
   unfolding plain-param
   plain-sound q ts h =
       post-then q (look-saw q ts) λ tok q₁ rest s. post-if
-      (λ _ _. post-then q (expr-sound low S q rest) λ e q₂ r x. p-ok (is-default h (x .all .valid true true anyhow anyhow) (x .all .follow)))
+      (λ _ _. post-then q (post-both (expr-sound low S q rest) (post-success (S .s-comma q rest))) λ e q₂ r x. p-ok (is-default h (x .0 .all .valid true true anyhow anyhow) (x .1)))
       (λ _ _. p-ok (is-required h))
 
   param-sound : (q : List Error) (ts : List ℕ) → Post (λ p r. ParamOk r p) (param-read low q ts)

@@ -24,6 +24,7 @@ use Rattle.grammar.specs.Laws.Facts.{clash, apart}
 use Rattle.grammar.specs.Laws.Post.{Post, p-ok, p-fail, p-stop, post-then, post-either, post-if, post-push, post-map}
 use Rattle.grammar.specs.Laws.Convert.{none-sound}
 use Rattle.grammar.specs.Laws.Roles.{valids-snoc}
+use Rattle.grammar.specs.Laws.Commas.{no-comma-behind}
 use Rattle.grammar.specs.Laws.Seen.{Saw, look-saw, isnt, not-at, is-at, NotClose, NotLabel}
 use Rattle.grammar.specs.Laws.Sound.Base.{expect-took, OperandOk, ListOk, Sound, anyhow, before, Keyed, no-keyword, a-keyword, keyword-sound, pattern-sound}
 use Rattle.grammar.specs.Laws.Sound.Expr.{tuple-expr-sound, expr-sound}
@@ -212,9 +213,10 @@ module _ (low : Depth) (S : Sound low) where
 
 pub depth-sound : (d : ℕ) → Sound (at-depth d)
 unfolding at-depth
-depth-sound zero = record { s-unary = λ q ts. p-stop; s-right = λ q ts. p-stop; s-list = λ end q ts. p-stop }
+depth-sound zero = record { s-unary = λ q ts. p-stop; s-right = λ q ts. p-stop; s-list = λ end q ts. p-stop; s-comma = no-comma-behind zero }
 depth-sound (suc d) = record {
   s-unary = unary-sound (at-depth d) (depth-sound d);
   s-right = expr-sound (at-depth d) (depth-sound d);
   s-list = λ end q ts. stmts-sound (at-depth d) (depth-sound d) end (length ts) none q ts (λ _. v-none);
+  s-comma = no-comma-behind (suc d);
 }
