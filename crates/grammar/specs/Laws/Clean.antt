@@ -1,50 +1,26 @@
 -- Every statement of a clean reading is valid. Assumes nothing.
-use mathlib.Core.Path.{_≡_, refl, sym, ap, _∙_, subst}
-use mathlib.Core.Bool.{Bool, true, false, cond, _&&_}
+use mathlib.Core.Path.{_≡_, refl, ap, _∙_, subst}
+use mathlib.Core.Bool.{Bool, true, false, cond}
 use mathlib.Core.List.{List, [], _∷_}
-use Prim.Native.Nat.{ℕ, zero, suc, _%_, _/_, _≤_}
+use Prim.Native.Nat.{ℕ, zero, suc, _%_, _≤_}
 use native.Mathlib.Omega.{arith}
-use lib.Dec.{eqb, leb}
+use lib.Dec.{eqb}
 use lib.ListN.{length}
 use Rattle.token.specs.Kind
-use Rattle.token.specs.Look.{token-fits, seen-token, value-fits}
 use Rattle.token.specs.declared.Token.{Token}
-use Rattle.token.specs.declared.Seen.the-variants.{Good, LexerError, Bad}
 use Rattle.tree.specs.Tree.{Tree, Forest, none, more}
 use Rattle.tree.specs.Maybe.{Maybe, nothing, just, bindM}
-use Rattle.grammar.specs.Reading.Result.{Error, Res, ok, bad, fail, stop, either, ifb}
-use Rattle.grammar.specs.Reading.Look.{looked, look}
+use Rattle.grammar.specs.Reading.Result.{Error, Res, ok, bad, fail, stop, either, ifb, unclean}
 use Rattle.grammar.specs.Reading.Depth.{at-depth}
 use Rattle.grammar.specs.Reading.Next.{start, next}
 use Rattle.grammar.specs.Canonical.Valid.{stmt, Valid, Valids, v-none, v-more}
 use Rattle.grammar.specs.Canonical.Writing.{clean-then, clean-from, clean-reading}
 use borrow.Author.Tests.{eqb-true}
-use Rattle.grammar.specs.Laws.Facts.{other, and-r}
 use Rattle.grammar.specs.Laws.Post.{Post, p-ok, p-bad, p-fail, p-stop, post-then, post-either}
 use Rattle.grammar.specs.Laws.Top.{next-end}
-use Rattle.grammar.specs.Laws.Seen.{kind-at, Saw, isnt, NotClose}
+use Rattle.grammar.specs.Laws.Keep.{Yields, k-ok, k-bad, k-fail, k-stop}
+use Rattle.grammar.specs.Laws.Seen.{Saw, look-sees, isnt, NotClose}
 use Rattle.grammar.specs.Laws.Sound.Stmt.{stmt-sound, depth-sound}
-
--- a look that fails did not see `)`
-data LookOk (ts : List ℕ) : Res Token → Type 0 where
-  saw : {tok : Token} {r : List ℕ} → Saw ts tok r → LookOk ts (ok tok r)
-  saw-none : {e : Error} {q : List Error} {r : List ℕ} → NotClose ts → LookOk ts (fail e q r)
-  saw-bad : {n : ℕ} → LookOk ts (stop n)
-
-looked-ok : (q rest ts : List ℕ) (k n v : ℕ) → k ≡ kind-at ts → LookOk ts (looked q rest (seen-token k n v))
-unfolding looked
-looked-ok q rest ts k n v h = go (token-fits k n v) refl (eqb k Kind.LexerError) refl
-  where
-    go : (b : Bool) → token-fits k n v ≡ b → (c : Bool) → eqb k Kind.LexerError ≡ c → LookOk ts (looked q rest (cond b (cond c LexerError (Good (record { kind = k; newline = n; value = v }))) Bad))
-    go true e true f = saw-none (rw (sym h) (other k Kind.LexerError Kind.CloseParen f refl))
-    go true e false f = saw (record { at = h; fits = and-r (leb k Kind.LexerError && leb n 1) (value-fits k v) e })
-    go false e c f = saw-bad
-
-look-ok : (q : List Error) (ts : List ℕ) → LookOk ts (look q ts)
-unfolding look
-look-ok q [] = saw-none refl
-look-ok q (w ∷ []) = saw-none refl
-look-ok q (w ∷ (v ∷ r)) = looked-ok q r (w ∷ v ∷ r) (w % 256) (w / 256) v refl
 
 -- what `)` begins is no end, and nothing is passed over before it
 data StartOk (ts : List ℕ) : Res (Unit {0}) → Type 0 where
@@ -64,19 +40,27 @@ unfolding ifb
 if-ok {b = true} f g = f tt refl
 if-ok {b = false} f g = g tt refl
 
+unclean-ok : {ts : List ℕ} (q : List Error) {d : Res (Unit {0})} → StartOk ts d → StartOk ts (unclean q d)
+unfolding unclean
+unclean-ok q (started h) = not-clean
+unclean-ok q not-clean = not-clean
+unclean-ok q (not-started h) = not-started h
+unclean-ok q no-start = no-start
+
 either-ok : {ts : List ℕ} (q : List Error) {d : Res Token} {go : Token → List Error → List ℕ → Res (Unit {0})} (or : Error → List Error → List ℕ → Res (Unit {0}))
-    → LookOk ts d → ((tok : Token) (q : List Error) (r : List ℕ) → Saw ts tok r → StartOk ts (go tok q r)) → StartOk ts (either q d go or)
+    → Yields (Saw ts) (λ e r. NotClose ts) d → ((tok : Token) (q : List Error) (r : List ℕ) → Saw ts tok r → StartOk ts (go tok q r)) → StartOk ts (either q d go or)
 unfolding either
-either-ok q or (saw s) h = h _ _ _ s
-either-ok q or (saw-none c) h = anyway _ c
-either-ok q or saw-bad h = no-start
+either-ok q or (k-ok s) h = h _ _ _ s
+either-ok q or (k-bad s) h = unclean-ok _ (h _ _ _ s)
+either-ok q or (k-fail c) h = anyway _ c
+either-ok q or k-stop h = no-start
 
 start-ok : (n : ℕ) (q : List Error) (ts : List ℕ) → length ts ≤ n → StartOk ts (start n q ts)
 unfolding start
 start-ok zero q [] h = not-started refl
 start-ok zero q (w ∷ ts) h = absurd (omega arith)
 start-ok (suc n) q ts h =
-    either-ok q _ (look-ok q ts) λ tok q₁ rest s.
+    either-ok q _ (look-sees q ts) λ tok q₁ rest s.
     if-ok (λ _ e. anyway _ (isnt s Kind.EOF Kind.CloseParen e refl)) λ _ _.
     if-ok (λ _ e. anyway _ (isnt s Kind.Semicolon Kind.CloseParen e refl)) λ _ _.
     started (λ c. c)

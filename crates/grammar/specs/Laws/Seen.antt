@@ -11,7 +11,7 @@ use Rattle.token.specs.declared.Seen.the-variants.{Good, LexerError, Bad}
 use Rattle.grammar.specs.Reading.Result.{Error}
 use Rattle.grammar.specs.Reading.Look.{looked, look}
 use Rattle.grammar.specs.Laws.Facts.{other, and-r}
-use Rattle.grammar.specs.Laws.Keep.{Success, k-ok, k-failed, k-stop}
+use Rattle.grammar.specs.Laws.Keep.{Yields, Success, k-ok, k-fail, k-stop, k-weaken}
 use Rattle.grammar.specs.Laws.Post.{Post, post-success}
 
 -- the kind of the first token, and 77 where there is none
@@ -25,20 +25,28 @@ pub record Saw (ts : List ℕ) (tok : Token) (r : List ℕ) : Type 0 where
   pub at : tok .kind ≡ kind-at ts
   pub fits : value-fits (tok .kind) (tok .value) ≡ true
 
-looked-seen : (q rest ts : List ℕ) (k n v : ℕ) → k ≡ kind-at ts → Success (Saw ts) (looked q rest (seen-token k n v))
+abbrev pub NotClose : List ℕ → Type 0
+NotClose ts = eqb (kind-at ts) Kind.CloseParen ≡ false
+
+-- a look that fails did not see `)`
+looked-sees : (q rest ts : List ℕ) (k n v : ℕ) → k ≡ kind-at ts → Yields (Saw ts) (λ e r. NotClose ts) (looked q rest (seen-token k n v))
 unfolding looked
-looked-seen q rest ts k n v h = go (token-fits k n v) refl (eqb k Kind.LexerError)
+looked-sees q rest ts k n v h = go (token-fits k n v) refl (eqb k Kind.LexerError) refl
   where
-    go : (b : Bool) → token-fits k n v ≡ b → (c : Bool) → Success (Saw ts) (looked q rest (cond b (cond c LexerError (Good (record { kind = k; newline = n; value = v }))) Bad))
-    go true e true = k-failed
-    go true e false = k-ok (record { at = h; fits = and-r (leb k Kind.LexerError && leb n 1) (value-fits k v) e })
-    go false e c = k-stop
+    go : (b : Bool) → token-fits k n v ≡ b → (c : Bool) → eqb k Kind.LexerError ≡ c
+        → Yields (Saw ts) (λ e r. NotClose ts) (looked q rest (cond b (cond c LexerError (Good (record { kind = k; newline = n; value = v }))) Bad))
+    go true e true f = k-fail (rw (sym h) (other k Kind.LexerError Kind.CloseParen f refl))
+    go true e false f = k-ok (record { at = h; fits = and-r (leb k Kind.LexerError && leb n 1) (value-fits k v) e })
+    go false e c f = k-stop
+
+pub look-sees : (q : List Error) (ts : List ℕ) → Yields (Saw ts) (λ e r. NotClose ts) (look q ts)
+unfolding look
+look-sees q [] = k-fail refl
+look-sees q (w ∷ []) = k-fail refl
+look-sees q (w ∷ (v ∷ r)) = looked-sees q r (w ∷ v ∷ r) (w % 256) (w / 256) v refl
 
 pub look-seen : (q : List Error) (ts : List ℕ) → Success (Saw ts) (look q ts)
-unfolding look
-look-seen q [] = k-failed
-look-seen q (w ∷ []) = k-failed
-look-seen q (w ∷ (v ∷ r)) = looked-seen q r (w ∷ v ∷ r) (w % 256) (w / 256) v refl
+look-seen q ts = k-weaken (λ tok r s. s) (λ e r c. tt) (look-sees q ts)
 
 pub look-saw : (q : List Error) (ts : List ℕ) → Post (Saw ts) (look q ts)
 look-saw q ts = post-success (look-seen q ts)
@@ -53,9 +61,6 @@ not-at s c e = rw (sym (s .at)) e
 
 pub is-at : {ts r : List ℕ} {tok : Token} → Saw ts tok r → (c : ℕ) → eqb (tok .kind) c ≡ true → eqb (kind-at ts) c ≡ true
 is-at s c e = rw (sym (s .at)) e
-
-abbrev pub NotClose : List ℕ → Type 0
-NotClose ts = eqb (kind-at ts) Kind.CloseParen ≡ false
 
 abbrev pub NotLabel : List ℕ → Type 0
 NotLabel ts = eqb (kind-at ts) Kind.Label ≡ false
