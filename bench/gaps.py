@@ -3,13 +3,13 @@
 They are nests: levels around a core. A level has a gap: records that stand behind what is nested in it, mostly so many that the writer's table does
 not have any more where the trees before them begin. The first three shapes are none, but statements such as readings give.
 """
-from shapes import (A, ADDED, ENDED, NAMED_SIGNATURE, NO_RESULT, NO_STATEMENTS, PATTERN, SIGNATURE, STATED, big, call, chain, count, functions,
+from shapes import (A, ADDED, ARGUMENTS, DEPTH, ENDED, NAMED_SIGNATURE, NO_RESULT, NO_STATEMENTS, PATTERN, SIGNATURE, STATED, big, call, chain, count, functions,
                     integers, nest, rec, table)
 
 # The places of the table: for trees, and for assignments of functions.
 TREES, FORMS = 24576, 24424
-# Functions can be nested so many times in targets, until the depth runs out.
-DEEPEST = 64
+# Levels of members around functions in targets.
+MEMBERS = 9
 # A target's last index and the function's signature: `].b()`.
 TARGET = rec("Index", 1) + rec("List", 1) + rec("Primary", 2) + rec("AttributePattern", 1, 1) + SIGNATURE
 CALLED = rec("List", 1) + rec("Invoke", 1) + rec("List", 1) + rec("Primary", 2)
@@ -66,26 +66,26 @@ def nested_members(n):
 
 
 def remembered(core):
-    return sums(targets(core, DEEPEST), 1, big(TREES))
+    return sums(targets(core, DEPTH), 1, big(TREES))
 
 
 def argument(core):
-    return arguments(targets(core, DEEPEST - 1), 1, big(TREES))
+    return arguments(targets(core, DEPTH - 1), 1, big(TREES))
 
 
-def forgotten(core, deep=DEEPEST):
-    return sums(targets(core, deep), 1, assigning(FORMS, 31))
+def forgotten(core, deep=DEPTH):
+    return sums(targets(core, deep), 1, assigning(FORMS, ARGUMENTS))
 
 
 def forgotten_in_sums(core):
-    return sums(targets(core, DEEPEST), 10, assigning(FORMS // 10 + 1, 31))
+    return sums(targets(core, DEPTH), 10, assigning(FORMS // 10 + 1, ARGUMENTS))
 
 
-def forgotten_in_members(core):
-    """levels of members, the innermost without its function, since a function takes two of the depth"""
-    gap = assigning(FORMS // 10 + 1, 10)
-    inner = rec("IntegerLiteral") + targets(core, DEEPEST - 18) + gap + rec("List", 3) + rec("Tuple", 1)
-    return members(inner, 9, gap)
+def forgotten_in_members(core, levels=MEMBERS):
+    """levels of members, the innermost without its function; a function takes two of the depth, also of that for the gap inside"""
+    gap = assigning(FORMS // (levels + 1) + 1, ARGUMENTS - levels)
+    inner = rec("IntegerLiteral") + targets(core, DEPTH - 2 * levels) + gap + rec("List", 3) + rec("Tuple", 1)
+    return members(inner, levels, gap)
 
 
 LEVELS = (sums, bodies, targets, arguments, members)
@@ -95,12 +95,12 @@ SHAPES = (
     ("a call", lambda n: call(integers(n)) + STATED, 0),
     ("a table", lambda n: table(2 * n // 7) + STATED, 0),
     *(("`%s`, gaps of %d" % (level.__doc__, gap), plain(level, gap), gap) for gap in (TREES, 8192) for level in LEVELS),
-    ("64 functions in targets, most records in the innermost; a gap behind", lambda n: filled(remembered, n, one_sum), 50000),
+    ("%d functions in targets, most records in the innermost; a gap behind" % DEPTH, lambda n: filled(remembered, n, one_sum), 50000),
     ("the same, the gap in the body of one more that is an argument", lambda n: filled(argument, n, one_sum), 50000),
-    ("64 functions in targets, most records in the innermost; more than 24,424 assigned functions behind",
+    ("%d functions in targets, most records in the innermost; more than 24,424 assigned functions behind" % DEPTH,
      lambda n: filled(forgotten, n, one_sum), 270000),
     ("the same, those behind in ten sums, the records inside in levels of `1, fun() .. end, gap`",
      lambda n: filled(forgotten_in_sums, n, nested_members), 270000),
-    ("46 functions in targets, the records inside in levels of `1, fun() .. end, gap`, those behind in ten more around all",
+    ("%d functions in targets, the records inside in levels of `1, fun() .. end, gap`, those behind in %d more around all" % (DEPTH - 2 * MEMBERS, MEMBERS + 1),
      lambda n: filled(forgotten_in_members, n, nested_members), 270000),
 )

@@ -7,8 +7,10 @@ import os
 import struct
 import sys
 
-sys.path.append(os.path.join(os.path.dirname(os.path.dirname(os.path.abspath(__file__))), "tools"))
+ROOT = os.path.dirname(os.path.dirname(os.path.abspath(__file__)))
+sys.path += [os.path.join(ROOT, "tools"), os.path.join(ROOT, "compare", "oracle")]
 from canonical import NODE
+from limit import DEPTH
 
 ADD, LET = 3, 2
 # One operator of each of the ten levels, the tightest first.
@@ -66,6 +68,10 @@ def right_nested(deep, leaf=A):
 def assigned(times, value=A):
     """`a = a = ..`"""
     return PATTERN * times + value + rec("Assignment", 2) * times
+
+
+# So many nested functions are written as a statement, and as an argument, with this limit of depth: each takes two of it, and what stands in the innermost one.
+FUNCTIONS, ARGUMENTS = (DEPTH - 1) // 2, (DEPTH - 2) // 2
 
 
 def functions(deep):

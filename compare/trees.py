@@ -4,12 +4,13 @@ A tree is (kind, value, [trees]) as in tools/canonical.py; a record is (first wo
 """
 import functools
 from canonical import NODE, NODES
+from limit import DEPTH
 
 TREES_NOTED = 24576  # how many trees the writer's table has places for (crates/writer/src/records.rt)
 FORMS_NOTED = 24424  # and how many assignments of functions
 VALUES = [0, 1, 2, 3, 4, 5, 8, 14, 17, 18, 40, 43, 44, 2**32 - 1, 2**32, 2**32 + 1, 2**33 - 1, 2**33, 2**33 + 1, 2**63, 2**64 - 1]
 ACTIONS = 4
-MOST_LEVELS = 70
+MOST_LEVELS = DEPTH + 6
 
 
 def node(name, *kids, value=0):
@@ -414,7 +415,7 @@ def in_argument(rng, front, behind, last):
 def in_targets(rng, front, behind, last):
     """the first in a target, that function in the next one's, and so on; the others in the body of the outermost"""
     e = as_operand(front)
-    for _ in range(rng.randrange(5, 45)):
+    for _ in range(rng.randrange(5, 3 * DEPTH // 4)):
         e = holding(rng, e, block([]))
     return in_body(rng, node("Expression", e), behind, last)
 
@@ -422,7 +423,7 @@ def in_targets(rng, front, behind, last):
 def in_bodies(rng, front, behind, last):
     """the same, with the others in the bodies of all"""
     e, left = as_operand(front), list(behind)
-    step = len(left) // rng.randrange(2, 30) + 1
+    step = len(left) // rng.randrange(2, DEPTH // 2) + 1
     while left:
         e = holding(rng, e, block(left[:step], a_name(2)))
         del left[:step]

@@ -6,7 +6,7 @@
         [--chunk 50] [--show 10] [--shrink 3] [--mutate] [--keep DIR]
 
 DIR of --build holds oracle01, as `compare/oracle/build.sh SOURCES DIR` makes it; DIR of --oracle holds gen.py, tokens.py
-and check_sheets.py, by default compare/oracle; --repo is the repository with the definition, by default the folder above
+and tried.py, by default compare/oracle; --repo is the repository with the definition, by default the folder above
 this file's. Needs Python 3 and rt; one thread, about 10 ms a sheet, 0.2 s one of the family f. With the defaults some
 2,900 sheets, 2 to 3 minutes.
 
@@ -22,8 +22,8 @@ leaving out tokens (--shrink says how many).
 
 Families: a to f are gen.py's, drawn again if longer than --max-tokens (f: --max-tokens-f, since f is about the limits);
 v is gen.py's mix with one token's value out of its range; w is gen.py's b with names replaced by blocks that hold an
-error, so that errors wait while reading goes on, and with some damage; tried is 01's "Sheets tried", from
-check_sheets.py. --pool N draws N sheets for each family and seed, and keeps the --count of them whose answers are the
+error, so that errors wait while reading goes on, and with some damage; tried are the sheets of tried.py, which documents
+01 and 02 name. --pool N draws N sheets for each family and seed, and keeps the --count of them whose answers are the
 rarest. --all adds every sheet of at most so many of the words (without --words, of every kind) behind the prefix, with
 and without EOF.
 
@@ -33,7 +33,6 @@ its changed one, and a chunk with a single changed one is refused for just that 
 Exit status: 0 no difference, 1 differences or answers that are none of 01's, 2 something failed.
 """
 import argparse
-import ast
 import collections
 import os
 import pathlib
@@ -94,12 +93,10 @@ def generate(args, *words):
     return sheets
 
 
-def tried(args, tokens):
-    """the sheets of TRIED in check_sheets.py, which is read and not run"""
-    tree = ast.parse(open(os.path.join(args.oracle, "check_sheets.py")).read())
-    value = next(node.value for node in tree.body if isinstance(node, ast.Assign) and node.targets[0].id == "TRIED")
-    rows = eval(compile(ast.Expression(value), "TRIED", "eval"), {})
-    return [Sheet("tried %d" % n, tokens.sheet(row[0])) for n, row in enumerate(rows)]
+def tried_sheets(tokens):
+    """the sheets of tried.py"""
+    import tried  # of args.oracle, as tokens is
+    return [Sheet("tried %d" % n, tokens.sheet(row)) for n, (row, _) in enumerate(tried.TRIED + tried.DEPTHS)]
 
 
 def spoiled(args, tokens, seed, count):
@@ -148,7 +145,7 @@ def waiting(args, tokens, seed, count):
 
 def drawn(args, tokens, family, seed, count):
     if family == "tried":
-        return tried(args, tokens)
+        return tried_sheets(tokens)
     if family == "v":
         return spoiled(args, tokens, seed, count)
     if family == "w":

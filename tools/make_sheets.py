@@ -3,11 +3,11 @@
 
     make_sheets.py --build DIR [--oracle DIR] [--seeds 1,2] > crates/replay/stdin
 
-DIR of --build holds oracle and oracle01, as `compare/oracle/build.sh SOURCES DIR` makes them; DIR of --oracle holds gen.py, tokens.py and
-canonical.txt, by default compare/oracle. The same seeds give the same file. Needs Python 3.
+DIR of --build holds oracle and oracle01, as `compare/oracle/build.sh SOURCES DIR` makes them; DIR of --oracle holds gen.py, limit.py, tokens.py,
+tried.py and canonical.txt, by default compare/oracle. The same seeds give the same file. Needs Python 3.
 
 Each sheet is run through both programs. Where they agree, the answers are those of the published parser unchanged. Where the
-published parser panics, or goes past a limit of document 01, they are those of oracle01, and the sheet stands in the group that says so.
+published parser panics, or goes past a limit of documents 01 and 02, they are those of oracle01, and the sheet stands in the group that says so.
 
 The canonical tokens of the sheets in canonical.txt are the supplied ones. Those of any other records are judged: a model of the
 definition (canonical.py) writes a tree, whatever it is, and the published parser reads that back. If this gives another tree or an
@@ -28,8 +28,8 @@ ROOT = os.path.dirname(os.path.dirname(os.path.abspath(__file__)))
 HEADER = """# Sheets with the answers that the published parser gave for them, and what the writer makes of their trees. Made by
 #   tools/make_sheets.py --oracle DIR --build DIR --seeds %(seeds)s
 # from the sheets of document 01, gen.py's families a to f with these seeds, such sheets joined to nearly 500 tokens, sheets with a
-# lexer error in the place of each token in turn and before it, sheets about request P1 of document 02 (the numbers 24, 28 and 32, the
-# operators' levels), the sheets of canonical.txt, and trees of all but the joined ones and P1's, altered.
+# lexer error in the place of each token in turn and before it, sheets about requests P1 (the numbers 24, 28 and 32, the operators' levels)
+# and P3 (the depth) of document 02, the sheets of canonical.txt, and trees of all but the joined ones, P1's and P3's, altered.
 #
 # s WORDS            a sheet: two words for each token, kind + 256 x newline, then the value; the line above it has its text
 # t WORDS = READER   the next answer is a tree with these records, two words each
@@ -41,8 +41,8 @@ HEADER = """# Sheets with the answers that the published parser gave for them, a
 # w WORDS            the writer writes the records before this as these tokens, two words each
 # n N                the writer writes nothing for the records before this, and answers this number
 # >NAME              ends a group, whose counts are printed behind NAME
-# Groups named `oracle01` have sheets at which the published parser panics or that go past a limit of document 01; the answers
-# there are those of the parser patched with document 01's own.
+# Groups named `oracle01` have sheets at which the published parser panics or that go past a limit of documents 01 and 02; the answers
+# there are those of the parser patched with the documents' own.
 """
 
 # family, sheets for each seed, options of gen.py, tokens at least
@@ -206,6 +206,13 @@ def supplied_group(args, tokens, write):
     return trees
 
 
+def depth_groups(sheets, args, tokens, write):
+    """Sheets about the depth. Then the trees that the published parser, which has no limit, gives for them, for the writer alone."""
+    group("depth", sheets, args, tokens, write)
+    rows = sum(listing(os.path.join(args.build, "oracle"), sheets, tokens.lines), [])
+    records_group("depth, trees", [records_of(row) for row in rows if row.startswith("t ")], args, tokens, write)
+
+
 def with_kind(records, at, kinds, draw):
     """Another kind, of every second record one that stands with as many children elsewhere."""
     count = records[at][0] // 256
@@ -243,9 +250,10 @@ def swapped(records, at, kinds, draw):
 
 def deepened(records, at, kinds, draw):
     """Parentheses around a statement's last part, and about as many signs before them as may be."""
+    from limit import DEPTH  # of args.oracle, as tokens is
     group = (canonical.NODE["Group"] + 256, 0)
     sign = (canonical.NODE["UnaryOp"] + 256, draw.randrange(4))
-    return records[:-1] + [group] + [sign] * draw.randrange(56, 65) + records[-1:]
+    return records[:-1] + [group] + [sign] * draw.randrange(DEPTH - 8, DEPTH + 1) + records[-1:]
 
 
 WAYS = [
@@ -301,9 +309,10 @@ def main():
     args = parser.parse_args()
     sys.path.insert(0, args.oracle)
     import tokens
+    import tried
     write = sys.stdout.write
     write(HEADER % {"seeds": args.seeds})
-    trees = group("document 01", [tokens.sheet(row) for row in stored.TRIED], args, tokens, write)
+    trees = group("document 01", [tokens.sheet(row) for row, _ in tried.TRIED], args, tokens, write)
     for family in "abcdef":
         sheets = []
         for seed in args.seeds.split(","):
@@ -317,6 +326,7 @@ def main():
     trees += group("lexer errors everywhere", broken, args, tokens, write)
     # their trees are not altered; those of the other groups are, but for the joined ones
     group("numbers and levels", [tokens.sheet(row) for row in stored.NUMBERS + stored.mixed() + stored.PLACES], args, tokens, write)
+    depth_groups([tokens.sheet(row) for row, _ in tried.DEPTHS], args, tokens, write)
     trees += supplied_group(args, tokens, write)
     altered_groups(trees, args, tokens, write)
 

@@ -1,32 +1,5 @@
-"""The sheets of the program `replay` that were written by hand, in the notation of compare/oracle/tokens.py; make_sheets.py makes its input of them."""
-
-# document 01, "Sheets tried", the starred ones included
-TRIED = [
-    "",
-    "EOF",
-    "^n7 + 1 ^EOF",
-    "a",
-    ") a b EOF",
-    ") assert a EOF",
-    "begin 1 ; continue ; end EOF",
-    "begin continue x",
-    "::5 begin end EOF",
-    "class a EOF",
-    "a , EOF",
-    "begin LEXERR a end EOF",
-    "if c then continue x y d then 2 end EOF",
-    "a ( b ) EOF",
-    "a ^( b ) EOF",
-    "- " * 63 + "a EOF",
-    "- " * 64 + "a EOF",
-    "a = " * 63 + "a EOF",
-    "a = " * 64 + "a EOF",
-    "a ; b EOF",
-    "a b EOF",
-    "local a = 1 EOF",
-    "( a ) = 1 EOF",
-    "( a ) EOF",
-]
+"""The sheets of the program `replay` that were written by hand, in the notation of compare/oracle/tokens.py; make_sheets.py makes its input of them and of
+those of compare/oracle/tried.py."""
 
 # every place of these is replaced by a lexer error in turn
 DAMAGED = [

@@ -5,6 +5,7 @@ pub mod Contract
 pub mod Levels
 pub mod Sheets
 pub mod Looks
+pub mod Depths
 pub mod Laws
 pub mod Promise
 pub mod Locality

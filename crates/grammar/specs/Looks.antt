@@ -2,14 +2,14 @@
 -- Assumes nothing.
 use mathlib.Core.Path.{_≡_, refl}
 use mathlib.Core.List.{List, [], _∷_, _++_}
-use Prim.Native.Nat.{ℕ, zero, suc, _*_}
+use Prim.Native.Nat.{ℕ, suc, _*_}
 use lib.ListN.{length}
 use Rattle.token.specs.Kind
 use Rattle.tree.specs.Maybe.{Maybe, nothing, just}
 use Rattle.grammar.specs.Reading.Next.{fresh, Called}
 use Rattle.grammar.specs.Reading.Looked.{words-of, bad-record, meets, is-bad, looks, call-looks}
 use Rattle.grammar.specs.Reading.Kept.{KeptCall, Calls, last-call, then-call, stay, restart}
-use Rattle.grammar.specs.Sheets.{calls, s, name, eof}
+use Rattle.grammar.specs.Sheets.{calls, s, name, eof, times}
 use Rattle.grammar.specs.declared.Reader.{Reader}
 
 -- calls on a sheet from a reader on, with stores of m words, as they are kept
@@ -45,11 +45,7 @@ abbrev pub found : List Row → List Row
 found [] = []
 found (w ∷ rows) = let ks : List KeptCall = kept-calls (w .sheet) in record { sheet = w .sheet; looked = all-looked ks; edits = all-edits ks (w .edits) } ∷ found rows
 
--- minus signs, a bad record, a name
-abbrev minus : ℕ → List ℕ → List ℕ
-minus zero r = r
-minus (suc n) r = s Kind.OpSub (minus n r)
-
+-- a bad record, a name
 abbrev bad : List ℕ → List ℕ
 bad r = words-of bad-record ++ r
 
@@ -81,8 +77,8 @@ table =
     record { sheet = a (s Kind.OpAdd (bad (a (bad eof)))); looked = 3 ∷ []; edits = edit 2 0 (just 0) ∷ edit 3 1 nothing ∷ [] } ∷
     -- a; and a bad record: a tree, then stopped 60
     record { sheet = a (s Kind.Semicolon (bad eof)); looked = 2 ∷ 3 ∷ []; edits = edit 1 0 (just 0) ∷ edit 2 1 (just 1) ∷ edit 3 2 nothing ∷ [] } ∷
-    -- 64 minus signs: stopped 62 before the 65th token is looked at
-    record { sheet = minus 64 (a eof); looked = 64 ∷ []; edits = edit 63 0 (just 0) ∷ edit 64 1 nothing ∷ [] } ∷
+    -- 37 minus signs: stopped 62 before the 38th token is looked at
+    record { sheet = times 37 (s Kind.OpSub) (a eof); looked = 37 ∷ []; edits = edit 36 0 (just 0) ∷ edit 37 1 nothing ∷ [] } ∷
     -- an odd number of words: stopped 60 for the length
     record { sheet = a (7 ∷ []); looked = 2 ∷ []; edits = edit 1 0 (just 0) ∷ [] } ∷
     []

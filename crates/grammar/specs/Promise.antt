@@ -157,7 +157,7 @@ pub record Ready (R : Reader) (T : List ℕ) (m : ℕ) : Type 0 where
   pub none-waits : R .waiting ≡ 0
   pub room : share T R ≤ m
 
--- a stop with the number k: 60 for the length; a reader that was stopped; a stop of the reading: 60 at a bad record, 62 as depth 65 begins, 64 as a 97th error would wait
+-- a stop with the number k: 60 for the length; a reader that was stopped; a stop of the reading: 60 at a bad record, 62 as one reading more than `depth-limit` begins, 64 as a 97th error would wait
 pub data StopCause (R : Reader) (T : List ℕ) (m k : ℕ) : Type 0 where
   length-stops : (Sheet T → ⊥) → k ≡ malformed → StopCause R T m k
   was-stopped : Sheet T → Accepted T R → R .stopped ≡ k → StopCause R T m k

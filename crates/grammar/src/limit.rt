@@ -1,7 +1,7 @@
 // The limits, and the numbers of stops and refusals. specs/Reading/Limit.antt has the same.
 
 // Operand readings, right sides of assignments and statement lists begun and unfinished.
-pub const DEPTH: usize = 64;
+pub const DEPTH: usize = 37;
 
 // Words of a sheet: two for each of 65,536 tokens.
 pub const LENGTH: usize = 131072;

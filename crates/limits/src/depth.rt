@@ -1,5 +1,5 @@
-// The depth: 64 begun and unfinished are read and written, a 65th stops reader and writer, by operands, by right sides and by statement
-// lists.
+// The depth: 37 begun and unfinished are read and written, a 38th stops reader and writer, by operands, by right sides and by statement
+// lists. The numbers are document 02's, and not made of the limit in the code.
 use crate::made::repeat;
 use crate::made::stopped_at;
 use compared::call::called_full;
@@ -65,12 +65,12 @@ fn operands(t: Tally) -> Tally {
     let mut sheet = [0u64; 400];
     let mut tree = [0u64; 600];
     let name = b"depth by operands";
-    let n = signs(&mut sheet, 63);
-    let m = signs_tree(&mut tree, 63);
-    let a = both_ways(t, name, 64, between(&sheet, 0, n), between(&tree, 0, m));
-    let k = signs(&mut sheet, 64);
-    let l = signs_tree(&mut tree, 64);
-    neither_way(a, name, 65, between(&sheet, 0, k), between(&tree, 0, l))
+    let n = signs(&mut sheet, 36);
+    let m = signs_tree(&mut tree, 36);
+    let a = both_ways(t, name, 37, between(&sheet, 0, n), between(&tree, 0, m));
+    let k = signs(&mut sheet, 37);
+    let l = signs_tree(&mut tree, 37);
+    neither_way(a, name, 38, between(&sheet, 0, k), between(&tree, 0, l))
 }
 
 // Assignments one in the other, and a semicolon.
@@ -98,12 +98,12 @@ fn right_sides(t: Tally) -> Tally {
     let mut sheet = [0u64; 400];
     let mut tree = [0u64; 600];
     let name = b"depth by right sides";
-    let n = assignments(&mut sheet, 63);
-    let m = assignments_tree(&mut tree, 63);
-    let a = both_ways(t, name, 64, between(&sheet, 0, n), between(&tree, 0, m));
-    let k = assignments(&mut sheet, 64);
-    let l = assignments_tree(&mut tree, 64);
-    neither_way(a, name, 65, between(&sheet, 0, k), between(&tree, 0, l))
+    let n = assignments(&mut sheet, 36);
+    let m = assignments_tree(&mut tree, 36);
+    let a = both_ways(t, name, 37, between(&sheet, 0, n), between(&tree, 0, m));
+    let k = assignments(&mut sheet, 37);
+    let l = assignments_tree(&mut tree, 37);
+    neither_way(a, name, 38, between(&sheet, 0, k), between(&tree, 0, l))
 }
 
 // Loops one in the other, a semicolon behind each.
@@ -145,12 +145,12 @@ fn lists(t: Tally) -> Tally {
     let mut sheet = [0u64; 400];
     let mut tree = [0u64; 600];
     let name = b"depth by statement lists";
-    let n = loops(&mut sheet, 64);
-    let m = loops_tree(&mut tree, 63);
-    let a = both_ways(t, name, 64, between(&sheet, 0, n), between(&tree, 0, m));
-    let k = loops(&mut sheet, 65);
-    let l = loops_tree(&mut tree, 64);
-    neither_way(a, name, 65, between(&sheet, 0, k), between(&tree, 0, l))
+    let n = loops(&mut sheet, 37);
+    let m = loops_tree(&mut tree, 36);
+    let a = both_ways(t, name, 37, between(&sheet, 0, n), between(&tree, 0, m));
+    let k = loops(&mut sheet, 38);
+    let l = loops_tree(&mut tree, 37);
+    neither_way(a, name, 38, between(&sheet, 0, k), between(&tree, 0, l))
 }
 
 pub fn depths() -> Tally {

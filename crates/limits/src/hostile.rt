@@ -77,6 +77,6 @@ pub fn records() -> Tally {
     let mut held = [0u64; 400006];
     let mut output = [0u64; 120003];
     let a = long_sum(no_tally(), &mut held, &mut output);
-    let b = many_signs(a, &mut held, &mut output, 64, 65);
+    let b = many_signs(a, &mut held, &mut output, 37, 39);
     many_signs(b, &mut held, &mut output, 200000, 200003)
 }

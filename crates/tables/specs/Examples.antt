@@ -75,7 +75,7 @@ unfolding need count Choice.where-zero Choice.where-is Form.fun-gives Form.first
 same-depths = (refl, refl, refl)
 
 -- a statement that is too deep is told so, in an output without room too
-pub too-deep-first : (Answer.run-out (Node.expression (minus 64)) 0 .answer ≡ Stopped too-deep) × (Answer.run-out (Node.expression (minus 63)) 0 .answer ≡ Refused short-output)
+pub too-deep-first : (Answer.run-out (Node.expression (minus 37)) 0 .answer ≡ Stopped too-deep) × (Answer.run-out (Node.expression (minus 36)) 0 .answer ≡ Refused short-output)
 unfolding ifb count op-token unary-token assign-token Choice.where-zero Choice.where-is Form.fun-gives Form.first-place Form.second-place Form.place-of Form.base Form.first-deeper Form.second-deeper Form.deeper Tokens.label-token Tokens.access-token Tokens.modifier-token Tokens.assignment-token Tokens.later-first-token Tokens.first-token Tokens.second-token Tokens.third-token Tokens.between Tokens.assigns Tokens.first-after Tokens.after-token Tokens.behind-token Tokens.last-token Tokens.name-in Tokens.label-in Tokens.carried Layout.emit Layout.opened Layout.closed Children.last-tree Check.function-form Check.signature-mode Layout.assignment-form Layout.form-of Layout.text Layout.within Answer.in-room Answer.run-out
 too-deep-first = (refl, refl)
 

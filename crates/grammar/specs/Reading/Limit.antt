@@ -3,7 +3,7 @@ use Prim.Native.Nat.{ℕ}
 
 -- operand readings, right sides of assignments and statement lists begun and unfinished
 abbrev pub depth-limit : ℕ
-depth-limit = 64
+depth-limit = 37
 
 -- tokens of a sheet
 abbrev pub length-limit : ℕ
