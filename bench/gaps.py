@@ -3,13 +3,13 @@
 They are nests: levels around a core. A level has a gap: records that stand behind what is nested in it, mostly so many that the writer's table does
 not have any more where the trees before them begin. The first three shapes are none, but statements such as readings give.
 """
-from shapes import (A, ADDED, ARGUMENTS, DEPTH, ENDED, NAMED_SIGNATURE, NO_RESULT, NO_STATEMENTS, PATTERN, SIGNATURE, STATED, big, call, chain, count, functions,
-                    integers, nest, rec, table)
+from shapes import (A, ADDED, ARGUMENTS, DEPTH, ENDED, NAMED_SIGNATURE, NO_RESULT, NO_STATEMENTS, PATTERN, SIGNATURE, STATED, big, call, chain, count,
+                    functions, integers, nest, rec, table)
 
 # The places of the table: for trees, and for assignments of functions.
 TREES, FORMS = 24576, 24424
-# Levels of members around functions in targets.
-MEMBERS = 9
+# Levels of members around functions in targets; of up to ten, as many as leave gaps of TREES records, ten have the most passed over.
+MEMBERS = 10
 # A target's last index and the function's signature: `].b()`.
 TARGET = rec("Index", 1) + rec("List", 1) + rec("Primary", 2) + rec("AttributePattern", 1, 1) + SIGNATURE
 CALLED = rec("List", 1) + rec("Invoke", 1) + rec("List", 1) + rec("Primary", 2)
@@ -81,11 +81,11 @@ def forgotten_in_sums(core):
     return sums(targets(core, DEPTH), 10, assigning(FORMS // 10 + 1, ARGUMENTS))
 
 
-def forgotten_in_members(core, levels=MEMBERS):
+def forgotten_in_members(core):
     """levels of members, the innermost without its function; a function takes two of the depth, also of that for the gap inside"""
-    gap = assigning(FORMS // (levels + 1) + 1, ARGUMENTS - levels)
-    inner = rec("IntegerLiteral") + targets(core, DEPTH - 2 * levels) + gap + rec("List", 3) + rec("Tuple", 1)
-    return members(inner, levels, gap)
+    gap = assigning(FORMS // (MEMBERS + 1) + 1, ARGUMENTS - MEMBERS)
+    inner = rec("IntegerLiteral") + targets(core, DEPTH - 2 * MEMBERS) + gap + rec("List", 3) + rec("Tuple", 1)
+    return members(inner, MEMBERS, gap)
 
 
 LEVELS = (sums, bodies, targets, arguments, members)
@@ -101,6 +101,7 @@ SHAPES = (
      lambda n: filled(forgotten, n, one_sum), 270000),
     ("the same, those behind in ten sums, the records inside in levels of `1, fun() .. end, gap`",
      lambda n: filled(forgotten_in_sums, n, nested_members), 270000),
-    ("%d functions in targets, the records inside in levels of `1, fun() .. end, gap`, those behind in %d more around all" % (DEPTH - 2 * MEMBERS, MEMBERS + 1),
+    ("%d functions in targets, the records inside in levels of `1, fun() .. end, gap`, those behind in %d more around all"
+     % (DEPTH - 2 * MEMBERS, MEMBERS + 1),
      lambda n: filled(forgotten_in_members, n, nested_members), 270000),
 )

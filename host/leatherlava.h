@@ -5,9 +5,9 @@
  * a record, one for each node of a tree, is two words, too (docs/TREE.md).
  *
  * What the host owes, and nothing checks: every pointer is valid, aligned and not null; a count is that of the words behind its
- * pointer; what a call is lent does not overlap; nobody else writes it during a call; the stack is large enough (512 KiB for the
- * reader, 1,536 KiB for the writer: docs/BENCHMARK.md, docs/WRITER.md). Beyond that every input has an answer: a reader that no call
- * leaves, a sheet of odd length, a short store or records of no tree are answered, not forbidden. */
+ * pointer; what a call is lent does not overlap; nobody else writes it during a call; the stack is large enough (enum leatherlava_stack
+ * below). Beyond that every input has an answer: a reader that no call leaves, a sheet of odd length, a short store or records of no tree
+ * are answered, not forbidden. */
 #ifndef LEATHERLAVA_H
 #define LEATHERLAVA_H
 
@@ -17,6 +17,14 @@
 #ifdef __cplusplus
 extern "C" {
 #endif
+
+/* The stack to give a call, in bytes below the frame that calls. It does not grow with a sheet or a tree: a reading is at most 37 deep and then stops with 62, and so
+ * does the writing. The deepest that was found takes 178,960 bytes in the reader and 1,013,448 in the writer, of these libraries, for x86-64; it is measured, not
+ * proved (docs/BENCHMARK.md, docs/WRITER.md). Built for another machine they have other frames: measure them there. */
+enum leatherlava_stack {
+    LEATHERLAVA_READER_STACK = 256 * 1024,
+    LEATHERLAVA_WRITER_STACK = 1280 * 1024
+};
 
 /* A reader is fresh with every field 0. Each call takes it as the call before left it. */
 struct leatherlava_reader {

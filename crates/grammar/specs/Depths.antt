@@ -3,7 +3,7 @@
 -- whole reader and every word of the store; of its tree the writer's answer and every word of the output. Assumes nothing.
 use mathlib.Core.Path.{_≡_, refl}
 use mathlib.Core.List.{List, [], _∷_, _++_}
-use Prim.Native.Nat.{ℕ, zero, suc, _*_, _-_, _/_}
+use Prim.Native.Nat.{ℕ, suc, _*_, _-_, _/_}
 use lib.ListN.{length, replicate}
 use Rattle.token.specs.Kind
 use Rattle.tree.specs.Tree.{Tree, none, more, one, records}

@@ -102,7 +102,7 @@ int v r = Kind.IntegerLiteral ∷ v ∷ r
 abbrev pub eof : List ℕ
 eof = s Kind.EOF []
 
--- the same so many times over
+-- f, so many times over
 abbrev pub times : {A : Type 0} → ℕ → (A → A) → A → A
 times zero f r = r
 times (suc n) f r = f (times n f r)
