@@ -1,5 +1,5 @@
-/* hostile STACK OUTPUT CALLS < RECORDS: calls the proved writer CALLS times on a thread with a stack of STACK KiB, which was painted before, and an
- * output of OUTPUT words that are not 0. Prints the answer, whether the words behind the tokens are 0, the median of the calls' processor
+/* hostile OUTPUT CALLS < RECORDS: calls the proved writer CALLS times on a thread with the stack that hosts are told to give, which was painted before, and
+ * an output of OUTPUT words that are not 0. Prints the answer, whether the words behind the tokens are 0, the median of the calls' processor
  * time and the stack in bytes, from the frame that calls down to the lowest word that is not as painted. A call that needs more stack ends
  * the process. */
 #define _GNU_SOURCE
@@ -62,10 +62,10 @@ int main(int argc, char **argv) {
     static const char *const variants[] = {"tree", "error", "end", "stopped", "refused", "tokens"};
     pthread_attr_t attributes;
     pthread_t thread;
-    if (argc != 4) return 2;
-    size_t size = strtoul(argv[1], NULL, 10) * 1024, low = 0;
-    output_n = strtoul(argv[2], NULL, 10);
-    calls = strtoul(argv[3], NULL, 10);
+    if (argc != 3) return 2;
+    size_t size = LEATHERLAVA_WRITER_STACK, low = 0;
+    output_n = strtoul(argv[1], NULL, 10);
+    calls = strtoul(argv[2], NULL, 10);
     read_records();
     output = malloc((output_n + 1) * sizeof *output);
     seconds = malloc((calls + 1) * sizeof *seconds);

@@ -70,7 +70,8 @@ def assigned(times, value=A):
     return PATTERN * times + value + rec("Assignment", 2) * times
 
 
-# So many nested functions are written as a statement, and as an argument, with this limit of depth: each takes two of it, and what stands in the innermost one.
+# So many nested functions are written as a statement, and as an argument: each takes two of the depth, and what stands in the innermost one; an argument stands one
+# deeper than a statement.
 FUNCTIONS, ARGUMENTS = (DEPTH - 1) // 2, (DEPTH - 2) // 2
 
 

@@ -1,5 +1,6 @@
 /* stack < SHEETS: for each sheet its last answer and the deepest stack that a call of the proved reader used on it, in bytes. The calls
- * run on a thread whose stack was painted; the depth is from the frame that calls down to the lowest word that is not as painted. */
+ * run on a thread whose stack was painted; the depth is from the frame that calls down to the lowest word that is not as painted. The exit
+ * status is 1 if that is more than hosts are told to give. */
 #define _GNU_SOURCE
 #include <pthread.h>
 #include <sys/mman.h>
@@ -30,6 +31,7 @@ int main(void) {
     static const char *const variants[] = {"tree", "error", "end", "stopped", "refused"};
     pthread_attr_t attributes;
     pthread_t thread;
+    int status = 0;
     read_sheets();
     store = malloc((SHARE * words_n / 2 + 1) * sizeof *store);
     stack = mmap(NULL, STACK_WORDS * sizeof *stack, PROT_READ | PROT_WRITE, MAP_PRIVATE | MAP_ANONYMOUS, -1, 0);
@@ -42,8 +44,12 @@ int main(void) {
         pthread_join(thread, NULL);
         size_t low = 0;
         while (low < STACK_WORDS && stack[low] == PAINT) low++;
-        printf("%s | answer=%s number=%llu bytes=%zu\n", names[part], variants[answer.variant], (unsigned long long)answer.number,
-               (size_t)(top - (uintptr_t)(stack + low)));
+        size_t bytes = top - (uintptr_t)(stack + low);
+        printf("%s | answer=%s number=%llu bytes=%zu\n", names[part], variants[answer.variant], (unsigned long long)answer.number, bytes);
+        if (bytes > LEATHERLAVA_READER_STACK) {
+            fprintf(stderr, "%s: more stack than host/leatherlava.h says\n", names[part]);
+            status = 1;
+        }
     }
-    return 0;
+    return status;
 }

@@ -415,7 +415,7 @@ def in_argument(rng, front, behind, last):
 def in_targets(rng, front, behind, last):
     """the first in a target, that function in the next one's, and so on; the others in the body of the outermost"""
     e = as_operand(front)
-    for _ in range(rng.randrange(5, 3 * DEPTH // 4)):
+    for _ in range(rng.randrange(5, 2 * DEPTH // 3)):
         e = holding(rng, e, block([]))
     return in_body(rng, node("Expression", e), behind, last)
 

@@ -3,8 +3,8 @@
 
     check_canonical.py --build DIR [--oracle DIR] [--repo DIR] [--seeds 11,12,13,14] [--count 400] [--max-tokens 40] [--chunk 40]
 
-DIR of --build holds oracle01, as `compare/oracle/build.sh SOURCES DIR` makes it; DIR of --oracle holds gen.py and canonical.txt, by default
-compare/oracle; --repo is the repository with the definition, by default the folder above this file's. Needs Python 3 and rt.
+DIR of --build holds oracle01, as `compare/oracle/build.sh SOURCES DIR` makes it; DIR of --oracle holds gen.py, limit.py, tokens.py and
+canonical.txt, by default compare/oracle; --repo is the repository with the definition, by default the folder above this file's. Needs Python 3 and rt.
 
 Two things are computed by scratch modules in a temporary copy of the repository, and proved by refl, a chunk of sheets at a time:
 every sheet of canonical.txt is written as there, and so is its canonical run read again; and of the sheets of gen.py's family b
@@ -24,7 +24,7 @@ sys.dont_write_bytecode = True  # no compiled files beside the sources
 import supplied
 
 ROOT = os.path.dirname(os.path.dirname(os.path.abspath(__file__)))
-DEFINITIONS = ("Reading", "Canonical", "Sheets")
+DEFINITIONS = ("Reading", "Canonical", "Levels", "Sheets")
 HEADER = """-- Scratch: sheets and what they come to.
 use mathlib.Core.Path.{_≡_, refl}
 use mathlib.Core.Bool.{Bool, true}

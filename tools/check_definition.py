@@ -5,8 +5,8 @@
         [--count 100] [--pool N] [--max-tokens 40] [--max-tokens-f 400] [--all 1 [--words 'WORDS'] [--prefix 'WORDS']]
         [--chunk 50] [--show 10] [--shrink 3] [--mutate] [--keep DIR]
 
-DIR of --build holds oracle01, as `compare/oracle/build.sh SOURCES DIR` makes it; DIR of --oracle holds gen.py, tokens.py
-and tried.py, by default compare/oracle; --repo is the repository with the definition, by default the folder above
+DIR of --build holds oracle01, as `compare/oracle/build.sh SOURCES DIR` makes it; DIR of --oracle holds gen.py, limit.py,
+tokens.py and tried.py, by default compare/oracle; --repo is the repository with the definition, by default the folder above
 this file's. Needs Python 3 and rt; one thread, about 10 ms a sheet, 0.2 s one of the family f. With the defaults some
 2,900 sheets, 2 to 3 minutes.
 
@@ -22,8 +22,8 @@ leaving out tokens (--shrink says how many).
 
 Families: a to f are gen.py's, drawn again if longer than --max-tokens (f: --max-tokens-f, since f is about the limits);
 v is gen.py's mix with one token's value out of its range; w is gen.py's b with names replaced by blocks that hold an
-error, so that errors wait while reading goes on, and with some damage; tried are the sheets of tried.py, which documents
-01 and 02 name. --pool N draws N sheets for each family and seed, and keeps the --count of them whose answers are the
+error, so that errors wait while reading goes on, and with some damage; tried are the sheets of tried.py, document 01's and
+those about the depth. --pool N draws N sheets for each family and seed, and keeps the --count of them whose answers are the
 rarest. --all adds every sheet of at most so many of the words (without --words, of every kind) behind the prefix, with
 and without EOF.
 

@@ -1,6 +1,5 @@
-"""The proved libraries for C, target/staticlib/libNAME.a, and the stack that their header asks for."""
+"""The proved libraries for C, target/staticlib/libNAME.a."""
 import os
-import re
 import subprocess
 
 ROOT = os.path.dirname(os.path.dirname(os.path.abspath(__file__)))
@@ -13,9 +12,3 @@ def library(name):
     if not os.path.exists(path) or any(os.path.getmtime(source) > os.path.getmtime(path) for source in sources):
         subprocess.run(["rt", "staticlib", name], cwd=ROOT, check=True)
     return path
-
-
-def stack_asked(name):
-    """the stack that host/leatherlava.h asks for, READER or WRITER, in KiB"""
-    with open(os.path.join(ROOT, "host", "leatherlava.h"), encoding="utf-8") as header:
-        return int(re.search(r"LEATHERLAVA_%s_STACK = (\d+) \* 1024" % name, header.read()).group(1))

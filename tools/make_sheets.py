@@ -207,10 +207,11 @@ def supplied_group(args, tokens, write):
 
 
 def depth_groups(sheets, args, tokens, write):
-    """Sheets about the depth. Then the trees that the published parser, which has no limit, gives for them, for the writer alone."""
-    group("depth", sheets, args, tokens, write)
+    """Sheets about the depth. Then, for the writer alone, the trees that the published parser, which has no limit, gives for those that are too deep."""
+    read = group("depth", sheets, args, tokens, write)
     rows = sum(listing(os.path.join(args.build, "oracle"), sheets, tokens.lines), [])
-    records_group("depth, trees", [records_of(row) for row in rows if row.startswith("t ")], args, tokens, write)
+    trees = [records_of(row) for row in rows if row.startswith("t ")]
+    records_group("depth, trees that are not read", [words for words in trees if words not in read], args, tokens, write)
 
 
 def with_kind(records, at, kinds, draw):
@@ -324,7 +325,7 @@ def main():
     group("joined to 500 tokens", joined(sheets, (tokens.EOF, 0, 0)), args, tokens, write)
     broken = [toks for row in stored.DAMAGED for toks in damaged(tokens.sheet(row), (tokens.LEXERR, 0, 0))]
     trees += group("lexer errors everywhere", broken, args, tokens, write)
-    # their trees are not altered; those of the other groups are, but for the joined ones
+    # the trees of these two are not altered; those of the other groups are, but for the joined ones
     group("numbers and levels", [tokens.sheet(row) for row in stored.NUMBERS + stored.mixed() + stored.PLACES], args, tokens, write)
     depth_groups([tokens.sheet(row) for row, _ in tried.DEPTHS], args, tokens, write)
     trees += supplied_group(args, tokens, write)

@@ -18,7 +18,7 @@ use tree::word;
 
 // A tree that is as deep as may be: its tokens are read to it, and it is written as them.
 fn both_ways(t: Tally, name: &[u8], at: u64, tokens: &[u64], tree: &[u64]) -> Tally {
-    let mut output = [0u64; 400];
+    let mut output = [0u64; 228];
     let a = read_whole(with_sheet(t), name, at, tokens, tree);
     is_written(a, name, at, tree, &mut output, tokens)
 }
@@ -37,7 +37,7 @@ fn is_stopped(t: Tally, name: &[u8], at: u64, tokens: &[u64]) -> Tally {
 
 // One deeper: neither read nor written.
 fn neither_way(t: Tally, name: &[u8], at: u64, tokens: &[u64], tree: &[u64]) -> Tally {
-    let mut output = [0u64; 400];
+    let mut output = [0u64; 228];
     let a = is_stopped(with_sheet(t), name, at, tokens);
     is_not_written(a, name, at, tree, &mut output, 62)
 }
@@ -62,8 +62,8 @@ pub fn signs_tree(tree: &mut [u64], times: u64) -> usize {
 
 // An operand is begun at each sign and at the name.
 fn operands(t: Tally) -> Tally {
-    let mut sheet = [0u64; 400];
-    let mut tree = [0u64; 600];
+    let mut sheet = [0u64; 228];
+    let mut tree = [0u64; 304];
     let name = b"depth by operands";
     let n = signs(&mut sheet, 36);
     let m = signs_tree(&mut tree, 36);
@@ -95,8 +95,8 @@ fn assignments_tree(tree: &mut [u64], times: u64) -> usize {
 
 // A right side is begun at each `=`, and an operand at the last name.
 fn right_sides(t: Tally) -> Tally {
-    let mut sheet = [0u64; 400];
-    let mut tree = [0u64; 600];
+    let mut sheet = [0u64; 228];
+    let mut tree = [0u64; 304];
     let name = b"depth by right sides";
     let n = assignments(&mut sheet, 36);
     let m = assignments_tree(&mut tree, 36);
@@ -142,8 +142,8 @@ fn loops_tree(tree: &mut [u64], times: u64) -> usize {
 
 // A statement list is begun in each loop.
 fn lists(t: Tally) -> Tally {
-    let mut sheet = [0u64; 400];
-    let mut tree = [0u64; 600];
+    let mut sheet = [0u64; 228];
+    let mut tree = [0u64; 304];
     let name = b"depth by statement lists";
     let n = loops(&mut sheet, 37);
     let m = loops_tree(&mut tree, 36);

@@ -1,4 +1,4 @@
-// The limits of 01, tried on sheets, readers and records that are made here: lengths, depth, waiting errors, readers, stores, hostile records.
+// The limits of documents 01 and 02, tried on sheets, readers and records that are made here: lengths, depth, waiting errors, readers, stores, hostile records.
 // Prints the counts of each group and of all.
 mod depth;
 mod hostile;
