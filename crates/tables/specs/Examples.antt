@@ -2,7 +2,7 @@
 use mathlib.Core.Path.{_≡_, refl}
 use mathlib.Core.Bool.{true, false}
 use mathlib.Core.List.{[]}
-use Prim.Native.Nat.{ℕ, zero, suc}
+use Prim.Native.Nat.{ℕ}
 use lib.Dec.{leb}
 use Rattle.tree.specs.Tree.{Tree, none, one, two, count}
 use Rattle.tree.specs.Node
@@ -10,6 +10,7 @@ use Rattle.grammar.specs.Canonical.Write.{own, write}
 use Rattle.grammar.specs.Canonical.Need.{need}
 use Rattle.grammar.specs.Reading.Limit.{too-deep, short-output}
 use Rattle.grammar.specs.Reading.Result.{ifb}
+use Rattle.grammar.specs.Sheets.{times}
 use Rattle.grammar.specs.declared.Written.the-variants.{Stopped, Refused}
 use Rattle.operator.specs.Operator.{op-token, unary-token, assign-token}
 use Rattle.tables.specs.Choice as Choice
@@ -61,8 +62,7 @@ packs = Node.expression (Node.assignment 0 0 (Node.pack (Node.pack (Node.identif
 
 -- `- - .. a`
 abbrev minus : ℕ → Tree
-minus zero = Node.identifier 7
-minus (suc n) = Node.unary-op 0 (minus n)
+minus n = times n (Node.unary-op 0) (Node.identifier 7)
 
 -- the words
 pub same-words : (Layout.text sum 0 [] ≡ write sum own []) × (Layout.text function 0 [] ≡ write function own []) × (Layout.text branches 0 [] ≡ write branches own []) × (Layout.text single 0 [] ≡ write single own []) × (Layout.text packs 0 [] ≡ write packs own [])
