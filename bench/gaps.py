@@ -1,15 +1,25 @@
-"""Statements in which the writer has forgotten what it asks for again. bench/passed counts what it passes over in them, bench/write times them.
+"""Statements for which the writer seeks in the records what it does not keep. bench/passed counts what it passes over in them, bench/write times them.
 
-They are nests: levels around a core. A level has a gap: records that stand behind what is nested in it, mostly so many that the writer's table does
-not have any more where the trees before them begin. The first three shapes are none, but statements such as readings give.
+Most are nests: levels around a core. A level has a gap: records that stand behind what is nested in it. A gap that is a sum has few trees that stand at a
+time; a wide one has so many that the decision for 65, with no words but its own, forgets what stands before it.
 """
-from shapes import (A, ADDED, ARGUMENTS, DEPTH, ENDED, NAMED_SIGNATURE, NO_RESULT, NO_STATEMENTS, PATTERN, SIGNATURE, STATED, big, call, chain, count,
-                    functions, integers, nest, rec, table)
+import os
+import re
+from shapes import (A, ADDED, DEPTH, ENDED, GROUPED, NAMED_SIGNATURE, NO_RESULT, NO_STATEMENTS, PATTERN, ROOT, SIGNATURE, STATED, assigned, big, call, chain,
+                    count, functions, integers, loop, nest, rec, right_nested, table, tupled)
 
-# The places of the table: for trees, and for assignments of functions.
-TREES, FORMS = 24576, 24424
-# Levels of members around functions in targets, the most that leave gaps of TREES records.
-MEMBERS = 10
+
+def own_words():
+    with open(os.path.join(ROOT, "crates", "writer", "src", "lib.rt"), encoding="utf-8") as source:
+        return int(re.search(r"^const ROOM: usize = (\d+);$", source.read(), re.MULTILINE).group(1))
+
+
+# How many words of its own the decision has: what stands before so many trees is forgotten.
+ROOM = own_words()
+# The gaps: a sum, of any length; a call and, with the fewest records, a tuple, as wide as the decision's own words.
+SUM, CALL, TUPLE = big(24576), call(integers(ROOM)), tupled(integers(ROOM))
+# How many times `a =` an argument of long_arguments has.
+TIMES = 1030
 # A target's last index and the function's signature: `].b()`.
 TARGET = rec("Index", 1) + rec("List", 1) + rec("Primary", 2) + rec("AttributePattern", 1, 1) + SIGNATURE
 CALLED = rec("List", 1) + rec("Invoke", 1) + rec("List", 1) + rec("Primary", 2)
@@ -41,67 +51,77 @@ def members(core, levels, gap):
                 rec("ExprBlock", 2) + rec("FunctionDef", 2) + gap + rec("List", 3) + rec("Tuple", 1))
 
 
+def indexes(core, levels, gap):
+    """a[..][gap] = a"""
+    return nest(core, levels, A, rec("Index", 1) + rec("List", 1) + rec("Primary", 2) + gap + rec("IndexPattern", 2) + A + rec("Assignment", 2))
+
+
 def plain(level, gap):
-    """levels with gaps of so many records, by the number of all records"""
-    return lambda n: level(A, round(n / count(level(b"", 1, big(gap)))), big(gap)) + STATED
+    """levels with gaps, by the number of all records"""
+    return lambda n: level(A, max(1, round(n / count(level(b"", 1, gap)))), gap) + STATED
 
 
-def assigning(least, deep):
-    """a gap with at least so many assignments of functions in few records: 11 for each, and one for so many that are nested"""
-    return call([functions(deep)] * -(-least // deep))
+def filled(around, n):
+    """what stands around a core, with a sum as its core, n records"""
+    return around(chain((n - count(around(b"")) + 1) // 2))
 
 
-def filled(around, n, core):
-    """what stands around a core, with a core that makes n records of it"""
-    return around(core(n - count(around(b"")))) + STATED
+def in_targets(core, deep=DEPTH):
+    """functions in targets around a core; a statement"""
+    return targets(core, deep) + STATED
 
 
-def one_sum(n):
-    return chain(n // 2)
+def deep_targets(n):
+    return in_targets(A, n // count(targets(b"", 1)))
 
 
-def nested_members(n):
-    levels = (n - 2) // count(members(b"", 1, big(TREES)))
-    return members(chain(max(1, (n - count(members(b"", levels, big(TREES)))) // 2)), levels, big(TREES))
+def long_arguments(n):
+    """arguments that are `(a = a = ..)`"""
+    argument = assigned(TIMES) + GROUPED
+    return call([argument] * (n // count(argument))) + STATED
 
 
-def remembered(core):
-    return sums(targets(core, DEPTH), 1, big(TREES))
+def empty_loops(n):
+    """the most lists of statements"""
+    inner = loop([])
+    return loop([inner] * (n // count(inner)))
 
 
-def argument(core):
-    return arguments(targets(core, DEPTH - 1), 1, big(TREES))
+worst = plain(sums, TUPLE)
 
 
-def forgotten(core, deep=DEPTH):
-    return sums(targets(core, deep), 1, assigning(FORMS, ARGUMENTS))
+def variadic(n):
+    """the worst shape, where a signature has its variadic parameter: no reading gives that"""
+    parameter = worst(n)[:-len(STATED)]
+    return rec("List") * 2 + parameter + rec("SignatureDef", 3) + NO_RESULT + rec("ExprBlock", 2) + rec("FunctionDef", 2) + STATED
 
 
-def forgotten_in_sums(core):
-    return sums(targets(core, DEPTH), 10, assigning(FORMS // 10 + 1, ARGUMENTS))
+def stated_functions(levels, statements):
+    """.. + fun() a a .. end"""
+    suite = (A + STATED) * statements + rec("List", statements) + rec("Absent") + rec("StmtList", 2)
+    return nest(A, levels, b"", SIGNATURE + suite + A + rec("ExprBlock", 2) + rec("FunctionDef", 2) + ADDED) + STATED
 
 
-def forgotten_in_members(core):
-    """levels of members, the innermost without its function; a function takes two of the depth, also of that for the gap inside"""
-    gap = assigning(FORMS // (MEMBERS + 1) + 1, ARGUMENTS - MEMBERS)
-    inner = rec("IntegerLiteral") + targets(core, DEPTH - 2 * MEMBERS) + gap + rec("List", 3) + rec("Tuple", 1)
-    return members(inner, MEMBERS, gap)
-
-
-LEVELS = (sums, bodies, targets, arguments, members)
-# Each shape's name, the statement by the number of its records, and from how many on there is one.
+# Trees that a reading within the limits gives, at most 65,536 tokens, and that make the decision forget most often.
+READ = (
+    ("`loop a a .. end`, 65,000 statements", loop([A + STATED] * 65000)),
+    ("`a + (0, 1, ..) + ..`, 5 tuples with {:,} members".format(ROOM), sums(A, 5, TUPLE) + STATED),
+    ("`a + fun() a a .. end + ..`, 10 functions with {:,} statements".format(ROOM - 1), stated_functions(10, ROOM - 1)),
+)
+LEVELS = (sums, bodies, targets, arguments, members, indexes)
+GAPS = (("a sum of {:,} records".format(count(SUM)), SUM), ("a call with {:,} arguments".format(ROOM), CALL))
+# Each shape's name, and the statement by the number of its records.
 SHAPES = (
-    ("a sum", lambda n: chain(n // 2) + STATED, 0),
-    ("a call", lambda n: call(integers(n)) + STATED, 0),
-    ("a table", lambda n: table(2 * n // 7) + STATED, 0),
-    *(("`%s`, gaps of %d" % (level.__doc__, gap), plain(level, gap), gap) for gap in (TREES, 8192) for level in LEVELS),
-    ("%d functions in targets, most records in the innermost; a gap behind" % DEPTH, lambda n: filled(remembered, n, one_sum), 50000),
-    ("the same, the gap in the body of one more that is an argument", lambda n: filled(argument, n, one_sum), 50000),
-    ("%d functions in targets, most records in the innermost; more than 24,424 assigned functions behind" % DEPTH,
-     lambda n: filled(forgotten, n, one_sum), 274000),
-    ("the same, those behind in ten sums, the records inside in levels of `1, fun() .. end, gap`",
-     lambda n: filled(forgotten_in_sums, n, nested_members), 274000),
-    ("%d functions in targets, the records inside in levels of `1, fun() .. end, gap`, those behind in %d more around all"
-     % (DEPTH - 2 * MEMBERS, MEMBERS + 1),
-     lambda n: filled(forgotten_in_members, n, nested_members), 274000),
+    ("a sum", lambda n: chain(n // 2) + STATED),
+    ("a call", lambda n: call(integers(n)) + STATED),
+    ("a table", lambda n: table(2 * n // 7) + STATED),
+    *(("`%s`, the gap %s" % (level.__doc__, name), plain(level, gap)) for name, gap in GAPS for level in LEVELS),
+    ("`.. + gap`, the gap a tuple with {:,} members".format(ROOM), worst),
+    ("the same as a variadic parameter", variadic),
+    ("%d functions in targets, most records in the innermost" % DEPTH, lambda n: filled(in_targets, n)),
+    ("functions in targets, as deep as the records allow", deep_targets),
+    ("a call with arguments that are {:,} times `a =`, in parentheses".format(TIMES), long_arguments),
+    ("`(a + (a + ..`", lambda n: right_nested(n // 3) + STATED),
+    ("nested `fun f() .. end`", lambda n: functions(n // 11) + STATED),
+    ("a loop over loops without statements", empty_loops),
 )

@@ -70,9 +70,8 @@ def assigned(times, value=A):
     return PATTERN * times + value + rec("Assignment", 2) * times
 
 
-# So many nested functions are written as a statement, and as an argument: each takes two of the depth, and what stands in the innermost one; an argument stands one
-# deeper than a statement.
-FUNCTIONS, ARGUMENTS = (DEPTH - 1) // 2, (DEPTH - 2) // 2
+# So many nested functions are written: each takes two of the depth, and what stands in the innermost one.
+FUNCTIONS = (DEPTH - 1) // 2
 
 
 def functions(deep):
@@ -82,6 +81,11 @@ def functions(deep):
 
 def call(arguments):
     return A + b"".join(arguments) + rec("List", len(arguments)) + rec("Invoke", 1) + rec("List", 1) + rec("Primary", 2)
+
+
+def tupled(members):
+    """`(.., ..)`"""
+    return b"".join(members) + rec("List", len(members)) + rec("Tuple", 1) + GROUPED
 
 
 def integers(n):

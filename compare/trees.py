@@ -1,15 +1,15 @@
-"""Trees for compare/writer: changed and altered ones, ones wrapped in more levels, functions with targets, and long trees.
+"""Trees for compare/writer: their records, changed and altered ones, the parts that others are made of, and ones wrapped in more levels.
 
-A tree is (kind, value, [trees]) as in tools/canonical.py; a record is (first word, value), and a tree's records are those of docs/TREE.md.
+functions.py, statements.py and standing.py make others. A tree is (kind, value, [trees]) as in tools/canonical.py; a record is (first word, value), and
+a tree's records are those of docs/TREE.md.
 """
 import functools
 from canonical import NODE, NODES
 from limit import DEPTH
 
-TREES_NOTED = 24576  # how many trees the writer's table has places for (crates/writer/src/records.rt)
-FORMS_NOTED = 24424  # and how many assignments of functions
 VALUES = [0, 1, 2, 3, 4, 5, 8, 14, 17, 18, 40, 43, 44, 2**32 - 1, 2**32, 2**32 + 1, 2**33 - 1, 2**33, 2**33 + 1, 2**63, 2**64 - 1]
 ACTIONS = 4
+ASSIGNMENTS = 44  # operators and actions of an assignment
 MOST_LEVELS = DEPTH + 6
 
 
@@ -189,7 +189,7 @@ LEVELS = [
     lambda e, n: node("Table", a_list(item(field(n), e), item(field(n + 1), a_name(n)))),
     lambda e, n: node("Table", a_list(item(node("FieldIndex", e), a_name(n)))),
     lambda e, n: group(assign(name_pattern(n), e)),
-    lambda e, n: group(assign(index_pattern(n, e), a_name(n), 4 * (n % 12))),
+    lambda e, n: group(assign(index_pattern(n, e), a_name(n), 4 * (n % 11))),
     lambda e, n: group(assign(name_pattern(n), e, n % ACTIONS), 1 + n % ACTIONS),
     lambda e, n: group(assign(node("TuplePattern", a_list(node("Pack", index_pattern(n, e)), name_pattern(n))), a_name(n))),
     lambda e, n: group(assign(node("Modifier", node("Pack", node("Pack", index_pattern(n, e))), value=n % ACTIONS), a_name(n))),
@@ -210,6 +210,31 @@ LEVELS = [
     lambda e, n: assign(name_pattern(n), function(1 + n, block([], e), variadic=node("ParamDef", value=n)), 2),
     lambda e, n: assign(index_pattern(n, e), function(0, block([])), 2),
     lambda e, n: assign(node("AttributePattern", primary(a_name(n), node("Index", e)), value=n), function(0, block([])), 2),
+]
+
+
+def stated(level):
+    return lambda e, n: node("Expression", level(e, n))
+
+
+# What gives a statement with e in some place, whether e may stand there or not.
+PLACES = [
+    lambda e, n: node("Expression", e),
+    lambda e, n: node("Assert", e),
+    lambda e, n: node("Loop", body([node("Expression", e)]), value=n),
+    lambda e, n: node("Loop", body([], node("Break", e, value=n % 3))),
+    lambda e, n: node("WhileLoop", e, body([]), value=n),
+    lambda e, n: node("ForLoop", name_pattern(n), e, body([]), value=n),
+    lambda e, n: node("Expression", node("BinaryOp", e, a_name(n), value=n % 18)),
+    lambda e, n: node("Expression", node("BinaryOp", a_name(n), e, value=n % 18)),
+    lambda e, n: node("Expression", node("Tuple", a_list(e))),
+    lambda e, n: node("Expression", node("Tuple", a_list(a_name(n), e))),
+    lambda e, n: node("Expression", node("Tuple", a_list(e, a_name(n)))),
+    lambda e, n: node("Expression", node("Unpack", e)),
+    lambda e, n: node("Expression", primary(e, node("Attribute", value=n))),
+    lambda e, n: node("Expression", assign(name_pattern(n), e, n % ASSIGNMENTS)),
+    lambda e, n: e,
+    *map(stated, LEVELS),
 ]
 
 
@@ -276,8 +301,8 @@ def tower(rng, statement):
     return wrapped
 
 
-class Functions:
-    """Functions with targets, nested in each other. The chance `odd` is that of a thing which `fun` with a target does not give."""
+class Drawn:
+    """What draws trees at random. The chance `odd` is that of a thing which does not stand where it is put."""
 
     def __init__(self, rng, odd):
         self.rng = rng
@@ -289,151 +314,6 @@ class Functions:
     def number(self):
         return self.rng.randrange(6)
 
-    def statement(self, depth):
-        made = self.operand(depth)
-        return node("Assert", made) if self.rng.random() < 0.1 else node("Expression", made)
-
-    def operand(self, depth):
-        r = self.rng.random()
-        if depth <= 0:
-            return a_name(self.number())
-        if r < 0.55:
-            return self.assignment(depth)
-        if r < 0.70:
-            action = self.rng.randrange(ACTIONS)
-            return group(self.assignment(depth, self.number() % ACTIONS if self.rarely() else action), 1 + action)
-        if r < 0.80:
-            return self.function(depth, self.number() if self.rarely() else 0)
-        return self.rng.choice(LEVELS)(self.operand(depth - 1), self.number())
-
-    def assignment(self, depth, action=2):
-        """the name in the signature is mostly the target's"""
-        target = self.target(depth - 1)
-        name = 1 + target[1] if target[0] == NODE["IdentifierPattern"] else 0
-        if self.rarely():
-            name = self.rng.choice((0, 1 + self.number()))
-        if self.rarely():
-            action = self.rng.choice((0, 1, 2, 3, 2 + 4 * self.rng.randrange(20)))
-        return assign(target, self.function(depth, name), action)
-
-    def target(self, depth):
-        r = self.rng.random()
-        if self.rarely():
-            return self.no_target(depth)
-        if r < 0.25:
-            return name_pattern(self.number())
-        if r < 0.6:
-            return node("AttributePattern", self.receiver(depth), value=self.number())
-        return node("IndexPattern", self.receiver(depth), self.operand(depth))
-
-    def no_target(self, depth):
-        """a pattern that `fun` does not take"""
-        wrap = self.rng.choice(("TuplePattern", "Pack", "Modifier"))
-        inner = self.target(depth - 1) if depth > 0 else name_pattern(self.number())
-        if wrap == "TuplePattern":
-            return node(wrap, a_list(inner, name_pattern(self.number())))
-        return node(wrap, inner, value=self.number() % ACTIONS if wrap == "Modifier" else 0)
-
-    def receiver(self, depth):
-        return primary(self.atom(depth), *[self.path_item(depth) for _ in range(self.rng.choice((0, 1, 1, 2, 3)))])
-
-    def atom(self, depth):
-        if self.rarely():
-            return self.rng.choice((node("EmptyTuple"), group(self.operand(depth))))
-        kind = self.rng.choice(("Identifier", "Identifier", "Identifier", "Nil", "BooleanLiteral", "IntegerLiteral", "FloatLiteral", "StringLiteral"))
-        return node(kind, value={"Nil": 0, "BooleanLiteral": self.rng.randrange(2)}.get(kind, self.number()))
-
-    def path_item(self, depth):
-        if self.rarely():
-            return node("Invoke", a_list(*[self.operand(depth - 1) for _ in range(self.rng.randrange(3))]))
-        if self.rng.random() < 0.4:
-            return node("Attribute", value=self.number())
-        return node("Index", self.operand(depth))
-
-    def function(self, depth, name):
-        required = [node("ParamDef", value=self.number()) for _ in range(self.rng.choice((0, 0, 1, 2)))]
-        r = self.rng.random()
-        default = [node("DefaultDef", self.operand(depth - 1), value=self.number())] if r < 0.2 else []
-        variadic = node("ParamDef", value=self.number()) if 0.2 < r < 0.3 or self.rarely() else None
-        return function(name, self.suite(depth - 1), required, default, variadic)
-
-    def suite(self, depth):
-        if depth <= 0 or self.rng.random() < 0.3:
-            return block([])
-        statements = [self.statement(depth) for _ in range(self.rng.choice((0, 1, 1, 2)))]
-        return block(statements, self.operand(depth))
-
-
-def forms(rows):
-    """how many assignments of functions are among the records"""
-    return sum(row[0] % 256 == NODE["Assignment"] and before[0] % 256 == NODE["FunctionDef"] for before, row in zip(rows, rows[1:]))
-
-
-def density(tree):
-    """how many of a tree's records are those of assignments of functions, as a share"""
-    rows = records(tree)
-    return forms(rows) / len(rows)
-
-
-def filling(rng, pool, trees_wanted, forms_wanted):
-    """statements of the pool until they have more than so many records and so many assignments of functions"""
-    sizes = [(len(rows), forms(rows)) for rows in map(records, pool)]
-    chosen = []
-    while trees_wanted >= 0 or forms_wanted >= 0:
-        at = rng.randrange(len(pool))
-        chosen.append(pool[at])
-        trees_wanted -= sizes[at][0]
-        forms_wanted -= sizes[at][1]
-    return chosen
-
-
-def holding(rng, e, suite):
-    """a function with e in its target; mostly without a group's modifier around it"""
-    target = rng.choice((node("AttributePattern", primary(a_name(0), node("Index", e)), value=1), index_pattern(2, e)))
-    if rng.random() < 0.3:
-        action = rng.randrange(ACTIONS)
-        return group(assign(target, function(0, suite), action), 1 + action)
-    return assign(target, function(0, suite), 2)
-
-
-# Where long trees have their parts: a statement, the many statements behind it, and one more.
-
-def in_loop(rng, front, behind, last):
-    return node("Loop", body([front, *behind, last]))
-
-
-def in_body(rng, front, behind, last):
-    """the first in a target, the others in the function's body"""
-    return node("Expression", holding(rng, as_operand(front), block([*behind, last], a_name(2))))
-
-
-def in_argument(rng, front, behind, last):
-    """the same as the only argument of a call"""
-    return node("Expression", primary(a_name(0), node("Invoke", a_list(in_body(rng, front, behind, last)[2][0]))))
-
-
-def in_targets(rng, front, behind, last):
-    """the first in a target, that function in the next one's, and so on; the others in the body of the outermost"""
-    e = as_operand(front)
-    for _ in range(rng.randrange(5, 2 * DEPTH // 3)):
-        e = holding(rng, e, block([]))
-    return in_body(rng, node("Expression", e), behind, last)
-
-
-def in_bodies(rng, front, behind, last):
-    """the same, with the others in the bodies of all"""
-    e, left = as_operand(front), list(behind)
-    step = len(left) // rng.randrange(2, DEPTH // 2) + 1
-    while left:
-        e = holding(rng, e, block(left[:step], a_name(2)))
-        del left[:step]
-    return node("Expression", holding(rng, e, block([last], a_name(2))))
-
-
-def in_default(rng, front, behind, last):
-    """the first in a parameter's default, the others in the body"""
-    default = [node("DefaultDef", as_operand(front), value=1)]
-    return node("Expression", assign(name_pattern(3), function(4, block([*behind, last], a_name(2)), default=default), 2))
-
-
-LONG = [in_loop, in_body, in_argument, in_targets, in_bodies, in_default]
+    def placed(self, e):
+        """a statement with e in some place"""
+        return self.rng.choice(PLACES)(e, self.rng.randrange(ASSIGNMENTS))

@@ -19,11 +19,11 @@ extern "C" {
 #endif
 
 /* The stack to give a call, in bytes below the frame that calls. It does not grow with a sheet or a tree: a reading is at most 37 deep and then stops with 62, and so
- * does the writing. The deepest that was found takes 178,960 bytes in the reader and 1,013,448 in the writer, of these libraries, for x86-64; it is measured, not
+ * does the writing. The deepest that was found takes 178,960 bytes in the reader and 244,040 in the writer, of these libraries, for x86-64; it is measured, not
  * proved (docs/BENCHMARK.md, docs/WRITER.md). Built for another machine they have other frames: measure them there. */
 enum leatherlava_stack {
     LEATHERLAVA_READER_STACK = 256 * 1024,
-    LEATHERLAVA_WRITER_STACK = 1280 * 1024
+    LEATHERLAVA_WRITER_STACK = 320 * 1024
 };
 
 /* A reader is fresh with every field 0. Each call takes it as the call before left it. */

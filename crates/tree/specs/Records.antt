@@ -103,6 +103,16 @@ nothing-just e =
 pub just-same : {A : Type 0} {a b : A} → just a ≡ just b → a ≡ b
 just-same e = cc
 
+-- the records of a stack are no other stack's
+stacked-stack : (s : List Tree) → Stack-small s → (r : List ℕ) → stacked (stack-records s ++ r) [] ≡ stacked r s
+unfolding stack-records Stack-small
+stacked-stack [] h r = refl
+stacked-stack (t ∷ s) h r = rw append-assoc (stacked-stack s (h .1) (records t ++ r) ∙ stacked-tree t (h .0) r s)
+
+pub stack-same : {s u : List Tree} → Stack-small s → Stack-small u → stack-records s ≡ stack-records u → s ≡ u
+unfolding stacked
+stack-same {s} {u} a b e = just-same (sym (stacked-stack s a []) ∙ rw e (stacked-stack u b []))
+
 -- of a chain that gave something, what its first part gave
 pub bound : {A B : Type 0} {k : A → Maybe B} {b : B} (m : Maybe A) → bindM m k ≡ just b → (a : A) × (m ≡ just a) × (k a ≡ just b)
 bound nothing e = nothing-just e

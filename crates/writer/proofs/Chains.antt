@@ -12,7 +12,7 @@ use Rattle.tree.specs.Maybe.{Maybe, nothing, just}
 use Rattle.tables.specs.Kinds.{passes}
 use Rattle.writer.specs.Stack.{SpotAs, Spot, Somewhere, Says, Last-of, Kid-of, kid-in, maybe}
 use Rattle.tables.specs.Children.{kind-in, count-in, value-in, last-tree, last-in}
-use Rattle.tables.specs.Check.{begins-labelled, ends-single, last-single}
+use Rattle.tables.specs.Check.{begins-labelled, first-labelled, ends-single, last-single}
 use Rattle.writer.proofs.Laws.{at-many}
 
 -- what is to be said at p is what is to be said at q
@@ -52,6 +52,10 @@ passes-some p e =
     let f : false ≡ true = rw e at p in
     let z : _≡_ {A = ℕ} 0 1 = cc in
     omega arith
+
+pub labelled-first : (k v : ℕ) (f : Forest) → passes k ≡ true → begins-labelled (node k v f) ≡ first-labelled f
+unfolding begins-labelled
+labelled-first k v f p = rw p
 
 pub labelled-down : (m : Maybe Tree) → passes (kind-in m) ≡ true → maybe false begins-labelled m ≡ maybe false begins-labelled (kid-in 1 m)
 unfolding begins-labelled

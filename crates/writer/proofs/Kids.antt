@@ -8,9 +8,8 @@ use lib.ListN.{length, length-append}
 use Rattle.tree.specs.Tree.{Tree, Forest, node, none, more, count, records}
 use Rattle.tree.specs.Maybe.{Maybe, nothing, just}
 use Rattle.tree.specs.Records.{stack-records, back}
-use Rattle.writer.specs.Stack.{At, Skipped, SpotAs, Spot, Somewhere, Says, Kid-of, nth-tree, kid-in, push}
+use Rattle.writer.specs.Stack.{At, Here, Skipped, SpotAs, Spot, Somewhere, Says, Kid-of, nth-tree, kid-in, push}
 use Rattle.tables.specs.Children.{count-in, children-in}
-use Rattle.writer.specs.Memory.{Memo, Known, Reach}
 use Rattle.writer.proofs.Laws.{pop, at-length, back-append, length-back}
 
 -- ---------------------------------------------------------------- the child number j
@@ -75,10 +74,10 @@ module _ {L : List ℕ} {p q i : ℕ} (w : Kids L p q i) (i-some : 0 < i) where
       let y = a-top (i - 1) (children-in m) s (omega (arith, x .0)) in
       (y .top, y .is, rw (← y .on, n) (x .1))
 
-  pub kids-known : {K S : List ℕ} → Reach L K S p → Known L K S q
+  pub kids-known : Somewhere L p → Here L q
   kids-known y =
-      let x = child (y .place .tree) (y .place .rest) (y .place .spot) in
-      record { top = x .0; rest = _; here = x .2; memo = y .memo }
+      let x = child (y .tree) (y .rest) (y .spot) in
+      record { top = x .0; rest = _; here = x .2 }
 
   pub kids-next : {r : ℕ} → Somewhere L p → Skipped L q r → Kids L p r (i - 1)
   kids-next {r} y k =
@@ -140,8 +139,8 @@ module _ {L : List ℕ} {q j : ℕ} {s : List Tree} {g : ℕ → Tree → Bool} 
       go (t ∷ u) a m e = record { top = t; more = u; at = a; many = omega arith; same = e ∙ ap (λ (i : ℕ). g i t && from-last g u) m }
 
   -- a tree ends there
-  pub part-known : {K S : List ℕ} → Memo L K S → 0 < j → Known L K S q
-  part-known memo h = let o = part-look h in record { top = o .top; rest = _; here = o .at; memo = memo }
+  pub part-known : 0 < j → Here L q
+  part-known h = let o = part-look h in record { top = o .top; rest = _; here = o .at }
 
   pub part-end : j ≡ 0 → (b ≡ true) × At L q s
   unfolding from-last

@@ -13,14 +13,13 @@ use Rattle.tree.specs.Maybe.{Maybe, nothing, just}
 use Rattle.grammar.specs.Canonical.Write.{tail-of, target-atom, target-items, target-path, target-receiver, is-target, has-function}
 use Rattle.grammar.specs.Reading.Function.{target-name}
 use Rattle.tables.specs.Kinds.{target-item, name-is, gives-name}
-use Rattle.writer.specs.declared.records.Fitting.{Fitting}
-use Rattle.writer.specs.declared.records.Fitting.the-variants.{From, Not}
-use Rattle.writer.specs.Stack.{Skipped, SpotAs, Spot, Says, Kid-of, nth-tree, kid-in, push, maybe}
+use Rattle.writer.specs.declared.target.Fitting.{Fitting}
+use Rattle.writer.specs.declared.target.Fitting.the-variants.{From, Not}
+use Rattle.writer.specs.Stack.{Skipped, SpotAs, Spot, Somewhere, Says, Kid-of, nth-tree, kid-in, push, maybe}
 use Rattle.tables.specs.Children.{kind-in, value-in, children-in, first-tree}
-use Rattle.writer.specs.Memory.{Reach}
 use Rattle.tables.specs.Check.{name-given, function-form}
 use Rattle.writer.specs.Verdict.{Fit}
-use Rattle.writer.proofs.Memory.{spot-zero}
+use Rattle.writer.proofs.Spots.{spot-zero}
 use Rattle.writer.proofs.Places.{of-kid}
 use Rattle.writer.proofs.Kids.{from-first}
 use Rattle.writer.proofs.Fitted.{fit-at}
@@ -110,7 +109,7 @@ name-same k v n = go (eqb k NodeKind.IdentifierPattern)
     go true = named (ℕ-discrete n 0) (ℕ-discrete (n - 1) v)
     go false = refl
 
-has-is : (f : Forest) → kind-in (first-tree (tail-of f)) ≡ NodeKind.FunctionDef → (first-tree (children-in (first-tree (tail-of f))) ≡ nothing → ⊥)
+pub has-is : (f : Forest) → kind-in (first-tree (tail-of f)) ≡ NodeKind.FunctionDef → (first-tree (children-in (first-tree (tail-of f))) ≡ nothing → ⊥)
     → has-function f ≡ gives-name (kind-in (first-tree f)) (value-in (first-tree f)) (name-given f) && maybe false is-target (first-tree f)
 has-is none e n = absurd (n refl)
 has-is (more p none) e n = absurd (n refl)
@@ -145,19 +144,19 @@ behind {L} {p} {q} {z} {b} {k} {n} function signature ke function-kind some skip
     go s (just (node k v (more t (more (node j w (more y g)) f)))) a = record { how = skipped .how y (t ∷ s) a }
 
 module _ {L : List ℕ} {p b n : ℕ} (w : Behind L p b n) where
-  pub target-place : {K S : List ℕ} → Reach L K S p → Reach L K S b
-  target-place y = record { place = record { tree = kid-in 1 (y .place .tree); rest = _; spot = w .target (y .place .tree) (y .place .rest) (y .place .spot) }; memo = y .memo }
+  pub target-place : Somewhere L p → Somewhere L b
+  target-place y = record { tree = kid-in 1 (y .tree); rest = _; spot = w .target (y .tree) (y .rest) (y .spot) }
 
-  module _ {k v : ℕ} (ke : Says L b kind-in k) (ve : Says L b value-in v) where
+  module _ {g : Bool} (ge : Says L b (λ m. gives-name (kind-in m) (value-in m) n) g) where
     -- the name is not that of the target
-    pub unnamed : gives-name k v n ≡ false → Says L p (λ m. function-form (children-in m)) 0
+    pub unnamed : g ≡ false → Says L p (λ m. function-form (children-in m)) 0
     unfolding function-form
-    unnamed e = record { how = λ m s h. let x = w .target m s h in rw (w .form m s h, ← ke .how _ _ x, ← ve .how _ _ x, e) }
+    unnamed e = record { how = λ m s h. rw (w .form m s h, ← ge .how _ _ (w .target m s h), e) }
 
     -- it is: then by whether the target can be one, and by whether there is a name
-    pub named : {r a z : Bool} → gives-name k v n ≡ true → Says L b (maybe false is-target) r → a ≡ r → z ≡ eqb n 0 → Says L p (λ m. function-form (children-in m)) (cond a (cond z 1 2) 0)
+    pub named : {r a z : Bool} → g ≡ true → Says L b (maybe false is-target) r → a ≡ r → z ≡ eqb n 0 → Says L p (λ m. function-form (children-in m)) (cond a (cond z 1 2) 0)
     unfolding function-form
     named e t ae ze =
         record {
-          how = λ m s h. let x = w .target m s h in rw (w .form m s h, ← ke .how _ _ x, ← ve .how _ _ x, e, ← t .how _ _ x, ae, ze, ← w .name .how m s h);
+          how = λ m s h. let x = w .target m s h in rw (w .form m s h, ← ge .how _ _ x, e, ← t .how _ _ x, ae, ze, ← w .name .how m s h);
         }

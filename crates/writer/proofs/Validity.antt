@@ -15,24 +15,21 @@ use Rattle.tables.specs.Sound.{sound}
 use Rattle.tables.specs.Class as Class
 use Rattle.writer.specs.Stack.{At, maybe}
 use Rattle.tables.specs.Children.{kind-in, count-in, value-in, children-in}
-use Rattle.tables.specs.Check.{class-of, class-in, mode-of, begins-labelled, ends-single, banned, kids-fit, node-fits, all-fit, all-fits, legal-tree}
+use Rattle.tables.specs.Check.{class-of, mode-of, begins-labelled, ends-single, banned, kids-fit, node-fits, all-fit, all-fits, legal-tree}
 use Rattle.writer.proofs.Laws.{pop, at-many, at-length}
 use Rattle.writer.proofs.Kids.{from-first}
 
 -- ---------------------------------------------------------------- one child
-class-same : (t : Tree) → class-in (just t) ≡ class-of t
-class-same (node k v f) = refl
-
 -- by what was asked in turn: the class, how it begins, how it ends
-pub kid-is : (t : Tree) (asked k v : ℕ) {c : ℕ} {g a b : Bool} → c ≡ class-in (just t) → g ≡ fits asked c → a ≡ unlabelled k v && maybe false begins-labelled (just t)
+pub kid-is : (t : Tree) (asked k v : ℕ) {c : ℕ} {g a b : Bool} → c ≡ class-of t → g ≡ fits asked c → a ≡ unlabelled k v && begins-labelled t
     → b ≡ not (closed k) && maybe false ends-single (just t) → g && not (a || b) ≡ fits asked (class-of t) && not (banned k v t)
-kid-is t asked k v ce ge ae be = rw (ge, ae, be, ce, class-same t)
+kid-is t asked k v ce ge ae be = rw (ge, ae, be, ce)
 
 -- ---------------------------------------------------------------- one node
 abbrev pub kid-test : ℕ → ℕ → ℕ → ℕ → Tree → Bool
 kid-test k v m j t = fits (demand k v m j) (class-of t) && not (banned k v t)
 
-kids-all : (k v m : ℕ) (f : Forest) (j : ℕ) → kids-fit k v m j f ≡ from-first (kid-test k v m) j f
+pub kids-all : (k v m : ℕ) (f : Forest) (j : ℕ) → kids-fit k v m j f ≡ from-first (kid-test k v m) j f
 unfolding kids-fit from-first
 kids-all k v m none j = refl
 kids-all k v m (more t f) j = ap (λ b. kid-test k v m j t && b) (kids-all k v m f (suc j))
@@ -44,11 +41,11 @@ module _ (t : Tree) {k v n : ℕ} (ke : k ≡ kind-in (just t)) (ve : v ≡ valu
       go : (t : Tree) → k ≡ kind-in (just t) → v ≡ value-in (just t) → n ≡ count-in (just t) → node-fits t ≡ false
       go (node k′ v′ f) ke ve ne = rw (← ke, ← ve, ← ne, e)
 
-  pub node-sound : {m : ℕ} → sound k v n ≡ true → m ≡ mode-of (kind-in (just t)) (children-in (just t)) → node-fits t ≡ from-first (kid-test k v m) 1 (children-in (just t))
+  pub node-sound : {m : ℕ} → sound k v n ≡ true → m ≡ mode-of (kind-in (just t)) (children-in (just t)) → node-fits t ≡ kids-fit (kind-in (just t)) (value-in (just t)) m 1 (children-in (just t))
   node-sound {m} e = go t ke ve ne
     where
-      go : (t : Tree) → k ≡ kind-in (just t) → v ≡ value-in (just t) → n ≡ count-in (just t) → m ≡ mode-of (kind-in (just t)) (children-in (just t)) → node-fits t ≡ from-first (kid-test k v m) 1 (children-in (just t))
-      go (node k′ v′ f) ke ve ne me = rw (← me, ← ke, ← ve, ← ne, e) (kids-all k v m f 1)
+      go : (t : Tree) → k ≡ kind-in (just t) → v ≡ value-in (just t) → n ≡ count-in (just t) → m ≡ mode-of (kind-in (just t)) (children-in (just t)) → node-fits t ≡ kids-fit (kind-in (just t)) (value-in (just t)) m 1 (children-in (just t))
+      go (node k′ v′ f) ke ve ne me = rw (← me, ← ke, ← ve, ← ne, e)
 
 -- ---------------------------------------------------------------- all nodes, from the first: the stacks on the way to the root
 unfoldable pub stack-fits : List Tree → Bool
@@ -67,6 +64,10 @@ stack-node k v f s = and-assoc (node-fits (node k v f)) (all-fits f) (stack-fits
 pub data Way (L : List ℕ) (T : Tree) : ℕ → List Tree → Type 0 where
   there : At L (length L) (T ∷ []) → Way L T (length L) (T ∷ [])
   on : {p k v : ℕ} {f : Forest} {s : List Tree} → At L (p + 2) (node k v f ∷ s) → At L p (back f s) → Way L T (p + 2) (node k v f ∷ s) → Way L T p (back f s)
+
+pub way-at : {L : List ℕ} {T : Tree} {p : ℕ} {s : List Tree} → Way L T p s → At L p s
+way-at (there a) = a
+way-at (on a b w) = b
 
 -- from the root back to where there is no tree
 way-back : {L : List ℕ} {T : Tree} (n p : ℕ) (s : List Tree) → p ≤ n → At L p s → Way L T p s → (u : List Tree) × Way L T 0 u × At L 0 u
@@ -92,12 +93,16 @@ pub record Passed (L : List ℕ) (T : Tree) (p : ℕ) : Type 0 where
   pub way : Way L T p stack
   pub good : stack-fits stack ≡ true
 
-pub record Next (L : List ℕ) (T : Tree) (p : ℕ) : Type 0 where
-  pub top : Tree
+-- the node behind the trees that stand
+pub record Next (L : List ℕ) (T : Tree) (p : ℕ) (stack : List Tree) : Type 0 where
+  pub kind : ℕ
+  pub value : ℕ
+  pub kids : Forest
   pub rest : List Tree
-  pub at : At L (p + 2) (top ∷ rest)
-  pub bad : node-fits top ≡ false → stack-fits (T ∷ []) ≡ false
-  pub fits : node-fits top ≡ true → Passed L T (p + 2)
+  pub is : stack ≡ back kids rest
+  pub at : At L (p + 2) (node kind value kids ∷ rest)
+  pub bad : node-fits (node kind value kids) ≡ false → stack-fits (T ∷ []) ≡ false
+  pub fits : node-fits (node kind value kids) ≡ true → (x : Passed L T (p + 2)) × (x .stack ≡ node kind value kids ∷ rest)
 
 pub passed-start : {L : List ℕ} {T : Tree} → At L (length L) (T ∷ []) → Passed L T 0
 unfolding stack-fits
@@ -109,18 +114,21 @@ passed-start {L} {T} a =
     empty [] b = refl
     empty (t ∷ u) b = absurd (omega (arith, at-many b))
 
-pub passed-next : {L : List ℕ} {T : Tree} {p : ℕ} → Passed L T p → p < length L → Next L T p
+pub passed-next : {L : List ℕ} {T : Tree} {p : ℕ} (w : Passed L T p) → p < length L → Next L T p (w .stack)
 passed-next {L} {T} {p} w h = go (w .way) (w .good) h
   where
-    go : {p : ℕ} {s : List Tree} → Way L T p s → stack-fits s ≡ true → p < length L → Next L T p
+    go : {p : ℕ} {s : List Tree} → Way L T p s → stack-fits s ≡ true → p < length L → Next L T p s
     go (there a) e h = absurd (omega arith)
     go (on {p = q} {k = k} {v = v} {f = f} {s = s} a b x) e h =
         record {
-          top = node k v f;
+          kind = k;
+          value = v;
+          kids = f;
           rest = s;
+          is = refl;
           at = a;
           bad = λ g. way-false x (stack-node k v f s ∙ rw g);
-          fits = λ g. record { stack = node k v f ∷ s; way = x; good = stack-node k v f s ∙ rw (g, e) };
+          fits = λ g. (record { stack = node k v f ∷ s; way = x; good = stack-node k v f s ∙ rw (g, e) }, refl);
         }
 
 pub passed-end : {L : List ℕ} {T : Tree} {p : ℕ} → Passed L T p → length L ≤ p → stack-fits (T ∷ []) ≡ true
@@ -137,8 +145,8 @@ whole-bad t e =
     let a : all-fit t ≡ false = sym (and-true (all-fit t)) ∙ e in
     rw a
 
-pub whole-good : (t : Tree) {c : ℕ} → stack-fits (t ∷ []) ≡ true → c ≡ class-in (just t) → legal-tree t ≡ eqb c Class.Statement
+pub whole-good : (t : Tree) {c : ℕ} → stack-fits (t ∷ []) ≡ true → c ≡ class-of t → legal-tree t ≡ eqb c Class.Statement
 unfolding legal-tree stack-fits
 whole-good t e ce =
     let a : all-fit t ≡ true = sym (and-true (all-fit t)) ∙ e in
-    rw (a, ce, class-same t)
+    rw (a, ce)

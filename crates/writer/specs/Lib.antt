@@ -1,6 +1,6 @@
 pub mod Stack
 pub mod Text
-pub mod Memory
+pub mod Standing
 pub mod Verdict
 pub mod Post
 pub mod Promise

@@ -9,7 +9,7 @@
 // (demand.rt).
 //
 // The rest is tested apart: a record's own numbers (sound.rt), and what no class says: the token that a tree begins with, and whether it ends
-// in a tuple of one member (legal.rt).
+// in a tuple of one member (edges.rt).
 ghost use mathlib.Core.Path.{_≡_};
 ghost use Rattle.tables.specs.Class.{binary-class as binary-class-def, keyword-class as keyword-class-def, named-class as named-class-def, assignment-class as assignment-class-def, body-class as body-class-def, later-class as later-class-def, class as class-def, default-list as default-list-def, plain-list as plain-list-def, argument-list as argument-list-def, list-class as list-class-def};
 use crate::choice::where_is;

@@ -1,157 +1,164 @@
 // Whether words are the records of a tree that a clean reading, limits aside, can give. No recursion: the nodes are visited from the
 // first record to the last, and each is held against its children's classes.
-ghost use mathlib.Core.Bool.{false, not, _&&_};
-ghost use Rattle.writer.specs.Stack.{Somewhere, Says, maybe};
-ghost use Rattle.writer.specs.Memory.{Known, Reach};
-ghost use Rattle.tables.specs.Kinds.{unlabelled as unlabelled-def, closed as closed-def};
-ghost use Rattle.tables.specs.Check.{begins-labelled as begins-labelled-def, ends-single as ends-single-def, node-fits};
-ghost use Rattle.writer.specs.Verdict.{Kid-fits, Fit, Whole, Legal};
+ghost use mathlib.Core.Bool.{_&&_};
+ghost use Rattle.tree.specs.Maybe.{just};
+ghost use Rattle.tables.specs.Children.{kind-in};
+ghost use Rattle.tables.specs.Kinds.{target-item as target-item-def, unlabelled as unlabelled-def};
+ghost use Rattle.tables.specs.Check.{begins-labelled};
+ghost use Rattle.writer.specs.Stack.{Here};
+ghost use Rattle.writer.specs.Standing.{On, At-node, Tells};
+ghost use Rattle.writer.specs.Verdict.{Kid-fits, Kids-fit, Visited, Whole, Legal};
+use crate::children::labelled_by;
+use crate::children::mode_by;
+use crate::children::serves_by;
 use crate::class::STATEMENT;
+use crate::class::class;
 use crate::demand::demand;
 use crate::demand::fits;
-use crate::kinds::closed;
-use crate::kinds::passes;
+use crate::edges::ends_wrong;
+use crate::kinds::target_item;
 use crate::kinds::unlabelled;
-use crate::mode::class_at;
-use crate::mode::mode;
-use crate::noted::note_form;
-use crate::records::Fitting;
-use crate::records::Places;
-use crate::records::TREES;
-use crate::records::begin;
 use crate::records::count_at;
-use crate::records::kid_of;
 use crate::records::kind_at;
-use crate::records::last_of;
 use crate::records::value_at;
 use crate::sound::sound;
-use tree::node;
+use crate::standing::begin_of;
+use crate::standing::class_of;
+use crate::standing::keep;
+use crate::standing::labelled_of;
+use crate::standing::word_of;
 
-// Whether the tree that ends at p begins with a label: down the first children to a labelled block.
-fn begins_labelled(records: &[u64], keys: &Places, facts: &Places, p: usize) -> bool
-    requires { ⌜ Reach (now records) (now keys) (now facts) p ⌝ }
-    ensures { λ r. ⌜ Says (now (records .entry)) p (maybe false begins-labelled-def) r ⌝ }
-{
-    let mut q = p;
-    while passes(kind_at(records, q)) {
-        q = kid_of(records, keys, facts, q, 1);
-    }
-    if kind_at(records, q) == node::BLOCK {
-        return 0 < value_at(records, q);
-    }
-    false
+// Whether a node's children may stand where they stand; if so, where the node's tree begins, where its first child ends, and whether all are
+// members and indexes of a path.
+pub enum Children {
+    Stand(usize, usize, bool),
+    Not,
 }
 
-// Whether the tree that ends at p ends in a tuple of one member: down the right sides of assignments.
-fn ends_single(records: &[u64], p: usize) -> bool
-    requires { ⌜ Somewhere (now records) p ⌝ }
-    ensures { λ r. ⌜ Says (now (records .entry)) p (maybe false ends-single-def) r ⌝ }
-{
-    let mut q = p;
-    while kind_at(records, q) == node::ASSIGNMENT {
-        q = last_of(records, q);
-    }
-    if kind_at(records, q) == node::TUPLE {
-        return count_at(records, last_of(records, q)) == 1;
-    }
-    false
+// Whether a node may stand, its own place aside; if so, what is to be kept of it.
+pub enum Judged {
+    Fits(u64),
+    Not,
 }
 
-// Whether the tree that ends at q may not stand as a child of a node: by how it begins.
+// Whether the tree number i, which ends at q, may not stand as a child of a node by how it begins.
 fn starts_wrong(
     records: &[u64],
-    keys: &Places,
-    facts: &Places,
+    kept: &[u64],
+    base: usize,
+    i: usize,
+    q: usize,
     kind: u64,
     value: u64,
-    q: usize,
 ) -> bool
-    requires { ⌜ Reach (now records) (now keys) (now facts) q ⌝ }
-    ensures { λ r. ⌜ Says (now (records .entry)) q (λ m. unlabelled-def kind value && maybe false begins-labelled-def m) r ⌝ }
+    requires { ⌜ On (now records) (now kept) base i q ⌝ }
+    ensures { λ r. ⌜ Tells (now (records .entry)) q (λ t s. unlabelled-def kind value && begins-labelled t) r ⌝ }
 {
     if !unlabelled(kind, value) {
         return false;
     }
-    begins_labelled(records, keys, facts, q)
+    labelled_of(records, kept, base, i, q)
 }
 
-// The same, by how it ends.
-fn ends_wrong(records: &[u64], kind: u64, q: usize) -> bool
-    requires { ⌜ Somewhere (now records) q ⌝ }
-    ensures { λ r. ⌜ Says (now (records .entry)) q (λ m. not (closed-def kind) && maybe false ends-single-def m) r ⌝ }
-{
-    if closed(kind) {
-        return false;
-    }
-    ends_single(records, q)
-}
-
-// Whether the tree that ends at q can be a child that a class is demanded of.
+// Whether the tree number i, which ends at q, may stand as a child of a node that a class is demanded of.
 fn kid_fits(
     records: &[u64],
-    keys: &Places,
-    facts: &Places,
+    kept: &[u64],
+    base: usize,
+    i: usize,
+    q: usize,
     kind: u64,
     value: u64,
     asked: u64,
-    q: usize,
 ) -> bool
-    requires { ⌜ Known (now records) (now keys) (now facts) q ⌝ }
+    requires { ⌜ On (now records) (now kept) base i q ⌝ }
     ensures { λ r. ⌜ Kid-fits (now (records .entry)) kind value asked q r ⌝ }
 {
-    if !fits(asked, class_at(records, keys, facts, q)) {
+    if !fits(asked, class_of(records, kept, base, i, q)) {
         return false;
     }
-    if starts_wrong(records, keys, facts, kind, value, q) {
+    if starts_wrong(records, kept, base, i, q, kind, value) {
         return false;
     }
     !ends_wrong(records, kind, q)
 }
 
-// Whether the record of the node that ends at p is sound and its children may stand where they stand; and where its tree begins.
-fn kids_fit(records: &[u64], keys: &Places, facts: &Places, p: usize) -> Fitting
-    requires { ⌜ Known (now records) (now keys) (now facts) p ⌝ }
-    ensures { λ r. ⌜ Fit (now (records .entry)) p node-fits r ⌝ }
+// Whether the tree that ends at q is a member or an index of a path, and those behind it are.
+fn item_too(records: &[u64], q: usize, items: bool) -> bool
+    requires { ⌜ Here (now records) q ⌝ }
+    ensures { λ r. ⌜ Tells (now (records .entry)) q (λ t s. items && target-item-def (kind-in (just t))) r ⌝ }
+{
+    if !items {
+        return false;
+    }
+    target_item(kind_at(records, q))
+}
+
+// Whether the children of the node that ends at p and has the mode m may stand where they stand, from the last of the h trees to the first child.
+fn kids_fit(records: &[u64], kept: &[u64], base: usize, h: usize, p: usize, m: u64) -> Children
+    requires { ⌜ At-node (now records) (now kept) base h p ⌝ }
+    ensures { λ r. ⌜ Kids-fit (now (records .entry)) p m r ⌝ }
 {
     let kind = kind_at(records, p);
     let value = value_at(records, p);
-    let n = count_at(records, p);
-    if !sound(kind, value, n) {
-        return Fitting::Not;
-    }
-    let m = mode(records, keys, facts, p);
+    let mut j = count_at(records, p);
+    let mut i = h;
     let mut q = p - 2;
-    let mut j = n;
+    let mut first = q;
+    let mut items = true;
     while 0 < j {
+        i -= 1;
         let asked = demand(kind, value, m, j);
-        if !kid_fits(records, keys, facts, kind, value, asked, q) {
-            return Fitting::Not;
+        if !kid_fits(records, kept, base, i, q, kind, value, asked) {
+            return Children::Not;
         }
-        q = begin(records, keys, facts, q);
+        items = item_too(records, q, items);
+        first = q;
+        q = begin_of(records, kept, base, i, q);
         j -= 1;
     }
-    Fitting::From(q)
+    Children::Stand(q, first, items)
 }
 
-// Whether the tree whose records these are is one that a clean reading can give as a statement. What is found out about the trees is left in
-// keys and facts: about those that end last, since each place is used again.
-pub fn legal(records: &[u64], keys: &mut Places, facts: &mut Places) -> bool
-    requires { ⌜ Whole (now records) (now keys) (now facts) ⌝ }
-    ensures { λ r. ⌜ Legal (now (records .entry)) (now (keys .exit)) (now (facts .exit)) r ⌝ }
+// Whether the node that ends at p, with h trees before it, may stand, its own place aside; if so, what is to be kept of it.
+fn visit(records: &[u64], kept: &[u64], base: usize, h: usize, p: usize) -> Judged
+    requires { ⌜ At-node (now records) (now kept) base h p ⌝ }
+    ensures { λ r. ⌜ Visited (now (records .entry)) p r ⌝ }
+{
+    let kind = kind_at(records, p);
+    let value = value_at(records, p);
+    if !sound(kind, value, count_at(records, p)) {
+        return Judged::Not;
+    }
+    let m = mode_by(records, kept, base, h, p);
+    let r = kids_fit(records, kept, base, h, p, m);
+    let Children::Stand(b, first, items) = r else {
+        return Judged::Not;
+    };
+    let labelled = labelled_by(records, kept, base, h, p, first);
+    let serves = serves_by(records, kept, base, h, p, m, b, items);
+    Judged::Fits(word_of(class(kind, value, m), labelled, serves, b))
+}
+
+// Whether the tree whose records these are is one that a clean reading can give as a statement. The words of `kept` are any; the more there are, the
+// less is sought again.
+pub fn legal(records: &[u64], kept: &mut [u64]) -> bool
+    requires { ⌜ Whole (now records) ⌝ }
+    ensures { λ r. ⌜ Legal (now (records .entry)) r ⌝ }
 {
     let n = records.len();
     let mut p = 0;
-    let mut slot = TREES;
+    let mut h: usize = 0;
+    let mut base: usize = 0;
     while p < n {
         p += 2;
-        slot = note_form(records, keys, facts, p, slot);
-        let r = kids_fit(records, keys, facts, p);
-        let Fitting::From(b) = r else {
+        let r = visit(records, kept, base, h, p);
+        let Judged::Fits(word) = r else {
             return false;
         };
-        let i = p / 2 % TREES;
-        keys[i] = p;
-        facts[i] = b;
+        let i = h - count_at(records, p) as usize;
+        h = i + 1;
+        base = keep(kept, base, i, word);
     }
-    class_at(records, keys, facts, n) == STATEMENT
+    class_of(records, kept, base, 0, n) == STATEMENT
 }

@@ -3,20 +3,23 @@ ghost use lib.ListN.{length};
 ghost use Rattle.grammar.specs.Contract.{Writes};
 ghost use Rattle.output.specs.Text.{Held};
 ghost use Rattle.writer.specs.Post.{Wrote-tree, Ran-out};
-ghost use Rattle.writer.specs.Memory.{Known};
+ghost use Rattle.writer.specs.Stack.{Here};
+ghost use Rattle.writer.specs.Verdict.{Whole, Legal};
 
+mod children;
 mod choice;
 mod class;
 mod demand;
+mod edges;
 mod form;
 pub mod host;
 mod kinds;
 mod legal;
 mod mode;
-mod noted;
 mod operators;
 mod records;
 mod sound;
+mod standing;
 mod target;
 mod text;
 mod tokens;
@@ -28,8 +31,6 @@ use crate::form::place_of;
 use crate::legal::legal;
 use crate::mode::form_at;
 use crate::operators::op_token;
-use crate::records::ALL;
-use crate::records::Places;
 use crate::records::shape;
 use crate::text::closing;
 use crate::text::opening;
@@ -45,6 +46,10 @@ use tree::word::CHILD;
 
 const DEPTH: u64 = limit::DEPTH as u64;
 
+// How many words of its own the decision has: so many that a call's stack stays below 64 KiB where it is refused with 65, and below 256 KiB where it
+// writes (docs/DECISIONS.md).
+const ROOM: usize = 6144;
+
 // A tree was written: where its records begin, and 2 more than where its words begin (below 2: no room). Or it is too deep.
 pub enum Step {
     Done(usize, usize),
@@ -55,15 +60,13 @@ pub enum Step {
 // side, the operator, and on with the left side.
 fn write_tree(
     records: &[u64],
-    keys: &Places,
-    facts: &Places,
     output: &mut [u64],
     depth: u64,
     place: u64,
     from: usize,
     end: usize,
 ) -> Step
-    requires { ⌜ Known (now records) (now keys) (now facts) from × Held end (now output) ⌝ }
+    requires { ⌜ Here (now records) from × Held end (now output) ⌝ }
     ensures { λ r. ⌜ Wrote-tree (now (records .entry)) depth place from end (now (output .entry)) (now (output .exit)) r ⌝ }
 {
     let mut at = place;
@@ -71,7 +74,7 @@ fn write_tree(
     let mut a = end;
     while records[p - 2] == BINARY_OP {
         let number = records[p - 1];
-        let r = write_tree(records, keys, facts, output, depth, OWN, p - 2, a);
+        let r = write_tree(records, output, depth, OWN, p - 2, a);
         let Step::Done(q, e) = r else {
             return r;
         };
@@ -79,22 +82,20 @@ fn write_tree(
         p = q;
         at = OWN;
     }
-    write_node(records, keys, facts, output, depth, at, p, a)
+    write_node(records, output, depth, at, p, a)
 }
 
 // The same, of a tree that is no operator with two sides: what stands behind the children, the children from the last to the first, each
 // with the token behind it, and what stands before them.
 fn write_node(
     records: &[u64],
-    keys: &Places,
-    facts: &Places,
     output: &mut [u64],
     depth: u64,
     place: u64,
     p: usize,
     end: usize,
 ) -> Step
-    requires { ⌜ Known (now records) (now keys) (now facts) p × Held end (now output) ⌝ }
+    requires { ⌜ Here (now records) p × Held end (now output) ⌝ }
     ensures { λ r. ⌜ Wrote-tree (now (records .entry)) depth place p end (now (output .entry)) (now (output .exit)) r ⌝ }
 {
     let word = records[p - 2];
@@ -103,7 +104,7 @@ fn write_node(
     if depth < base(kind) {
         return Step::Deep;
     }
-    let form = form_at(records, keys, facts, p, place);
+    let form = form_at(records, p, place);
     let n = word / CHILD;
     let mut j = n;
     let mut q = p - 2;
@@ -112,7 +113,7 @@ fn write_node(
         let b = put(output, a, after_token(kind, value, form, n, j), 0);
         let below = depth - deeper(kind, form, j);
         let its = place_of(kind, value, form, j);
-        let r = write_tree(records, keys, facts, output, below, its, q, b);
+        let r = write_tree(records, output, below, its, q, b);
         let Step::Done(q2, e) = r else {
             return r;
         };
@@ -124,13 +125,13 @@ fn write_node(
 }
 
 // The tree whose records these are and its semicolon, at the output's front, and zeros behind them.
-fn run_out(records: &[u64], keys: &Places, facts: &Places, output: &mut [u64]) -> Written
-    requires { ⌜ Known (now records) (now keys) (now facts) (length (now records)) ⌝ }
+fn run_out(records: &[u64], output: &mut [u64]) -> Written
+    requires { ⌜ Here (now records) (length (now records)) ⌝ }
     ensures { λ r. ⌜ Ran-out (now (records .entry)) (now (output .entry)) (now (output .exit)) r ⌝ }
 {
     let a = put(output, output.len() + 2, kind::SEMICOLON, 0);
     let n = records.len();
-    let r = write_tree(records, keys, facts, output, DEPTH, OWN, n, a);
+    let r = write_tree(records, output, DEPTH, OWN, n, a);
     match r {
         Step::Done(_, b) => written(output, b),
         Step::Deep => {
@@ -138,6 +139,29 @@ fn run_out(records: &[u64], keys: &Places, facts: &Places, output: &mut [u64]) -
             Written::Stopped(limit::TOO_DEEP)
         }
     }
+}
+
+// Whether the tree whose records these are is a statement that a clean reading can give, with the decision's own words.
+fn decided_alone(records: &[u64]) -> bool
+    requires { ⌜ Whole (now records) ⌝ }
+    ensures { λ r. ⌜ Legal (now (records .entry)) r ⌝ }
+{
+    let mut kept = [0u64; ROOM];
+    legal(records, &mut kept)
+}
+
+// The same. The output is lent where it has a word for each record, which is enough for any tree, or more words than there are otherwise.
+fn decided(records: &[u64], output: &mut [u64]) -> bool
+    requires { ⌜ Whole (now records) ⌝ }
+    ensures { λ r. ⌜ Legal (now (records .entry)) r ⌝ }
+{
+    if records.len() / 2 <= output.len() {
+        return legal(records, output);
+    }
+    if ROOM < output.len() {
+        return legal(records, output);
+    }
+    decided_alone(records)
 }
 
 // Writes the canonical tokens of the statement whose records these are, its semicolon included, and zeros behind them. `Writes` is the
@@ -149,11 +173,9 @@ pub fn write_stmt(records: &[u64], output: &mut [u64]) -> Written
         clear(output, 0);
         return Written::Refused(limit::NO_STATEMENT);
     }
-    let mut keys = [0usize; ALL];
-    let mut facts = [0usize; ALL];
-    if !legal(records, &mut keys, &mut facts) {
+    if !decided(records, output) {
         clear(output, 0);
         return Written::Refused(limit::NO_STATEMENT);
     }
-    run_out(records, &keys, &facts, output)
+    run_out(records, output)
 }

@@ -1,27 +1,10 @@
 // Finding one's way in records. A tree is named by its end: the place behind its last record, which is its root's. A node's last child
 // ends two words before the node, and a child's next older sibling ends where the child's records begin. 0 is the end of no tree, and
-// stands for a child that is not there: its kind, the count of its children and its value are 0. What is found out about trees is remembered,
-// since going back over records takes time.
+// stands for a child that is not there: its kind, the count of its children and its value are 0.
 ghost use Prim.Native.Nat.{_≤_};
 ghost use Rattle.writer.specs.Stack.{Here, Somewhere, Shape, Skipped, Says, Last-of, Kid-of};
 ghost use Rattle.tables.specs.Children.{kind-in, count-in, value-in};
-ghost use Rattle.writer.specs.Memory.{Known, Reach};
 use tree::word::CHILD;
-
-// What is remembered. keys[i] is the end of a tree, or 0. Below TREES facts[i] is where that tree begins; one that ends at p is put at
-// p / 2 % TREES. From TREES on, up to ALL, the tree is an assignment of a function and facts[i] is what seek_form says of it (noted.rt).
-// specs/Memory.antt has the same numbers.
-pub type Places = [usize; ALL];
-
-pub const TREES: usize = 24576;
-
-pub const ALL: usize = 49000;
-
-// Whether a tree passed a test that goes over its children, and where it begins.
-pub enum Fitting {
-    From(usize),
-    Not,
-}
 
 // Whether the words are those of one tree: from the first to the last, by the number of trees that stand so far.
 pub fn shape(records: &[u64]) -> bool
@@ -76,7 +59,7 @@ pub fn value_at(records: &[u64], p: usize) -> u64
 }
 
 // Where the records of the tree that ends at p begin.
-fn skip(records: &[u64], p: usize) -> usize
+pub fn skip(records: &[u64], p: usize) -> usize
     requires { ⌜ Here (now records) p ⌝ }
     ensures { λ r. ⌜ Skipped (now (records .entry)) p r ⌝ }
 {
@@ -88,18 +71,6 @@ fn skip(records: &[u64], p: usize) -> usize
         left = left - 1 + n;
     }
     q
-}
-
-// The same, looked up where it is remembered.
-pub fn begin(records: &[u64], keys: &Places, facts: &Places, p: usize) -> usize
-    requires { ⌜ Known (now records) (now keys) (now facts) p ⌝ }
-    ensures { λ r. ⌜ Skipped (now (records .entry)) p r ⌝ }
-{
-    let i = p / 2 % TREES;
-    if keys[i] == p {
-        return facts[i];
-    }
-    skip(records, p)
 }
 
 // The last child of the tree that ends at p, or 0.
@@ -114,8 +85,8 @@ pub fn last_of(records: &[u64], p: usize) -> usize
 }
 
 // The child number j, from 1, of the tree that ends at p, or 0.
-pub fn kid_of(records: &[u64], keys: &Places, facts: &Places, p: usize, j: u64) -> usize
-    requires { ⌜ Reach (now records) (now keys) (now facts) p ⌝ }
+pub fn kid_of(records: &[u64], p: usize, j: u64) -> usize
+    requires { ⌜ Somewhere (now records) p ⌝ }
     requires { ⌜ 1 ≤ j ⌝ }
     ensures { λ r. ⌜ Kid-of (now (records .entry)) p j r ⌝ }
 {
@@ -126,7 +97,7 @@ pub fn kid_of(records: &[u64], keys: &Places, facts: &Places, p: usize, j: u64) 
     let mut i = n;
     let mut q = p - 2;
     while j < i {
-        q = begin(records, keys, facts, q);
+        q = skip(records, q);
         i -= 1;
     }
     q

@@ -24,8 +24,8 @@ module _ (c : tie.After-write-tree) where
   ends : Holds (first-put .put .result) (first-put .put .last .0) (Kind.Semicolon ∷ 0 ∷ [])
   ends = semicolon (first-put .put .ensures)
 
-  kept : length (c .write-tree .last .1 .1 .1 .0) ≡ length (start .args .output .now)
-  kept = let k = c .write-tree .kept .1 .1 .1 .0 in let l = first-put .put .kept .0 in omega arith
+  kept : length (c .write-tree .last .1 .0) ≡ length (start .args .output .now)
+  kept = let k = c .write-tree .kept .1 .0 in let l = first-put .put .kept .0 in omega arith
 
 add-put : tie.Need-add-put
 add-put c = search needs
@@ -66,7 +66,7 @@ same-length-2 c = search needs
 
 returns-2 : tie.Need-returns-2
 returns-2 c = let w : tie.After-write-tree = search in
-    record { how = λ t a. cleared (w .write-tree .last .1 .1 .1 .0) _ (length (start w .args .output .now)) (known tie.After-clear (search) .clear .ensures) (kept w) (run-deep t _ (wrote-at (w .write-tree .ensures) (not-done _ (known tie.At-match-keys2 (search) .match .keys2)) t [] _ a (ends w))) }
+    record { how = λ t a. cleared (w .write-tree .last .1 .0) _ (length (start w .args .output .now)) (known tie.After-clear (search) .clear .ensures) (kept w) (run-deep t _ (wrote-at (w .write-tree .ensures) (not-done _ (known tie.At-match-keys2 (search) .match .keys2)) t [] _ a (ends w))) }
 
 pub run-out-spec : {M : Type 1} → statement M
 run-out-spec =

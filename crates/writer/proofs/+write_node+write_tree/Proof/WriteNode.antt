@@ -10,7 +10,7 @@ use Rattle.tables.specs.Layout.{text, within, closed}
 use Rattle.writer.specs.Stack.{At}
 use Rattle.output.specs.Text.{Holds, holds-bound}
 use Rattle.writer.proofs.Laws.{at-many}
-use Rattle.writer.proofs.Places.{reach-of}
+use Rattle.writer.proofs.Places.{some-place}
 use Rattle.writer.proofs.Writing.{not-done, wrote-deep}
 use Rattle.writer.proofs.Nodes.{below-base, Left, base-deep, left-start, last, last-done, last-deep, left-end}
 use Rattle.writer.proofs.write_node.Reads as reads
@@ -24,10 +24,10 @@ pub record Going (L O₀ : List ℕ) (d place p k v m n a₀ : ℕ) (O : List �
   pub kept : length O ≡ length O₀
 
 abbrev pub Inv-loop : lts.InvT-loop
-Inv-loop records keys facts output₀ depth place p end word value kind form n j₀ q₀ a₀ output j q a = Going records output₀ depth place p kind value form n a₀ output j q a
+Inv-loop records output₀ depth place p end word value kind form n j₀ q₀ a₀ output j q a = Going records output₀ depth place p kind value form n a₀ output j q a
 
 abbrev pub μ-loop : lts.MeasureT-loop
-μ-loop records keys facts output₀ depth place p end word value kind form n j₀ q₀ a₀ output j q a = j
+μ-loop records output₀ depth place p end word value kind form n j₀ q₀ a₀ output j q a = j
 
 abbrev Start : ℕ → Type 0
 Start t = lts.Start (write-node-calls t) (write-node-at t) reads.Post Inv-loop μ-loop
@@ -140,7 +140,7 @@ pub returns : (t : ℕ) → lts.Need-returns (write-node-calls t) (write-node-at
 returns t c = record { how = λ u s X a h. base-deep _ u s a (known (After-base t) (search) .base .ensures) (c .if1 .taken) }
 
 pub form-at-requires : (t : ℕ) → lts.Need-form-at-requires (write-node-calls t) (write-node-at t) reads.Post Inv-loop μ-loop
-form-at-requires t c κs = reach-of (known (Start t) (search) .pre .1 .0)
+form-at-requires t c κs = some-place (known (Start t) (search) .pre .1 .0)
 
 pub sub-q : (t : ℕ) → lts.Need-sub-q (write-node-calls t) (write-node-at t) reads.Post Inv-loop μ-loop
 sub-q t c = omega (arith, inside t (search))
@@ -173,7 +173,7 @@ write-tree-requires t c κs = let i = known (In-loop t) (search) in
     let g = left t (loop t i) in
     let w = last g (i .loop-test .taken) in
     let low = g .below in
-    (omega (arith, y .0), (record { top = w .top; rest = w .others ++ y .1 .0 .rest; here = w .here; memo = y .1 .0 .memo }, record { words = _; holds = known (After-put t) (search) .put .ensures .how (w .words) (w .holds) }))
+    (omega (arith, y .0), (record { top = w .top; rest = w .others ++ y .1 .0 .rest; here = w .here }, record { words = _; holds = known (After-put t) (search) .put .ensures .how (w .words) (w .holds) }))
 
 pub enum-known-r : (t : ℕ) → lts.Need-enum-known-r (write-node-calls t) (write-node-at t) reads.Post Inv-loop μ-loop
 enum-known-r t c = search needs

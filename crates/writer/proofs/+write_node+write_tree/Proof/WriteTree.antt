@@ -24,10 +24,10 @@ pub record Going (L O₀ : List ℕ) (d place from end : ℕ) (O : List ℕ) (at
   pub kept : length O ≡ length O₀
 
 abbrev pub Inv-loop : lts.InvT-loop
-Inv-loop records keys facts output₀ depth place from end at₀ p₀ a₀ output at p a = Going records output₀ depth place from end output at p a
+Inv-loop records output₀ depth place from end at₀ p₀ a₀ output at p a = Going records output₀ depth place from end output at p a
 
 abbrev pub μ-loop : lts.MeasureT-loop
-μ-loop records keys facts output₀ depth place from end at₀ p₀ a₀ output at p a = p
+μ-loop records output₀ depth place from end at₀ p₀ a₀ output at p a = p
 
 abbrev Start : ℕ → Type 0
 Start t = lts.Start (write-tree-calls t) (write-tree-at t) reads.Post Inv-loop μ-loop
@@ -117,7 +117,7 @@ pub write-tree-requires : (t : ℕ) → lts.Need-write-tree-requires (write-tree
 write-tree-requires t c κs = let y = known (Start t) (search) .pre .1 in
     let w = both t (search) in
     let low = w .below in
-    (omega (arith, known (Start t) (search) .pre .0, inside t (search)), (record { top = w .right; rest = w .left ∷ y .0 .rest; here = w .here; memo = y .0 .memo }, record { words = w .words; holds = w .holds }))
+    (omega (arith, known (Start t) (search) .pre .0, inside t (search)), (record { top = w .right; rest = w .left ∷ y .0 .rest; here = w .here }, record { words = w .words; holds = w .holds }))
 
 pub enum-known-r : (t : ℕ) → lts.Need-enum-known-r (write-tree-calls t) (write-tree-at t) reads.Post Inv-loop μ-loop
 enum-known-r t c = search needs
@@ -156,7 +156,7 @@ pub write-node-requires : (t : ℕ) → lts.Need-write-node-requires (write-tree
 write-node-requires t c κs = let y = known (Start t) (search) .pre .1 in
     let g = stage t (search) in
     let low = g .below in
-    (omega (arith, known (Start t) (search) .pre .0), (record { top = g .top; rest = y .0 .rest; here = g .here; memo = y .0 .memo }, record { words = g .words; holds = g .holds }))
+    (omega (arith, known (Start t) (search) .pre .0), (record { top = g .top; rest = y .0 .rest; here = g .here }, record { words = g .words; holds = g .holds }))
 
 pub same-length-2 : (t : ℕ) → lts.Need-same-length-2 (write-tree-calls t) (write-tree-at t) reads.Post Inv-loop μ-loop
 same-length-2 t c = omega (arith, known (At-loop t) (search) .loop .inv .kept)

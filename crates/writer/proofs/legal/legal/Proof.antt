@@ -1,32 +1,24 @@
 -- `writer::legal::legal` meets its contract. Assumes nothing.
-use mathlib.Core.Path.{sym}
-use mathlib.Core.List.{List, [], _∷_}
-use Prim.Native.Nat.{ℕ, _+_, _-_, _/_, _%_}
+use mathlib.Core.Path.{_≡_, refl}
+use Prim.Native.Nat.{_+_, _*_, _-_, _≤_}
 use native.Mathlib.Omega.{arith}
-use borrow.Author.Needs.{needs}
 use lib.ListN.{length}
-use Rattle.tree.specs.Tree.{Tree}
-use Rattle.tree.specs.Maybe.{just}
-use Rattle.writer.specs.Stack.{At}
-use Rattle.writer.specs.Memory.{tree-places, Table, Slot}
+use Rattle.tree.specs.Tree.{count}
+use Rattle.writer.specs.Standing.{At-node}
+use Rattle.writer.proofs.Laws.{at-many}
 use Rattle.writer.proofs.Places.{stands}
-use Rattle.writer.proofs.Validity.{Passed, Next, passed-start, passed-next, passed-end, whole-bad, whole-good}
-use Rattle.writer.proofs.Fitted.{fit-at, not-from}
-use Rattle.writer.proofs.Memory.{table-set}
+use Rattle.writer.proofs.Keeping.{node-place}
+use Rattle.writer.proofs.Visits.{Going, judged-not, going-start, next-node, next-bad, next-good, end-on, end-good}
+use borrow.Author.Needs.{needs}
 use Rattle.writer.proofs.legal.legal.Statement.{statement}
 use Rattle.writer.proofs.legal.legal.Tie as tie
 use Rattle.tree.proofs.Known.{known}
 
-pub record Going (L K S : List ℕ) (p slot : ℕ) : Type 0 where
-  pub go : (t : Tree) → At L (length L) (t ∷ []) → Passed L t p
-  pub table : Table L K S
-  pub place : Slot slot
-
 abbrev Inv-loop : tie.InvT-loop
-Inv-loop records keys₀ facts₀ n p₀ slot₀ keys facts p slot = Going records keys facts p slot
+Inv-loop records kept₀ n p₀ h₀ base₀ kept p h base = Going records kept p h base × (length kept ≡ length kept₀)
 
 abbrev μ-loop : tie.MeasureT-loop
-μ-loop records keys₀ facts₀ n p₀ slot₀ keys facts p slot = length records - p
+μ-loop records kept₀ n p₀ h₀ base₀ kept p h base = length records - p
 
 abbrev Start : Type 0
 Start = tie.Start Inv-loop μ-loop
@@ -37,17 +29,20 @@ At-loop = tie.At-loop Inv-loop μ-loop
 abbrev In-loop : Type 0
 In-loop = tie.In-loop Inv-loop μ-loop
 
-abbrev After-note-form : Type 0
-After-note-form = tie.After-note-form Inv-loop μ-loop
-
-abbrev After-kids-fit : Type 0
-After-kids-fit = tie.After-kids-fit Inv-loop μ-loop
+abbrev After-visit : Type 0
+After-visit = tie.After-visit Inv-loop μ-loop
 
 abbrev At-match-keys2 : Type 0
 At-match-keys2 = tie.At-match-keys2 Inv-loop μ-loop
 
 abbrev After-r : Type 0
 After-r = tie.After-r Inv-loop μ-loop
+
+abbrev After-count-at : Type 0
+After-count-at = tie.After-count-at Inv-loop μ-loop
+
+abbrev After-keep : Type 0
+After-keep = tie.After-keep Inv-loop μ-loop
 
 abbrev After-loop : Type 0
 After-loop = tie.After-loop Inv-loop μ-loop
@@ -60,29 +55,33 @@ module _ (c : In-loop) where
   abbrev start : Start
   start = search
 
-  looked-at : Next (start .args .records .now) (start .pre .top) (loop .loop .p)
-  looked-at = passed-next (loop .loop .inv .go (start .pre .top) (start .pre .here)) (c .loop-test .taken)
+  abbrev looked-at : At-node (start .args .records .now) (loop .loop .kept) (loop .loop .base) (loop .loop .h) (loop .loop .p + 2)
+  looked-at = next-node (loop .loop .inv .0) (c .loop-test .taken)
 
--- its children were tested
-module _ (c : After-kids-fit) where
+-- its children were counted
+module _ (c : After-count-at) where
   abbrev turn : In-loop
   turn = search
 
+  counted : c .count-at .result ≡ count (looked-at turn .kids)
+  counted = c .count-at .ensures .how _ _ (stands (looked-at turn .here))
+
+  -- the trees that stand have two words each at least
+  number : (c .count-at .result ≤ loop turn .loop .h) × (2 * (loop turn .loop .h - c .count-at .result + 1) ≤ loop turn .loop .p + 2) × (loop turn .loop .p + 2 ≤ length (start turn .args .records .now))
+  number =
+      let y = looked-at turn in
+      let n = counted in
+      let m = y .many in
+      (omega arith, omega (arith, at-many (y .here)), y .here .inside)
+
 loop-holds : tie.Need-loop-holds Inv-loop μ-loop
-loop-holds c = let y = known Start (search) .pre in
-    record { go = λ t a. passed-start a; table = y .table; place = record { from = omega arith; inside = omega arith } }
+loop-holds c = (going-start _ (known Start (search) .pre), refl)
 
 add-p : tie.Need-add-p Inv-loop μ-loop
-add-p c = omega (arith, looked-at (search) .at .inside)
+add-p c = omega (arith, looked-at (search) .here .inside)
 
-note-form-requires : tie.Need-note-form-requires Inv-loop μ-loop
-note-form-requires c κs = let o = looked-at (search) in
-    let v = known At-loop (search) .loop .inv in
-    (record { top = o .top; rest = o .rest; here = o .at }, v .table, v .place)
-
-kids-fit-requires : tie.Need-kids-fit-requires Inv-loop μ-loop
-kids-fit-requires c κs = let o = looked-at (search) in
-    record { top = o .top; rest = o .rest; here = o .at; memo = known After-note-form (search) .note-form .ensures .0 .memo }
+visit-requires : tie.Need-visit-requires Inv-loop μ-loop
+visit-requires c κs = looked-at (search)
 
 enum-known-r : tie.Need-enum-known-r Inv-loop μ-loop
 enum-known-r c = search needs
@@ -90,50 +89,39 @@ enum-known-r c = search needs
 enum-told : tie.Need-enum-told Inv-loop μ-loop
 enum-told c = search needs
 
+same-length : tie.Need-same-length Inv-loop μ-loop
+same-length c = known At-loop (search) .loop .inv .1
+
 returns : tie.Need-returns Inv-loop μ-loop
-returns c = let f = known After-kids-fit (search) in
-    record {
-      how = λ t a.
-          let z = passed-next (loop (turn f) .loop .inv .go t a) (turn f .loop-test .taken) in
-          sym (whole-bad t (z .bad (fit-at (f .kids-fit .ensures) (z .top) (z .rest) (z .at) (not-from _ (known At-match-keys2 (search) .match .keys2)))));
-      memo = known After-note-form (search) .note-form .ensures .0 .memo;
-    }
+returns c = record { how = next-bad (known At-loop (search) .loop .inv .0) (known In-loop (search) .loop-test .taken) (known After-visit (search) .visit .ensures) (judged-not _ (known At-match-keys2 (search) .match .keys2)) }
 
-mul-keys : tie.Need-mul-keys Inv-loop μ-loop
-mul-keys c = search needs
+count-at-requires : tie.Need-count-at-requires Inv-loop μ-loop
+count-at-requires c κs = node-place (looked-at (search))
 
-element-write-keys : tie.Need-element-write-keys Inv-loop μ-loop
-element-write-keys c = search needs
+sub-i : tie.Need-sub-i Inv-loop μ-loop
+sub-i c = omega (arith, number (search))
 
-mul-facts : tie.Need-mul-facts Inv-loop μ-loop
-mul-facts c = search needs
+add-h : tie.Need-add-h Inv-loop μ-loop
+add-h c = omega (arith, number (search))
 
-element-write-facts : tie.Need-element-write-facts Inv-loop μ-loop
-element-write-facts c = search needs
+keep-requires : tie.Need-keep-requires Inv-loop μ-loop
+keep-requires c κs = omega (arith, number (search))
 
 loop-less : tie.Need-loop-less Inv-loop μ-loop
-loop-less c = omega (arith, looked-at (turn (search)) .at .inside)
+loop-less c = omega (arith, looked-at (known In-loop (search)) .here .inside)
 
 loop-again : tie.Need-loop-again Inv-loop μ-loop
-loop-again c = let f = known After-kids-fit (search) in
-    let i = turn f in
-    let from = known After-r (search) .r .given .1 in
-    let noted = known After-note-form (search) .note-form .ensures in
-    record {
-      go = λ t a.
-          let z = passed-next (loop i .loop .inv .go t a) (i .loop-test .taken) in
-          z .fits (fit-at (f .kids-fit .ensures) (z .top) (z .rest) (z .at) from .0);
-      table = table-set _ _ ((loop i .loop .p + 2) / 2 % tree-places) _ _ (omega arith) (noted .0) (λ l. record { how = λ t s a. fit-at (f .kids-fit .ensures) t s a from .1 }) (λ l. let x = l .from in absurd (omega arith));
-      place = noted .1;
-    }
+loop-again c = let n = known After-count-at (search) in
+    (next-good (known At-loop (search) .loop .inv .0) (known In-loop (search) .loop-test .taken) (known After-visit (search) .visit .ensures) (known After-r (search) .r .given .1) (omega (arith, counted n, number n)) (known After-keep (search) .keep .ensures), let k = known After-keep (search) .keep .kept .0 in omega (arith, known At-loop (search) .loop .inv .1))
 
-class-at-requires : tie.Need-class-at-requires Inv-loop μ-loop
-class-at-requires c κs = let y = known Start (search) .pre in
-    record { place = record { tree = just (y .top); rest = []; spot = stands (y .here) }; memo = known At-loop (search) .loop .inv .table .memo }
+class-of-requires : tie.Need-class-of-requires Inv-loop μ-loop
+class-of-requires c κs = end-on (known At-loop (search) .loop .inv .0) (known After-loop (search) .loop-test .left)
+
+same-length-2 : tie.Need-same-length-2 Inv-loop μ-loop
+same-length-2 c = known At-loop (search) .loop .inv .1
 
 returns-2 : tie.Need-returns-2 Inv-loop μ-loop
-returns-2 c = let d = c .class-at .ensures in
-    record { how = λ t a. sym (whole-good t (passed-end (known At-loop (search) .loop .inv .go t a) (known After-loop (search) .loop-test .left)) (d .how (just t) [] (stands a))); memo = known At-loop (search) .loop .inv .table .memo }
+returns-2 c = record { how = end-good (known At-loop (search) .loop .inv .0) (known After-loop (search) .loop-test .left) (c .class-of .ensures) }
 
 pub legal-spec : {M : Type 1} → statement M
 legal-spec =
@@ -143,16 +131,17 @@ legal-spec =
     μ-loop
     loop-holds
     add-p
-    note-form-requires
-    kids-fit-requires
+    visit-requires
     enum-known-r
     enum-told
+    same-length
     returns
-    mul-keys
-    element-write-keys
-    mul-facts
-    element-write-facts
+    count-at-requires
+    sub-i
+    add-h
+    keep-requires
     loop-less
     loop-again
-    class-at-requires
+    class-of-requires
+    same-length-2
     returns-2)

@@ -3,7 +3,7 @@ use mathlib.Core.Path.{_∙_}
 use borrow.Author.Needs.{needs}
 use borrow.Author.Tests.{eq-eqb, ne-eqb}
 use Rattle.tables.specs.Check.{inner-mode, inner-class, mode-of}
-use Rattle.writer.proofs.Places.{of-last, reach-last, count-kids}
+use Rattle.writer.proofs.Places.{of-last, last-place, count-kids}
 use Rattle.writer.proofs.mode.mode.Statement.{statement}
 use Rattle.writer.proofs.mode.mode.Tie as tie
 use Rattle.tree.proofs.Known.{known}
@@ -15,7 +15,7 @@ last-of-requires : tie.Need-last-of-requires
 last-of-requires c κs = search needs
 
 inner-class-requires : tie.Need-inner-class-requires
-inner-class-requires c κs = search reach-last
+inner-class-requires c κs = search last-place
 
 count-at-requires : tie.Need-count-at-requires
 count-at-requires c κs = search needs

@@ -1,7 +1,7 @@
 -- `writer::records::last_of` meets its contract: the last child ends two words before its parent. Assumes nothing.
 use mathlib.Core.Path.{sym, _∙_}
 use native.Mathlib.Omega.{arith}
-use Rattle.writer.proofs.Memory.{no-last, a-last, two-before}
+use Rattle.writer.proofs.Spots.{no-last, a-last, two-before}
 use Rattle.writer.proofs.records.last_of.Statement.{statement}
 use Rattle.writer.proofs.records.last_of.Tie as tie
 use Rattle.tree.proofs.Known.{known}

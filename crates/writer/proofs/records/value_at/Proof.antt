@@ -3,7 +3,7 @@ use mathlib.Core.Path.{sym, ap}
 use native.Mathlib.Omega.{arith}
 use borrow.Author.Needs.{needs}
 use Rattle.tables.specs.Children.{value-in}
-use Rattle.writer.proofs.Memory.{spot-bound, spot-none, read}
+use Rattle.writer.proofs.Spots.{spot-bound, spot-none, read}
 use Rattle.writer.proofs.records.value_at.Statement.{statement}
 use Rattle.writer.proofs.records.value_at.Tie as tie
 use Rattle.tree.proofs.Known.{known}

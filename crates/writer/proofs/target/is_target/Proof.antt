@@ -2,7 +2,7 @@
 use mathlib.Core.Path.{sym, _∙_}
 use borrow.Author.Needs.{needs}
 use Rattle.tables.specs.Children.{children-in}
-use Rattle.writer.proofs.Places.{of-kid, reach-kid}
+use Rattle.writer.proofs.Places.{of-kid, kid-place}
 use Rattle.writer.proofs.Numbers.{tests}
 use Rattle.writer.proofs.Targets.{receiver-is, target-is}
 use Rattle.writer.proofs.target.is_target.Statement.{statement}
@@ -16,10 +16,10 @@ kind-at-requires : tie.Need-kind-at-requires
 kind-at-requires c κs = search needs
 
 target-receiver-requires : tie.Need-target-receiver-requires
-target-receiver-requires c κs = search reach-kid
+target-receiver-requires c κs = search kid-place
 
 target-receiver-requires-2 : tie.Need-target-receiver-requires-2
-target-receiver-requires-2 c κs = search reach-kid
+target-receiver-requires-2 c κs = search kid-place
 
 returns : tie.Need-returns
 returns c = let k = known tie.After-kind-at (search) .kind-at .ensures in

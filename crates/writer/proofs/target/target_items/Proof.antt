@@ -8,8 +8,7 @@ use borrow.Author.Tests.{not-true, not-false}
 use Rattle.tree.specs.Tree.{Tree}
 use Rattle.tree.specs.Maybe.{just}
 use Rattle.grammar.specs.Canonical.Write.{target-items}
-use Rattle.writer.specs.Stack.{At}
-use Rattle.writer.specs.Memory.{Known}
+use Rattle.writer.specs.Stack.{At, Here}
 use Rattle.tables.specs.Children.{children-in}
 use Rattle.writer.proofs.Places.{stands, some-place}
 use Rattle.writer.proofs.Kids.{Part, part-start, part-look, part-known, part-end, sees-bad, sees-good}
@@ -23,10 +22,10 @@ pub record Going (L : List ℕ) (p q j : ℕ) : Type 0 where
   pub go : (t : Tree) (s : List Tree) → At L p (t ∷ s) → Part L q j s item (target-items (children-in (just t)))
 
 abbrev Inv-loop : tie.InvT-loop
-Inv-loop records keys facts p j₀ q₀ j q = Going records p q j
+Inv-loop records p j₀ q₀ j q = Going records p q j
 
 abbrev μ-loop : tie.MeasureT-loop
-μ-loop records keys facts p j₀ q₀ j q = j
+μ-loop records p j₀ q₀ j q = j
 
 abbrev Start : Type 0
 Start = tie.Start Inv-loop μ-loop
@@ -54,8 +53,8 @@ module _ (c : In-loop) where
   abbrev start : Start
   start = search
 
-  item-known : Known (start .args .records .now) (start .args .keys .now) (start .args .facts .now) (loop .loop .q)
-  item-known = let y = start .pre in part-known (loop .loop .inv .go (y .top) (y .rest) (y .here)) (y .memo) (c .loop-test .taken)
+  item-known : Here (start .args .records .now) (loop .loop .q)
+  item-known = let y = start .pre in part-known (loop .loop .inv .go (y .top) (y .rest) (y .here)) (c .loop-test .taken)
 
 count-at-requires : tie.Need-count-at-requires Inv-loop μ-loop
 count-at-requires c κs = search some-place
@@ -80,8 +79,8 @@ returns c = record {
       sees-bad o (rw (← k) (sym (known After-target-item (search) .target-item .ensures) ∙ not-true _ (c .if1 .taken)));
 }
 
-begin-requires : tie.Need-begin-requires Inv-loop μ-loop
-begin-requires c κs = item-known (search)
+skip-requires : tie.Need-skip-requires Inv-loop μ-loop
+skip-requires c κs = item-known (search)
 
 sub-j : tie.Need-sub-j Inv-loop μ-loop
 sub-j c = search needs
@@ -94,7 +93,7 @@ loop-again c = record {
   go = λ t s a.
       let o = part-look (known At-loop (search) .loop .inv .go t s a) (known In-loop (search) .loop-test .taken) in
       let k = known After-kind-at (search) .kind-at .ensures .how (just (o .top)) _ (stands (o .at)) in
-      sees-good o (rw (← k) (sym (known After-target-item (search) .target-item .ensures) ∙ not-false _ (known Else1 (search) .if1 .left))) (c .begin .ensures);
+      sees-good o (rw (← k) (sym (known After-target-item (search) .target-item .ensures) ∙ not-false _ (known Else1 (search) .if1 .left))) (c .skip .ensures);
 }
 
 returns-2 : tie.Need-returns-2 Inv-loop μ-loop
@@ -112,7 +111,7 @@ target-items-spec =
     kind-at-requires
     target-item-requires
     returns
-    begin-requires
+    skip-requires
     sub-j
     loop-less
     loop-again

@@ -7,8 +7,8 @@ use Rattle.tree.specs.Tree.{head-kind}
 use Rattle.grammar.specs.Canonical.Write.{tail-of, target-atom}
 use Rattle.writer.specs.Stack.{kid-in}
 use Rattle.tables.specs.Children.{children-in}
-use Rattle.writer.proofs.Places.{reach-kid, a-tree}
-use Rattle.writer.proofs.Memory.{spot-none}
+use Rattle.writer.proofs.Places.{kid-place, a-tree}
+use Rattle.writer.proofs.Spots.{spot-none}
 use Rattle.writer.proofs.Fitted.{not-from}
 use Rattle.writer.proofs.Targets.{head-is, no-path, bad-path, good-path}
 use Rattle.writer.proofs.target.target_receiver.Statement.{statement}
@@ -22,7 +22,7 @@ returns : tie.Need-returns
 returns c = record { how = λ m s h. rw (no-path (tail-of (children-in m)) (spot-none _ _ (omega arith) (known tie.After-kid-of (search) .kid-of .ensures .how m s h))) (sym (and-false (target-atom (head-kind (children-in m))))) }
 
 target-items-requires : tie.Need-target-items-requires
-target-items-requires c κs = a-tree (reach-kid (known tie.After-kid-of (search) .kid-of .ensures) (known tie.Start (search) .pre)) (c .if1 .left)
+target-items-requires c κs = a-tree (kid-place (known tie.After-kid-of (search) .kid-of .ensures) (known tie.Start (search) .pre)) (c .if1 .left)
 
 enum-known-r : tie.Need-enum-known-r
 enum-known-r c = search needs
@@ -36,7 +36,7 @@ returns-2 c = record {
 }
 
 kind-at-requires : tie.Need-kind-at-requires
-kind-at-requires c κs = let y = known tie.Start (search) .pre .place in
+kind-at-requires c κs = let y = known tie.Start (search) .pre in
     let x = good-path (known tie.After-kid-of (search) .kid-of .ensures) (known tie.Else1 (search) .if1 .left) (known tie.After-target-items (search) .target-items .ensures) (known tie.After-r (search) .r .given .1) (y .tree) (y .rest) (y .spot) in
     record { tree = kid-in 1 (y .tree); rest = y .rest; spot = x .1 }
 
