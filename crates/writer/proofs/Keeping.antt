@@ -5,8 +5,9 @@ use mathlib.Core.List.{List, [], _∷_}
 use Prim.Native.Nat.{ℕ, suc, _+_, _-_, _/_, _%_, _≤_, _<_}
 use native.Mathlib.Omega.{arith}
 use lib.Dec.{eqb, ltb, leb}
-use borrow.Author.Tests.{ltb-false, leb-false}
-use lib.ListN.{length, getD, set, take, length-append}
+use native.Mathlib.Decide.{ℕ-discrete}
+use borrow.Author.Tests.{eq-eqb, ne-eqb, ltb-false, leb-false}
+use lib.ListN.{length, getD, set, take, length-append, length-set}
 use lib.Seq.{take-take, take-append-seam, getD-set-same, getD-set-other}
 use Rattle.tree.specs.Tree.{Tree, Forest, node, none, more, count, records}
 use Rattle.tree.specs.Maybe.{Maybe, nothing, just}
@@ -15,7 +16,7 @@ use Rattle.tables.specs.Kinds.{gives-name}
 use Rattle.tables.specs.Check.{class-of, begins-labelled, first-labelled}
 use Rattle.tables.specs.Children.{kind-in, count-in, value-in, children-in, first-tree, last-tree}
 use Rattle.writer.specs.Stack.{At, Here, Skipped, SpotAs, Spot, Somewhere, Says}
-use Rattle.writer.specs.Standing.{first-of, first-kept, name-serves, serves-as, serves, one, entry, Entry, Kept, On, At-node, Tells}
+use Rattle.writer.specs.Standing.{first-of, first-kept, keep-from, keep-in, no-word, name-serves, serves-as, serves, one, entry, Entry, Kept, Keeps, On, At-node, Tells}
 use Rattle.writer.specs.Verdict.{FirstAs, First}
 use Rattle.writer.proofs.Laws.{at-many, at-length, length-back, pop}
 use Rattle.writer.proofs.Spots.{back-last}
@@ -77,22 +78,22 @@ one-is false = (omega arith, refl)
 module _ {w : ℕ} {t : Tree} {s : List Tree} (e : Entry w t s) where
   pub entry-begin : w / 512 ≡ length (stack-records s)
   unfolding entry
-  entry-begin = omega (arith, e .small, e .word, one-is (begins-labelled t) .0, one-is (serves t s) .0)
+  entry-begin = omega (arith, e .small, e .same, one-is (begins-labelled t) .0, one-is (serves t s) .0)
 
   pub entry-class : w % 128 ≡ class-of t
   unfolding entry
-  entry-class = omega (arith, e .small, e .word, one-is (begins-labelled t) .0, one-is (serves t s) .0)
+  entry-class = omega (arith, e .small, e .same, one-is (begins-labelled t) .0, one-is (serves t s) .0)
 
   pub entry-labelled : eqb (w / 128 % 2) 1 ≡ begins-labelled t
   unfolding entry
   entry-labelled =
-      let x : w / 128 % 2 ≡ one (begins-labelled t) = omega (arith, e .small, e .word, one-is (begins-labelled t) .0, one-is (serves t s) .0) in
+      let x : w / 128 % 2 ≡ one (begins-labelled t) = omega (arith, e .small, e .same, one-is (begins-labelled t) .0, one-is (serves t s) .0) in
       rw x (one-is (begins-labelled t) .1)
 
   pub entry-serves : eqb (w / 256 % 2) 1 ≡ serves t s
   unfolding entry
   entry-serves =
-      let x : w / 256 % 2 ≡ one (serves t s) = omega (arith, e .small, e .word, one-is (begins-labelled t) .0, one-is (serves t s) .0) in
+      let x : w / 256 % 2 ≡ one (serves t s) = omega (arith, e .small, e .same, one-is (begins-labelled t) .0, one-is (serves t s) .0) in
       rw x (one-is (serves t s) .1)
 
 -- ---------------------------------------------------------------- the trees that are kept
@@ -232,9 +233,6 @@ first-on {L} {F} {base} {h} {p} {e} {n} y first c z = go (y .kids) (first .how _
     go (more t f) a k m g r = (record { top = t; rest = y .rest; here = a; many = omega arith; kept = kept-back F base f (t ∷ y .rest) k; room = omega arith }, refl, omega arith)
 
 -- ---------------------------------------------------------------- what is kept after one tree more, the number i
-pub keep-none : (F : List ℕ) (t : Tree) (s : List Tree) {i : ℕ} → length s ≡ i → Kept F (i + 1) (t ∷ s)
-keep-none F t s l = kept-none F _ (t ∷ s) (omega arith)
-
 -- that tree alone, or behind those that were kept
 data Kept-from (n base i : ℕ) : ℕ → Type 0 where
   itself : Kept-from n base i i
@@ -256,10 +254,33 @@ from-room base {n} {i} e z = rw e (go (from-is n base i))
     go itself = (omega arith, omega arith)
     go (others h l) = (h, l)
 
-pub keep-stored : (F : List ℕ) (base i w : ℕ) {r : ℕ} (t : Tree) (s : List Tree) → r ≡ first-kept (length F) base i → length s ≡ i → 0 < length F → Entry w t s → Kept F base s → Kept (set F (i - r) w) r (t ∷ s)
+keep-stored : (F : List ℕ) (base i w : ℕ) (t : Tree) (s : List Tree) → length s ≡ i → 0 < length F → Entry w t s → Kept F base s → Kept (set F (i - first-kept (length F) base i) w) (first-kept (length F) base i) (t ∷ s)
 unfolding Kept
-keep-stored F base i w t s f l z e k = rw f (go (from-is (length F) base i))
+keep-stored F base i w t s l z e k = go (from-is (length F) base i)
   where
     go : {r : ℕ} → Kept-from (length F) base i r → Kept (set F (i - r) w) r (t ∷ s)
     go itself = ((λ (b : i ≤ length s). rw (l, getD-set-same F (i - i) w 0 (omega arith)) e), kept-none (set F (i - i) w) i s (omega arith))
     go (others h n) = ((λ (b : base ≤ length s). rw (l, getD-set-same F (i - base) w 0 n) e), kept-set F base (i - base) w s (omega arith) k)
+
+-- what is kept is right then, and there is room for it
+module _ {F F′ : List ℕ} {base i w r : ℕ} (x : Keeps F F′ base i w r) where
+  pub keeps-right : (t : Tree) (s : List Tree) → length s ≡ i → ((w ≡ no-word → ⊥) → Entry w t s) → Kept F base s → Kept F′ r (t ∷ s)
+  unfolding keep-from keep-in
+  keeps-right t s l e k = rw (x .from, x .words) (go (ℕ-discrete w no-word) (ℕ-discrete (length F) 0))
+    where
+      none-kept : {n : ℕ} (G : List ℕ) → n ≡ i + 1 → Kept G n (t ∷ s)
+      none-kept {n} G z = kept-none G n (t ∷ s) (omega arith)
+
+      go : Dec (w ≡ no-word) → Dec (length F ≡ 0) → Kept (keep-in F base i w) (keep-from (length F) base i w) (t ∷ s)
+      go (yes a) d = rw (eq-eqb w no-word a) (none-kept F refl)
+      go (no a) (yes b) = rw (ne-eqb w no-word a, eq-eqb (length F) 0 b) (none-kept F refl)
+      go (no a) (no b) = rw (ne-eqb w no-word a, ne-eqb (length F) 0 b) (keep-stored F base i w t s l (omega arith) (e a) k)
+
+  pub keeps-room : i + 1 ≤ r + length F′
+  unfolding keep-from keep-in
+  keeps-room = rw (x .from, x .words) (go (ℕ-discrete w no-word) (ℕ-discrete (length F) 0))
+    where
+      go : Dec (w ≡ no-word) → Dec (length F ≡ 0) → i + 1 ≤ keep-from (length F) base i w + length (keep-in F base i w)
+      go (yes a) d = rw (eq-eqb w no-word a) (omega arith)
+      go (no a) (yes b) = rw (ne-eqb w no-word a, eq-eqb (length F) 0 b) (omega arith)
+      go (no a) (no b) = rw (ne-eqb w no-word a, ne-eqb (length F) 0 b) (simp length-set (omega (arith, from-room base {n = length F} {i = i} refl (omega arith))))

@@ -1,10 +1,11 @@
 -- A visit of a node, and the pass over all nodes with what is kept of the trees that stand. Assumes nothing.
 use mathlib.Core.Path.{_≡_, refl, sym, ap, _∙_, subst}
-use mathlib.Core.Bool.{Bool, false}
+use mathlib.Core.Bool.{Bool, true, false}
 use mathlib.Core.List.{List, [], _∷_}
 use Prim.Native.Nat.{ℕ, _+_, _≤_, _<_}
 use native.Mathlib.Omega.{arith}
-use lib.Dec.{eqb}
+use lib.Dec.{eqb, leb}
+use borrow.Author.Tests.{leb-false}
 use lib.ListN.{length}
 use types.Run.{OneOf}
 use denote.Enum.Declared.{tagOf}
@@ -20,13 +21,13 @@ use Rattle.writer.specs.declared.legal.Children.the-variants as Children
 use Rattle.writer.specs.declared.legal.Judged.{Judged}
 use Rattle.writer.specs.declared.legal.Judged.the-variants as Judged
 use Rattle.writer.specs.Stack.{At, Skipped}
-use Rattle.writer.specs.Standing.{serves, no-word, Word, entry, Entry, Kept, On, At-node, Keeps, Tells}
+use Rattle.writer.specs.Standing.{serves, no-word, far, word, entry, Entry, Kept, On, At-node, Keeps, Tells}
 use Rattle.writer.specs.Verdict.{First, Items, Kids-fitAs, Kids-fit, VisitedAs, Visited, Whole}
 use Rattle.writer.proofs.legal.Children as children-type
 use Rattle.writer.proofs.legal.Judged as judged-type
 use Rattle.writer.proofs.Laws.{at-many, length-back}
 use Rattle.writer.proofs.Places.{class-same}
-use Rattle.writer.proofs.Keeping.{at-one, at-each, kept-back}
+use Rattle.writer.proofs.Keeping.{at-one, at-each, kept-back, keeps-right, keeps-room}
 use Rattle.writer.proofs.Validity.{Passed, Next, way-at, passed-start, passed-next, passed-end, whole-bad, whole-good}
 
 -- ---------------------------------------------------------------- by the answers
@@ -56,11 +57,14 @@ module _ {L : List ℕ} {p m : ℕ} {r : Children} (w : Kids-fit L p m r) where
 pub class-found : (t : Tree) {k v m c : ℕ} → k ≡ kind-in (just t) → v ≡ value-in (just t) → m ≡ mode-of (kind-in (just t)) (children-in (just t)) → c ≡ class k v m → c ≡ class-of t
 class-found t ke ve me ce = ce ∙ rw (ke, ve, me) (class-same t)
 
-pub entry-made : (t : Tree) (s : List Tree) {c b w : ℕ} {l x : Bool} → c ≡ class-of t → l ≡ begins-labelled t → x ≡ serves t s → b ≡ length (stack-records s) → Word c l x b w → (w ≡ no-word → ⊥) → Entry w t s
-unfolding entry
-entry-made t s ce le xe be word n =
-    let y = word .how n in
-    record { small = rw ce at (y .0); word = y .1 ∙ rw (ce, le, xe, be) }
+pub entry-made : (t : Tree) (s : List Tree) {c b w : ℕ} {l x : Bool} → c ≡ class-of t → l ≡ begins-labelled t → x ≡ serves t s → b ≡ length (stack-records s) → w ≡ word c l x b → (w ≡ no-word → ⊥) → Entry w t s
+unfolding entry word
+entry-made t s {c} {b} {w} {l} {x} ce le xe be e n = go (leb 128 c) (leb far b) refl refl
+  where
+    go : (y z : Bool) → leb 128 c ≡ y → leb far b ≡ z → Entry w t s
+    go true z f g = absurd (n (e ∙ rw f))
+    go false true f g = absurd (n (e ∙ rw (f, g)))
+    go false false f g = record { small = rw ce at (leb-false 128 c f); same = e ∙ rw (f, g, ce, le, xe, be) }
 
 -- ---------------------------------------------------------------- where the pass stands: h trees before p, and what is kept of them
 pub record Going (L F : List ℕ) (p h base : ℕ) : Type 0 where
@@ -108,8 +112,8 @@ module _ {L F : List ℕ} {p h base : ℕ} (g : Going L F p h base) (z : p < len
         let x = n .fits (v .0) in
         let y = next-node in
         let l : length (n .rest) ≡ i = omega (arith, y .many) in
-        let k = keeps .how _ (n .rest) l (v .1) (kept-back F base (n .kids) (n .rest) (y .kept)) in
-        let room = keeps .room in
+        let k = keeps-right keeps _ (n .rest) l (v .1) (kept-back F base (n .kids) (n .rest) (y .kept)) in
+        let room = keeps-room keeps in
         record {
           whole = g .whole;
           passed = x .0;

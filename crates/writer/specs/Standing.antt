@@ -2,9 +2,9 @@
 use mathlib.Core.Path.{_≡_}
 use mathlib.Core.Bool.{Bool, false, cond, _&&_}
 use mathlib.Core.List.{List, [], _∷_}
-use Prim.Native.Nat.{ℕ, suc, _+_, _*_, _-_, _≤_, _<_}
+use Prim.Native.Nat.{ℕ, _+_, _*_, _-_, _≤_, _<_}
 use lib.Dec.{eqb, ltb, leb}
-use lib.ListN.{length, getD}
+use lib.ListN.{length, getD, set}
 use Rattle.tree.specs.NodeKind
 use Rattle.tree.specs.Tree.{Tree, Forest, node, none, more, count, head-kind}
 use Rattle.tree.specs.Maybe.{Maybe, nothing, just}
@@ -47,16 +47,22 @@ one b = cond b 1 0
 unfoldable pub entry : Tree → List Tree → ℕ
 entry t s = class-of t + 128 * one (begins-labelled t) + 256 * one (serves t s) + 512 * length (stack-records s)
 
--- what no tree has: nothing is kept of a tree whose numbers are too large for a word
+-- what no tree has; and what the code makes of a tree's numbers: nothing is kept of a tree whose numbers are too large for a word
 abbrev pub no-word : ℕ
 no-word = 18446744073709551615
 
-pub record Word (class : ℕ) (labelled serves : Bool) (b w : ℕ) : Type 0 where
-  pub how : (w ≡ no-word → ⊥) → (class < 128) × (w ≡ class + 128 * one labelled + 256 * one serves + 512 * b)
+abbrev pub far : ℕ
+far = 18014398509481984
+
+unfoldable pub word : ℕ → Bool → Bool → ℕ → ℕ
+word class labelled serves b =
+    if leb 128 class then no-word else
+    if leb far b then no-word else
+    class + 128 * one labelled + 256 * one serves + 512 * b
 
 pub record Entry (w : ℕ) (t : Tree) (s : List Tree) : Type 0 where
   pub small : class-of t < 128
-  pub word : w ≡ entry t s
+  pub same : w ≡ entry t s
 
 -- of the trees of a stack, numbered from 0 at the bottom, those from the number base on are kept in F
 unfoldable pub Kept : List ℕ → ℕ → List Tree → Type 0
@@ -90,10 +96,22 @@ first-kept n base i =
     if leb n (i - base) then i else
     base
 
--- the word w of the tree number i was kept over what is kept of those below it, from the number r on
+-- the word w of that tree is kept: from which number on trees are kept then, and the words
+unfoldable pub keep-from : ℕ → ℕ → ℕ → ℕ → ℕ
+keep-from n base i w =
+    if eqb w no-word then i + 1 else
+    if eqb n 0 then i + 1 else
+    first-kept n base i
+
+unfoldable pub keep-in : List ℕ → ℕ → ℕ → ℕ → List ℕ
+keep-in F base i w =
+    if eqb w no-word then F else
+    if eqb (length F) 0 then F else
+    set F (i - first-kept (length F) base i) w
+
 pub record Keeps (F F′ : List ℕ) (base i w r : ℕ) : Type 0 where
-  pub how : (t : Tree) (s : List Tree) → length s ≡ i → ((w ≡ no-word → ⊥) → Entry w t s) → Kept F base s → Kept F′ r (t ∷ s)
-  pub room : suc i ≤ r + length F′
+  pub from : r ≡ keep-from (length F) base i w
+  pub words : F′ ≡ keep-in F base i w
 
 -- the answer r is what is to be said of the tree at q and of those below it
 pub record Tells {A : Type 0} (L : List ℕ) (q : ℕ) (what : Tree → List Tree → A) (r : A) : Type 0 where

@@ -8,7 +8,6 @@ use Rattle.tree.specs.Tree.{Tree, Forest, none, more}
 use Rattle.tree.specs.Maybe.{just}
 use Rattle.grammar.specs.Canonical.Write.{target-items}
 use Rattle.writer.specs.declared.target.Fitting.{Fitting}
-use Rattle.writer.specs.declared.target.Fitting.the-variants.{From}
 use Rattle.writer.specs.declared.target.Fitting.the-variants as Fitting
 use Rattle.writer.specs.declared.legal.Children.{Children}
 use Rattle.writer.specs.declared.legal.Children.the-variants as Children

@@ -4,7 +4,7 @@
 ghost use Prim.Native.Nat.{_<_};
 ghost use mathlib.Core.Path.{_≡_};
 ghost use Rattle.writer.specs.Stack.{Skipped};
-ghost use Rattle.writer.specs.Standing.{On, Tells, Word, Keeps, first-kept as first-kept-def, one as one-def, serves as serves-def};
+ghost use Rattle.writer.specs.Standing.{On, Tells, Keeps, word as word-def, first-kept as first-kept-def, one as one-def, serves as serves-def};
 ghost use Rattle.tables.specs.Check.{class-of as class-of-def, begins-labelled as begins-labelled-def};
 use crate::edges::begins_labelled;
 use crate::mode::class_at;
@@ -79,7 +79,7 @@ fn one(yes: bool) -> u64
 
 // What is kept of a tree that has a class and begins at b.
 pub fn word_of(class: u64, labelled: bool, serves: bool, b: usize) -> u64
-    ensures { λ r. ⌜ Word class labelled serves b r ⌝ }
+    ensures { λ r. ⌜ r ≡ word-def class labelled serves b ⌝ }
 {
     if LABELLED <= class {
         return NO_WORD;

@@ -1,7 +1,6 @@
 -- `writer::edges::ends_wrong` meets its contract. Assumes nothing.
 use mathlib.Core.Path.{sym, _∙_}
 use borrow.Author.Needs.{needs}
-use Rattle.tables.specs.Check.{ends-single}
 use Rattle.writer.proofs.edges.ends_wrong.Statement.{statement}
 use Rattle.writer.proofs.edges.ends_wrong.Tie as tie
 use Rattle.tree.proofs.Known.{known}

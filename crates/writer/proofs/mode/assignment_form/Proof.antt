@@ -2,7 +2,6 @@
 use mathlib.Core.Path.{sym, _∙_}
 use borrow.Author.Needs.{needs}
 use borrow.Author.Tests.{eq-eqb, ne-eqb, not-true, not-false}
-use Rattle.tables.specs.Check.{function-form}
 use Rattle.tables.specs.Layout.{assignment-form}
 use Rattle.writer.proofs.mode.assignment_form.Statement.{statement}
 use Rattle.writer.proofs.mode.assignment_form.Tie as tie

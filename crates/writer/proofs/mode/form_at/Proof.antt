@@ -2,8 +2,7 @@
 use mathlib.Core.Path.{_≡_, refl}
 use Prim.Native.Nat.{ℕ}
 use borrow.Author.Needs.{needs}
-use Rattle.tables.specs.Check.{signature-mode}
-use Rattle.tables.specs.Layout.{assignment-form, form-of}
+use Rattle.tables.specs.Layout.{form-of}
 use Rattle.tables.specs.Children.{kind-in, value-in, children-in}
 use Rattle.writer.specs.Stack.{Says}
 use Rattle.writer.proofs.Numbers.{tests}

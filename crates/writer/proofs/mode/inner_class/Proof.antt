@@ -1,6 +1,5 @@
 -- `writer::mode::inner_class` meets its contract. Assumes nothing.
 use borrow.Author.Needs.{needs}
-use Rattle.tables.specs.Check.{inner-mode}
 use Rattle.writer.proofs.mode.inner_class.Statement.{statement}
 use Rattle.writer.proofs.mode.inner_class.Tie as tie
 use Rattle.tree.proofs.Known.{known}

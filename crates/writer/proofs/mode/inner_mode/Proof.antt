@@ -2,7 +2,7 @@
 use mathlib.Core.Path.{_≡_, refl}
 use Prim.Native.Nat.{ℕ}
 use borrow.Author.Needs.{needs}
-use Rattle.tables.specs.Check.{function-form, body-mode, signature-mode, group-mode, inner-mode}
+use Rattle.tables.specs.Check.{inner-mode}
 use Rattle.tables.specs.Children.{kind-in, children-in}
 use Rattle.writer.specs.Stack.{Says}
 use Rattle.writer.proofs.Numbers.{tests}

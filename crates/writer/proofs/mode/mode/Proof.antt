@@ -2,7 +2,7 @@
 use mathlib.Core.Path.{_∙_}
 use borrow.Author.Needs.{needs}
 use borrow.Author.Tests.{eq-eqb, ne-eqb}
-use Rattle.tables.specs.Check.{inner-mode, inner-class, mode-of}
+use Rattle.tables.specs.Check.{mode-of}
 use Rattle.writer.proofs.Places.{of-last, last-place, count-kids}
 use Rattle.writer.proofs.mode.mode.Statement.{statement}
 use Rattle.writer.proofs.mode.mode.Tie as tie

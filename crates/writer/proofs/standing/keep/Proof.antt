@@ -1,8 +1,11 @@
 -- `writer::standing::keep` meets its contract. Assumes nothing.
+use mathlib.Core.Path.{_∙_}
 use Prim.Native.Nat.{_≤_, _<_, _-_}
 use native.Mathlib.Omega.{arith}
 use lib.ListN.{length, length-set}
-use Rattle.writer.proofs.Keeping.{keep-stored, keep-none, from-room}
+use Rattle.writer.specs.Standing.{keep-from, keep-in}
+use Rattle.writer.proofs.Numbers.{tests}
+use Rattle.writer.proofs.Keeping.{from-room}
 use borrow.Author.Needs.{needs}
 use Rattle.writer.proofs.standing.keep.Statement.{statement}
 use Rattle.writer.proofs.standing.keep.Tie as tie
@@ -20,13 +23,15 @@ add-result : tie.Need-add-result
 add-result c = search needs
 
 returns : tie.Need-returns
-returns c = record { how = λ t s l e k. keep-none _ t s l; room = omega arith }
+unfolding keep-from keep-in
+returns c = record { from = search tests; words = search tests }
 
 add-result-2 : tie.Need-add-result-2
 add-result-2 c = search needs
 
 returns-2 : tie.Need-returns-2
-returns-2 c = record { how = λ t s l e k. keep-none _ t s l; room = omega arith }
+unfolding keep-from keep-in
+returns-2 c = record { from = search tests; words = search tests }
 
 first-kept-requires : tie.Need-first-kept-requires
 first-kept-requires c κs = search needs
@@ -44,8 +49,9 @@ same-length : tie.Need-same-length
 same-length c = search needs
 
 returns-3 : tie.Need-returns-3
-returns-3 c = let f = known tie.After-first-kept (search) in
-    record { how = λ t s l e k. keep-stored _ _ _ _ t s (f .first-kept .ensures) l (omega (arith, known tie.Else2 (search) .if2 .left)) (e (known tie.Else1 (search) .if1 .left)) k; room = simp length-set (omega (arith, room f)) }
+unfolding keep-from keep-in
+returns-3 c = let f = known tie.After-first-kept (search) .first-kept .ensures in
+    record { from = f ∙ search tests; words = rw (← f) (search tests) }
 
 pub keep-spec : {M : Type 1} → statement M
 keep-spec =

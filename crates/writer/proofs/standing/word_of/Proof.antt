@@ -1,6 +1,7 @@
 -- `writer::standing::word_of` meets its contract. Assumes nothing.
-use mathlib.Core.Path.{refl}
 use native.Mathlib.Omega.{arith}
+use Rattle.writer.specs.Standing.{word}
+use Rattle.writer.proofs.Numbers.{tests}
 use Rattle.writer.proofs.Keeping.{one-is}
 use borrow.Author.Needs.{needs}
 use Rattle.writer.proofs.standing.word_of.Statement.{statement}
@@ -8,10 +9,12 @@ use Rattle.writer.proofs.standing.word_of.Tie as tie
 use Rattle.tree.proofs.Known.{known}
 
 returns : tie.Need-returns
-returns c = record { how = λ n. absurd (n refl) }
+unfolding word
+returns c = search tests
 
 returns-2 : tie.Need-returns-2
-returns-2 c = record { how = λ n. absurd (n refl) }
+unfolding word
+returns-2 c = search tests
 
 one-requires : tie.Need-one-requires
 one-requires c κs = search needs
@@ -54,9 +57,10 @@ add-result-3 c = let l = known tie.After-one (search) .one .ensures in
     omega arith
 
 returns-3 : tie.Need-returns-3
+unfolding word
 returns-3 c = let l = known tie.After-one (search) .one .ensures in
     let k = known tie.After-one2 (search) .one2 .ensures in
-    record { how = λ n. (omega arith, rw (← l, ← k)) }
+    rw (← l, ← k) (search tests)
 
 pub word-of-spec : {M : Type 1} → statement M
 word-of-spec =
