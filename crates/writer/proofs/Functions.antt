@@ -68,9 +68,3 @@ form-is a b s e xe ye ze = rw (has-serves a b s e, xe, ye, ze)
 -- ---------------------------------------------------------------- targets
 pub path-is : (t : Tree) → target-path (more t none) ≡ target-items (children-in (just t))
 path-is (node k v f) = refl
-
-pub first-is-last : (f : Forest) → count f ≡ 1 → first-tree f ≡ last-tree f
-unfolding count last-tree
-first-is-last none e = absurd (omega arith)
-first-is-last (more t none) e = refl
-first-is-last (more t (more u f)) e = absurd (omega arith)

@@ -6,21 +6,24 @@ use Prim.Native.Nat.{ℕ, suc, _+_, _-_, _/_, _%_, _≤_, _<_}
 use native.Mathlib.Omega.{arith}
 use lib.Dec.{eqb, ltb, leb}
 use native.Mathlib.Decide.{ℕ-discrete}
-use borrow.Author.Tests.{eq-eqb, ne-eqb, ltb-false, leb-false}
+use borrow.Author.Tests.{eq-eqb, ne-eqb, eqb-true, ltb-false, leb-false}
 use lib.ListN.{length, getD, set, take, length-append, length-set}
 use lib.Seq.{take-take, take-append-seam, getD-set-same, getD-set-other}
+use Rattle.tree.specs.NodeKind
 use Rattle.tree.specs.Tree.{Tree, Forest, node, none, more, count, records}
 use Rattle.tree.specs.Maybe.{Maybe, nothing, just}
 use Rattle.tree.specs.Records.{stack-records, Stack-small, back, stack-same}
+use Rattle.grammar.specs.Laws.Facts.{clash}
 use Rattle.tables.specs.Kinds.{gives-name}
+use Rattle.tables.specs.Sound.{exceeds, arity, sound}
 use Rattle.tables.specs.Check.{class-of, begins-labelled, first-labelled}
 use Rattle.tables.specs.Children.{kind-in, count-in, value-in, children-in, first-tree, last-tree}
 use Rattle.writer.specs.Stack.{At, Here, Skipped, SpotAs, Spot, Somewhere, Says}
-use Rattle.writer.specs.Standing.{first-of, first-kept, keep-from, keep-in, no-word, name-serves, serves-as, serves, one, entry, Entry, Kept, Keeps, On, At-node, Tells}
+use Rattle.writer.specs.Standing.{first-of, first-kept, keep-from, keep-in, no-word, name-serves, serves-as, serves, one, entry, Entry, Kept, Keeps, On, At-node, Sound-at, Tells}
 use Rattle.writer.specs.Verdict.{FirstAs, First}
 use Rattle.writer.proofs.Laws.{at-many, at-length, length-back, pop}
 use Rattle.writer.proofs.Spots.{back-last}
-use Rattle.writer.proofs.Places.{stands}
+use Rattle.writer.proofs.Places.{stands, first-is-last}
 
 -- ---------------------------------------------------------------- a place determines the trees before it
 pub at-one : {L : List ℕ} {p : ℕ} {s u : List Tree} → At L p s → At L p u → s ≡ u
@@ -159,14 +162,14 @@ pub record Two (L F : List ℕ) (base h p : ℕ) : Type 0 where
   pub kept : Kept F base (second ∷ (first ∷ rest))
   pub room : h ≤ base + length F
 
-pub a-pair : {L F : List ℕ} {base h p n : ℕ} → At-node L F base h p → Says L p count-in n → n ≡ 2 → Two L F base h p
+pub a-pair : {L F : List ℕ} {base h p : ℕ} → At-node L F base h p → Says L p count-in 2 → Two L F base h p
 unfolding count back
-a-pair {L} {F} {base} {h} {p} {n} y c e = go (y .kids) (y .here) (y .kept) (y .many) (c .how _ _ (stands (y .here)))
+a-pair {L} {F} {base} {h} {p} y c = go (y .kids) (y .here) (y .kept) (y .many) (c .how _ _ (stands (y .here)))
   where
     r : h ≤ base + length F
     r = y .room
 
-    go : (f : Forest) → At L p (node (y .kind) (y .value) f ∷ y .rest) → Kept F base (back f (y .rest)) → count f + length (y .rest) ≡ h → n ≡ count f → Two L F base h p
+    go : (f : Forest) → At L p (node (y .kind) (y .value) f ∷ y .rest) → Kept F base (back f (y .rest)) → count f + length (y .rest) ≡ h → 2 ≡ count f → Two L F base h p
     go none a k m z = absurd (omega arith)
     go (more t none) a k m z = absurd (omega arith)
     go (more t (more u none)) a k m z = record { kind = y .kind; value = y .value; first = t; second = u; rest = y .rest; here = a; last = pop a .under; many = omega arith; kept = k; room = r }
@@ -197,6 +200,28 @@ node-place y = record { tree = just (node (y .kind) (y .value) (y .kids)); rest 
 
 pub node-here : {L F : List ℕ} {base h p : ℕ} → At-node L F base h p → Here L p
 node-here y = record { top = node (y .kind) (y .value) (y .kids); rest = y .rest; here = y .here }
+
+-- the children of a kind
+sound-arity : (k v n : ℕ) → sound k v n ≡ true → (k ≡ NodeKind.List → ⊥) → n ≡ arity k
+unfolding sound
+sound-arity k v n e z = go (ltb NodeKind.Modifier k) (exceeds k v) refl refl
+  where
+    go : (a b : Bool) → ltb NodeKind.Modifier k ≡ a → exceeds k v ≡ b → n ≡ arity k
+    go true b x y = clash (rw x at e) refl
+    go false true x y = clash (rw (x, y) at e) refl
+    go false false x y = eqb-true n (arity k) (rw (x, y, ne-eqb k NodeKind.List z) at e)
+
+pub arity-at : {L F : List ℕ} {base h p k n : ℕ} → At-node L F base h p → Sound-at L p → Says L p kind-in k → k ≡ n → (n ≡ NodeKind.List → ⊥) → Says L p count-in (arity n)
+arity-at y w kind e z =
+    let k = sym (kind .how _ _ (stands (y .here))) ∙ e in
+    says-one (y .here) (sym (sound-arity (y .kind) (y .value) (count (y .kids)) (w .how _ _ (y .here)) (λ x. z (sym k ∙ x)) ∙ ap arity k))
+
+-- the only child is the first and the last
+pub the-only : {L F : List ℕ} {base h p : ℕ} (y : At-node L F base h p) → Says L p count-in 1 → (o : On L F base (h - 1) (p - 2)) × (first-tree (y .kids) ≡ just (o .top)) × (1 ≤ h)
+the-only y c =
+    let n = c .how _ _ (stands (y .here)) in
+    let x = last-on y (λ e. omega arith) in
+    (x .0, first-is-last (y .kids) (sym n) ∙ x .1, omega (arith, y .many))
 
 -- ---------------------------------------------------------------- whether a tree serves a `fun` with a target
 serves-is : (t : Tree) (s : List Tree) → serves t s ≡ serves-as (kind-in (just t)) (children-in (just t)) s

@@ -3,10 +3,10 @@ use mathlib.Core.Path.{_≡_, refl, sym, ap, _∙_}
 use mathlib.Core.List.{List, _∷_}
 use Prim.Native.Nat.{ℕ}
 use native.Mathlib.Omega.{arith}
-use Rattle.tree.specs.Tree.{Tree, node, none, more, count}
+use Rattle.tree.specs.Tree.{Tree, Forest, node, none, more, count}
 use Rattle.tree.specs.Maybe.{Maybe, nothing, just}
 use Rattle.writer.specs.Stack.{At, Here, SpotAs, Spot, Somewhere, Says, Last-of, Kid-of, kid-in}
-use Rattle.tables.specs.Children.{kind-in, count-in, children-in, first-tree, last-in}
+use Rattle.tables.specs.Children.{kind-in, count-in, children-in, first-tree, last-tree, last-in}
 use Rattle.tables.specs.Check.{class-of, class-in}
 
 -- a tree ends there
@@ -66,3 +66,10 @@ some-first (node k v none) n e = n refl
 some-first (node k v (more t f)) n e =
     let z : _≡_ {A = ℕ} 0 1 = cc in
     absurd (omega arith)
+
+-- an only child is the first and the last
+pub first-is-last : (f : Forest) → count f ≡ 1 → first-tree f ≡ last-tree f
+unfolding count last-tree
+first-is-last none e = absurd (omega arith)
+first-is-last (more t none) e = refl
+first-is-last (more t (more u f)) e = absurd (omega arith)

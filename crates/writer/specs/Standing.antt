@@ -1,6 +1,6 @@
 -- The trees that stand: finished, and their parents not yet visited. What their parents ask of them, and what is kept of them. Definitions; they assume nothing.
 use mathlib.Core.Path.{_≡_}
-use mathlib.Core.Bool.{Bool, false, cond, _&&_}
+use mathlib.Core.Bool.{Bool, true, false, cond, _&&_}
 use mathlib.Core.List.{List, [], _∷_}
 use Prim.Native.Nat.{ℕ, _+_, _*_, _-_, _≤_, _<_}
 use lib.Dec.{eqb, ltb, leb}
@@ -11,8 +11,9 @@ use Rattle.tree.specs.Maybe.{Maybe, nothing, just}
 use Rattle.tree.specs.Records.{stack-records, back}
 use Rattle.grammar.specs.Canonical.Write.{tail-of, target-atom, target-items, target-path, target-receiver}
 use Rattle.tables.specs.Choice.{if_then_else_}
-use Rattle.tables.specs.Children.{kind-in, value-in}
+use Rattle.tables.specs.Children.{kind-in, count-in, value-in}
 use Rattle.tables.specs.Kinds.{gives-name}
+use Rattle.tables.specs.Sound.{sound}
 use Rattle.tables.specs.Check.{class-of, begins-labelled}
 use Rattle.writer.specs.Stack.{At}
 
@@ -88,6 +89,10 @@ pub record At-node (L F : List ℕ) (base h p : ℕ) : Type 0 where
   pub many : count kids + length rest ≡ h
   pub kept : Kept F base (back kids rest)
   pub room : h ≤ base + length F
+
+-- the record of the node at p is sound, so that it has the children of its kind
+pub record Sound-at (L : List ℕ) (p : ℕ) : Type 0 where
+  pub how : (t : Tree) (s : List Tree) → At L p (t ∷ s) → sound (kind-in (just t)) (value-in (just t)) (count-in (just t)) ≡ true
 
 -- from which number on trees are kept with the last one, the number i, where there is room for n
 unfoldable pub first-kept : ℕ → ℕ → ℕ → ℕ

@@ -1,15 +1,14 @@
 // What is asked of a node by its own children, the last of the h trees that stand before it (standing.rt): its mode (mode.rt), whether it begins
-// with a label, and whether it serves a `fun` with a target. Where the children are kept no records are passed over. Of a node that has not the
-// children of its kind it is found in the records.
+// with a label, and whether it serves a `fun` with a target. Where the children are kept no records are passed over.
 ghost use mathlib.Core.Bool.{_&&_};
 ghost use Rattle.tree.specs.Maybe.{just};
 ghost use Rattle.tree.specs.Tree.{head-kind};
-ghost use Rattle.grammar.specs.Canonical.Write.{tail-of, target-atom as target-atom-def, target-path, target-receiver as target-receiver-def, is-target as is-target-def};
+ghost use Rattle.grammar.specs.Canonical.Write.{tail-of, target-atom as target-atom-def, target-path, is-target as is-target-def};
 ghost use Rattle.tables.specs.Children.{kind-in, count-in, value-in, children-in, last-in};
 ghost use Rattle.tables.specs.Class.{list-class as list-class-def};
 ghost use Rattle.tables.specs.Check.{function-form as function-form-def, inner-class, mode-of, begins-labelled as begins-labelled-def};
 ghost use Rattle.writer.specs.Stack.{Says, Skipped, kid-in};
-ghost use Rattle.writer.specs.Standing.{On, At-node, Tells, serves as serves-def};
+ghost use Rattle.writer.specs.Standing.{On, At-node, Sound-at, Tells, serves as serves-def};
 ghost use Rattle.writer.specs.Verdict.{First, Items};
 use crate::class::EMPTY;
 use crate::class::NAMED;
@@ -19,14 +18,12 @@ use crate::kinds::passes;
 use crate::kinds::target_atom;
 use crate::mode::inner_mode;
 use crate::records::count_at;
-use crate::records::kid_of;
 use crate::records::kind_at;
 use crate::records::value_at;
 use crate::standing::begin_of;
 use crate::standing::class_of;
 use crate::standing::labelled_of;
 use crate::standing::serves_of;
-use crate::target::function_form;
 use crate::target::function_serves;
 use crate::target::target_receiver;
 use tree::node;
@@ -46,12 +43,9 @@ fn target_by(records: &[u64], kept: &[u64], base: usize, i: usize, q: usize) -> 
 
 // What function_form says of the assignment that ends at p.
 fn form_by(records: &[u64], kept: &[u64], base: usize, h: usize, p: usize) -> u64
-    requires { ⌜ At-node (now records) (now kept) base h p ⌝ }
+    requires { ⌜ At-node (now records) (now kept) base h p × Says (now records) p count-in 2 ⌝ }
     ensures { λ r. ⌜ Says (now (records .entry)) p (λ m. function-form-def (children-in m)) r ⌝ }
 {
-    if count_at(records, p) != 2 {
-        return function_form(records, p);
-    }
     let function = p - 2;
     if kind_at(records, function) != node::FUNCTION_DEF {
         return 0;
@@ -87,19 +81,16 @@ fn list_by(records: &[u64], kept: &[u64], base: usize, h: usize, p: usize) -> u6
 
 // The mode of the function that ends at p: its signature's name.
 fn name_by(records: &[u64], kept: &[u64], base: usize, h: usize, p: usize) -> u64
-    requires { ⌜ At-node (now records) (now kept) base h p ⌝ }
+    requires { ⌜ At-node (now records) (now kept) base h p × Says (now records) p count-in 2 ⌝ }
     ensures { λ r. ⌜ Says (now (records .entry)) p (λ m. value-in (kid-in 1 m)) r ⌝ }
 {
-    if count_at(records, p) != 2 {
-        return value_at(records, kid_of(records, p, 1));
-    }
     let signature = begin_of(records, kept, base, h - 1, p - 2);
     value_at(records, signature)
 }
 
 // The mode of the node that ends at p.
 pub fn mode_by(records: &[u64], kept: &[u64], base: usize, h: usize, p: usize) -> u64
-    requires { ⌜ At-node (now records) (now kept) base h p ⌝ }
+    requires { ⌜ At-node (now records) (now kept) base h p × Sound-at (now records) p ⌝ }
     ensures { λ r. ⌜ Says (now (records .entry)) p (λ m. mode-of (kind-in m) (children-in m)) r ⌝ }
 {
     match kind_at(records, p) {
@@ -149,12 +140,9 @@ fn receiver_by(records: &[u64], kept: &[u64], base: usize, i: usize, q: usize) -
 
 // The same of the primary that ends at p.
 fn primary_by(records: &[u64], kept: &[u64], base: usize, h: usize, p: usize) -> bool
-    requires { ⌜ At-node (now records) (now kept) base h p ⌝ }
+    requires { ⌜ At-node (now records) (now kept) base h p × Says (now records) p count-in 2 ⌝ }
     ensures { λ r. ⌜ Tells (now (records .entry)) p (λ t s. target-atom-def (head-kind (children-in (just t))) && target-path (tail-of (children-in (just t)))) r ⌝ }
 {
-    if count_at(records, p) != 2 {
-        return target_receiver(records, p);
-    }
     let path = p - 2;
     if kind_at(records, path) != node::LIST {
         return target_receiver(records, p);
@@ -164,22 +152,6 @@ fn primary_by(records: &[u64], kept: &[u64], base: usize, h: usize, p: usize) ->
     }
     let atom = begin_of(records, kept, base, h - 1, path);
     target_atom(kind_at(records, atom))
-}
-
-// The same of the receiver of the pattern that ends at p, its first child.
-fn pattern_by(records: &[u64], kept: &[u64], base: usize, h: usize, p: usize) -> bool
-    requires { ⌜ At-node (now records) (now kept) base h p ⌝ }
-    ensures { λ r. ⌜ Tells (now (records .entry)) p (λ t s. target-receiver-def (children-in (just t))) r ⌝ }
-{
-    let n = count_at(records, p);
-    if n == 1 {
-        return receiver_by(records, kept, base, h - 1, p - 2);
-    }
-    if n == 2 {
-        let receiver = begin_of(records, kept, base, h - 1, p - 2);
-        return receiver_by(records, kept, base, h - 2, receiver);
-    }
-    target_receiver(records, kid_of(records, p, 1))
 }
 
 // Whether the node that ends at p, has the mode m and begins at b serves a `fun` with a target. `items` is whether all its children are members and indexes.
@@ -193,14 +165,17 @@ pub fn serves_by(
     b: usize,
     items: bool,
 ) -> bool
-    requires { ⌜ At-node (now records) (now kept) base h p × Says (now records) p (λ m. mode-of (kind-in m) (children-in m)) m × Skipped (now records) p b × Items (now records) p items ⌝ }
+    requires { ⌜ At-node (now records) (now kept) base h p × Sound-at (now records) p × Says (now records) p (λ m. mode-of (kind-in m) (children-in m)) m × Skipped (now records) p b × Items (now records) p items ⌝ }
     ensures { λ r. ⌜ Tells (now (records .entry)) p serves-def r ⌝ }
 {
     match kind_at(records, p) {
         node::LIST => items,
         node::PRIMARY => primary_by(records, kept, base, h, p),
-        node::ATTRIBUTE_PATTERN => pattern_by(records, kept, base, h, p),
-        node::INDEX_PATTERN => pattern_by(records, kept, base, h, p),
+        node::ATTRIBUTE_PATTERN => receiver_by(records, kept, base, h - 1, p - 2),
+        node::INDEX_PATTERN => {
+            let receiver = begin_of(records, kept, base, h - 1, p - 2);
+            receiver_by(records, kept, base, h - 2, receiver)
+        }
         node::FUNCTION_DEF => function_serves(records, p, m, b),
         _ => false,
     }

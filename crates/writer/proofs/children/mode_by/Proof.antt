@@ -1,13 +1,14 @@
 -- `writer::children::mode_by` meets its contract: each arm is the definition there. Assumes nothing.
 use mathlib.Core.Path.{_≡_, _∙_}
 use Prim.Native.Nat.{ℕ}
+use native.Mathlib.Omega.{arith}
 use Rattle.tables.specs.Children.{kind-in, children-in}
+use Rattle.tables.specs.Sound.{arity}
 use Rattle.tables.specs.Check.{inner-mode, mode-of}
 use Rattle.writer.specs.Stack.{Says}
 use Rattle.writer.proofs.Numbers.{tests}
 use Rattle.writer.proofs.Places.{by-kind, count-kids}
-use Rattle.writer.proofs.Keeping.{node-place}
-use borrow.Author.Needs.{needs}
+use Rattle.writer.proofs.Keeping.{node-place, arity-at}
 use Rattle.writer.proofs.children.mode_by.Statement.{statement}
 use Rattle.writer.proofs.children.mode_by.Tie as tie
 use Rattle.tree.proofs.Known.{known}
@@ -21,19 +22,23 @@ module _ (c : tie.After-kind-at) where
   arm = by-kind (λ k m. mode-of k (children-in m)) (c .kind-at .ensures)
 
 kind-at-requires : tie.Need-kind-at-requires
-kind-at-requires c κs = search node-place
+kind-at-requires c κs = node-place (known tie.Start (search) .pre .0)
 
 list-by-requires : tie.Need-list-by-requires
-list-by-requires c κs = search needs
+list-by-requires c κs = known tie.Start (search) .pre .0
 
 form-by-requires : tie.Need-form-by-requires
-form-by-requires c κs = search needs
+unfolding arity
+form-by-requires c κs = let y = known tie.Start (search) .pre in
+    (y .0, arity-at (y .0) (y .1) (known tie.After-kind-at (search) .kind-at .ensures) (known tie.At-match-keys2 (search) .match .keys2) (λ e. omega arith))
 
 name-by-requires : tie.Need-name-by-requires
-name-by-requires c κs = search needs
+unfolding arity
+name-by-requires c κs = let y = known tie.Start (search) .pre in
+    (y .0, arity-at (y .0) (y .1) (known tie.After-kind-at (search) .kind-at .ensures) (known tie.At-match-keys3 (search) .match .keys3) (λ e. omega arith))
 
 inner-mode-requires : tie.Need-inner-mode-requires
-inner-mode-requires c κs = search node-place
+inner-mode-requires c κs = node-place (known tie.Start (search) .pre .0)
 
 returns : tie.Need-returns
 unfolding mode-of

@@ -1,6 +1,7 @@
 -- `writer::legal::visit` meets its contract. Assumes nothing.
 use mathlib.Core.Path.{sym, _∙_}
 use borrow.Author.Tests.{not-true, not-false}
+use Rattle.writer.specs.Standing.{Sound-at}
 use Rattle.writer.proofs.Laws.{at-length}
 use Rattle.writer.proofs.Places.{stands}
 use Rattle.writer.proofs.Keeping.{node-place}
@@ -10,6 +11,14 @@ use borrow.Author.Needs.{needs}
 use Rattle.writer.proofs.legal.visit.Statement.{statement}
 use Rattle.writer.proofs.legal.visit.Tie as tie
 use Rattle.tree.proofs.Known.{known}
+
+-- its record is sound
+module _ (c : tie.Else1) where
+  sound-node : Sound-at (known tie.Start (search) .args .records .now) (known tie.Start (search) .args .p)
+  sound-node = let k = known tie.After-kind-at (search) .kind-at .ensures in
+      let v = known tie.After-value-at (search) .value-at .ensures in
+      let n = known tie.After-count-at (search) .count-at .ensures in
+      record { how = λ t s a. rw (← k .how _ s (stands a), ← v .how _ s (stands a), ← n .how _ s (stands a)) (sym (known tie.After-sound (search) .sound .ensures) ∙ not-false _ (c .if1 .left)) }
 
 kind-at-requires : tie.Need-kind-at-requires
 kind-at-requires c κs = search node-place
@@ -27,7 +36,7 @@ returns : tie.Need-returns
 returns c = record { how = λ t s a. node-unsound t (known tie.After-kind-at (search) .kind-at .ensures .how _ s (stands a)) (known tie.After-value-at (search) .value-at .ensures .how _ s (stands a)) (known tie.After-count-at (search) .count-at .ensures .how _ s (stands a)) (sym (known tie.After-sound (search) .sound .ensures) ∙ not-true _ (c .if1 .taken)) }
 
 mode-by-requires : tie.Need-mode-by-requires
-mode-by-requires c κs = search needs
+mode-by-requires c κs = (known tie.Start (search) .pre, sound-node (search))
 
 kids-fit-requires : tie.Need-kids-fit-requires
 kids-fit-requires c κs = search needs
@@ -45,7 +54,7 @@ labelled-by-requires : tie.Need-labelled-by-requires
 labelled-by-requires c κs = (known tie.Start (search) .pre, fit-first (known tie.After-kids-fit (search) .kids-fit .ensures) (known tie.After-r (search) .r .given .1))
 
 serves-by-requires : tie.Need-serves-by-requires
-serves-by-requires c κs = (known tie.Start (search) .pre, known tie.After-mode-by (search) .mode-by .ensures, fit-begins (known tie.After-kids-fit (search) .kids-fit .ensures) (known tie.After-r (search) .r .given .1), fit-items (known tie.After-kids-fit (search) .kids-fit .ensures) (known tie.After-r (search) .r .given .1))
+serves-by-requires c κs = (known tie.Start (search) .pre, sound-node (search), known tie.After-mode-by (search) .mode-by .ensures, fit-begins (known tie.After-kids-fit (search) .kids-fit .ensures) (known tie.After-r (search) .r .given .1), fit-items (known tie.After-kids-fit (search) .kids-fit .ensures) (known tie.After-r (search) .r .given .1))
 
 class-requires : tie.Need-class-requires
 class-requires c κs = search needs
