@@ -8,13 +8,13 @@ use native.Mathlib.Decide.{ℕ-discrete}
 use lib.Dec.{eqb}
 use borrow.Author.Tests.{eq-eqb, ne-eqb}
 use Rattle.tree.specs.NodeKind
-use Rattle.tree.specs.Tree.{Tree, Forest, node, none, more, count}
+use Rattle.tree.specs.Tree.{Tree, node, none, more}
 use Rattle.tree.specs.Maybe.{just}
 use Rattle.grammar.specs.Canonical.Write.{target-items, target-path, is-target, has-function}
 use Rattle.tables.specs.Choice.{where-zero}
 use Rattle.tables.specs.Class as Class
 use Rattle.tables.specs.Class.{class}
-use Rattle.tables.specs.Children.{kind-in, value-in, children-in, first-tree, last-tree}
+use Rattle.tables.specs.Children.{kind-in, value-in, children-in, first-tree}
 use Rattle.tables.specs.Check.{function-form, inner-mode, inner-class, mode-of, class-of}
 use Rattle.writer.specs.Standing.{serves-as, serves}
 use Rattle.writer.proofs.Targets.{has-is}

@@ -1,4 +1,4 @@
-// What is asked of a node by its own children, the last of the h trees that stand before it (standing.rt): its mode (mode.rt), whether it begins
+// What is found of a node by its own children, the last of the h trees that stand before it (standing.rt): its mode (mode.rt), whether it begins
 // with a label, and whether it serves a `fun` with a target. Where the children are kept no records are passed over.
 ghost use mathlib.Core.Bool.{_&&_};
 ghost use Rattle.tree.specs.Maybe.{just};

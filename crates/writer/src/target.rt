@@ -1,4 +1,4 @@
-// `fun` with a target: whether it can give an assignment.
+// `fun` with a target: whether it can give an assignment, and which trees serve it.
 ghost use mathlib.Core.Bool.{false, _&&_};
 ghost use Rattle.tree.specs.Tree.{head-kind};
 ghost use Rattle.tree.specs.Maybe.{just};

@@ -2,7 +2,7 @@
 use mathlib.Core.Path.{_∙_}
 use Prim.Native.Nat.{_≤_, _<_, _-_}
 use native.Mathlib.Omega.{arith}
-use lib.ListN.{length, length-set}
+use lib.ListN.{length}
 use Rattle.writer.specs.Standing.{keep-from, keep-in}
 use Rattle.writer.proofs.Numbers.{tests}
 use Rattle.writer.proofs.Keeping.{from-room}
