@@ -3,19 +3,10 @@
 Most are nests: levels around a core. A level has a gap: records that stand behind what is nested in it. A gap that is a sum has few trees that stand at a
 time; a wide one has so many that the decision for 65, with no words but its own, forgets what stands before it.
 """
-import os
-import re
-from shapes import (A, ADDED, DEPTH, ENDED, GROUPED, NAMED_SIGNATURE, NO_RESULT, NO_STATEMENTS, PATTERN, ROOT, SIGNATURE, STATED, assigned, big, call, chain,
+from shapes import (A, ADDED, DEPTH, ENDED, GROUPED, NAMED_SIGNATURE, NO_RESULT, NO_STATEMENTS, PATTERN, SIGNATURE, STATED, assigned, big, call, chain,
                     count, functions, integers, loop, nest, rec, right_nested, table, tupled)
+from room import ROOM  # in tools, where shapes looks too
 
-
-def own_words():
-    with open(os.path.join(ROOT, "crates", "writer", "src", "lib.rt"), encoding="utf-8") as source:
-        return int(re.search(r"^const ROOM: usize = (\d+);$", source.read(), re.MULTILINE).group(1))
-
-
-# How many words of its own the decision has: what stands before so many trees is forgotten.
-ROOM = own_words()
 # The gaps: a sum, of any length; a call and, with the fewest records, a tuple, as wide as the decision's own words.
 SUM, CALL, TUPLE = big(24576), call(integers(ROOM)), tupled(integers(ROOM))
 # How many times `a =` an argument of long_arguments has.

@@ -2,23 +2,12 @@
 
 In the order of the records a tree stands while it is finished and its parent has not come yet. crates/writer/src/standing.rt keeps a word for each.
 """
-import os
-import re
 from canonical import NODE
+from room import ROOM
 from trees import (LABELLED, MEMBER, SINGLE, UNNAMED, a_list, a_name, as_operand, assign, begin_end, block, body, field, function, group, index_pattern, item,
                    name_pattern, node, primary)
 
-SOURCE = os.path.join(os.path.dirname(os.path.dirname(os.path.abspath(__file__))), "crates", "writer", "src", "lib.rt")
 NAME = a_name(0)
-
-
-def own_words():
-    """how many words of its own the decision has"""
-    with open(SOURCE) as source:
-        return int(re.search("^const ROOM: usize = ([0-9]+);", source.read(), re.MULTILINE).group(1))
-
-
-ROOM = own_words()
 # What stands in rows beside the small tree, by the row's sort; mostly of few records.
 OPERANDS = [NAME] * 40 + [
     UNNAMED, LABELLED, group(SINGLE), begin_end([]), group(assign(MEMBER, UNNAMED, 1), 2), primary(NAME, node("Index", assign(MEMBER, UNNAMED, 2)))]
