@@ -25,3 +25,8 @@ pub const QUEUE_FULL: u64 = 64;
 pub const NO_STATEMENT: u64 = 65;
 
 pub const SHORT_OUTPUT: u64 = 66;
+
+// A break or continue that leads nowhere, with a label and without (document 02, P2).
+pub const OFFENDER_LABELLED: u64 = 67;
+
+pub const OFFENDER_UNLABELLED: u64 = 68;

@@ -16,7 +16,7 @@ use Rattle.grammar.specs.Reading.Result.{ifb}
 use Rattle.grammar.specs.Canonical.Need.{need}
 use Rattle.grammar.specs.Canonical.Write.{own}
 use Rattle.grammar.specs.Canonical.Writing.{readable, statement-words, Wrote, bare, written}
-use Rattle.grammar.specs.Laws.Facts.{not-true}
+use Rattle.grammar.specs.Laws.Facts.{not-true, by-test}
 use Rattle.grammar.specs.Theorems.{readable-valid, limit-exact}
 use Rattle.grammar.specs.declared.Written.{Written}
 use Rattle.grammar.specs.declared.Written.the-variants.{Tokens, Stopped, Refused}
@@ -51,15 +51,20 @@ other-way n d f g = go (leb n d) refl
     go true e = rw (e, le-ltb d n (leb-true n d e))
     go false e = rw (e, lt-ltb d n (leb-false n d e))
 
+-- a clean reading, limits aside, gives a tree exactly if the tables accept it
+pub readable-is : (t : Tree) → Small t → readable t ≡ legal-tree t
+readable-is t s =
+    by-test (legal-tree t)
+    (λ e. readable-valid t s .1 (legal-valid t e) ∙ sym e)
+    (λ e. not-true (readable t) (λ x. true≢false (sym (valid-legal (readable-valid t s .0 x)) ∙ e)) ∙ sym e)
+
 -- what grammar's definition answers of a tree
 pub illegal-tree : (t : Tree) → Small t → legal-tree t ≡ false → (m : ℕ) → written (just t) m ≡ bare m (Refused no-statement)
 unfolding ifb
-illegal-tree t s e m =
-    let r : readable t ≡ false = not-true (readable t) (λ x. true≢false (sym (valid-legal (readable-valid t s .0 x)) ∙ e)) in
-    rw r
+illegal-tree t s e m = rw (readable-is t s, e)
 
 pub legal-run : (t : Tree) → Small t → legal-tree t ≡ true → (m : ℕ) → written (just t) m ≡ run-out t m
 unfolding ifb run-out in-room
 legal-run t s e m =
     let v = legal-valid t e in
-    rw (readable-valid t s .1 v, limit-exact v, within-is v depth-limit, text-is v (Kind.Semicolon ∷ 0 ∷ [])) (sym (other-way (need t own) depth-limit (λ _. in-room (statement-words t) m) (λ _. bare m (Stopped too-deep))))
+    rw (readable-is t s, e, limit-exact v, within-is v depth-limit, text-is v (Kind.Semicolon ∷ 0 ∷ [])) (sym (other-way (need t own) depth-limit (λ _. in-room (statement-words t) m) (λ _. bare m (Stopped too-deep))))

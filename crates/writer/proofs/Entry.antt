@@ -19,7 +19,7 @@ use Rattle.writer.specs.Stack.{At, ShapeAs, Shape}
 pub shape-at : {L : List ℕ} {r b : Bool} → Shape L r → r ≡ b → ShapeAs L b
 shape-at h e = rw e at (h .how)
 
-at-small : {L : List ℕ} {p : ℕ} {t : Tree} → At L p (t ∷ []) → Small t
+pub at-small : {L : List ℕ} {p : ℕ} {t : Tree} → At L p (t ∷ []) → Small t
 unfolding Stack-small
 at-small a = a .small .0
 

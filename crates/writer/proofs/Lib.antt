@@ -17,4 +17,4 @@ mod Writing
 mod Nodes
 mod Sides
 mod Ending
-mod Entry
+pub mod Entry

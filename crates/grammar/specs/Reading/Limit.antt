@@ -39,3 +39,10 @@ no-statement = 65
 
 abbrev pub short-output : ℕ
 short-output = 66
+
+-- a break or continue that leads nowhere, with a label and without (document 02, P2)
+abbrev pub offender-labelled : ℕ
+offender-labelled = 67
+
+abbrev pub offender-unlabelled : ℕ
+offender-unlabelled = 68

@@ -1,0 +1,5 @@
+mod Tests
+mod Words
+mod Kept
+mod Pass
+mod Answers

@@ -1,0 +1,5 @@
+pub mod Offences
+pub mod Behind
+pub mod Entries
+pub mod Contract
+pub mod Sheets
