@@ -1,5 +1,4 @@
 mod Tests
-mod Words
 mod Kept
 mod Pass
 mod Answers

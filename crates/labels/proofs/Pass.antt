@@ -15,12 +15,13 @@ use Rattle.tree.specs.Rows.{Row, end, on, rows, width, SmallRow, Trees, ScanSte
 use Rattle.grammar.specs.Laws.Facts.{by-test}
 use Rattle.writer.specs.Stack.{At}
 use Rattle.writer.specs.Verdict.{Whole}
+use Rattle.writer.proofs.Entry.{at-small}
 use Rattle.labels.specs.declared.Labels.{Labels}
 use Rattle.labels.specs.declared.Labels.the-variants.{Fine}
 use Rattle.labels.specs.Offences.{offence, inside, first, noted}
 use Rattle.labels.specs.Behind.{enclosing, behind, Found}
 use Rattle.labels.specs.Entries.{Entry, held, around, standing, Full, entered, Entered, Stands, Round}
-use Rattle.labels.proofs.Words.{passed, last-child, other-child, two-words, behind-whole}
+use Rattle.labels.specs.Words.{passed, last-child, other-child, two-words, behind-records}
 use Rattle.labels.proofs.Kept.{length-held, standing-less, standing-more, standing-inside, Outside, entered-full, entered-outside, entered-last}
 
 -- what encloses the tree number i is among the entries: there is room for one more, or the tree lies outside of the last one
@@ -165,7 +166,11 @@ going-next {L} {F} {F′} {p} {pending} {n} {r} {q} {o} {found} g l s e t m =
     }
 
 -- the end
+whole-records : {L : List ℕ} {t : Tree} → At L (length L) (t ∷ []) → L ≡ records t
+unfolding stack-records
+whole-records {L} a = sym (take-length L) ∙ a .text
+
 pub going-end : {L F : List ℕ} {p pending n : ℕ} {found : Labels} → Going L F p pending n found → p ≤ 0 → Found L found
 going-end {L} {F} {p} g l =
     let z : p ≡ 0 = omega arith in
-    record { how = λ t a. (rw z at (g .so-far)) ∙ ap (first 0) (behind-whole a) }
+    record { how = λ t a. (rw z at (g .so-far)) ∙ ap (first 0) (ap behind (whole-records a) ∙ behind-records t (at-small a)) }

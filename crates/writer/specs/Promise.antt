@@ -50,7 +50,7 @@ pub data Outcome (words : List ℕ) (m : ℕ) : Wrote → Type 0 where
       → Outcome words m (record { answer = Tokens (suc (tokens (g .tree) own)); output = statement-words (g .tree) ++ replicate (m - room (g .tree)) 0 })
 
 -- ---------------------------------------------------------------- the answer is one of these
-given-valid : {words : List ℕ} (g : Given words) → Valid stmt (g .tree)
+pub given-valid : {words : List ℕ} (g : Given words) → Valid stmt (g .tree)
 given-valid g = valid-given (g .tree) .1 (g .by)
 
 -- the definition's test of depth says so
@@ -65,13 +65,13 @@ too-deep-is {t} h = go (leb (need t own) depth-limit) refl
     )
     go false e = ((λ x. next-back h depth-limit [] (run none) ∙ rw e), λ x. limit-exact h ∙ lt-ltb depth-limit (need t own) (leb-false (need t own) depth-limit e))
 
-readable-given : {words : List ℕ} (g : Given words) → readable (g .tree) ≡ true
+pub readable-given : {words : List ℕ} (g : Given words) → readable (g .tree) ≡ true
 readable-given g = readable-valid (g .tree) (valid-small (given-valid g)) .1 (given-valid g)
 
-given-decoded : {words : List ℕ} (g : Given words) → decode words ≡ just (g .tree)
+pub given-decoded : {words : List ℕ} (g : Given words) → decode words ≡ just (g .tree)
 given-decoded g = sym (ap decode (g .text)) ∙ decoded (given-valid g)
 
-decoded-given : {words : List ℕ} {t : Tree} → decode words ≡ just t → readable t ≡ true → Given words
+pub decoded-given : {words : List ℕ} {t : Tree} → decode words ≡ just t → readable t ≡ true → Given words
 decoded-given {t = t} d r = record { tree = t; text = decode-text d .0; by = valid-given t .0 (readable-valid t (decode-text d .1) .0 r) }
 
 shallow-is : {words : List ℕ} (g : Given words) → (Too-deep (g .tree) → ⊥) → exceeds-depth (g .tree) ≡ false

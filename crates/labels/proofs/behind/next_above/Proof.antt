@@ -8,7 +8,7 @@ use lib.ListN.{length, getD, drop, length-drop}
 use borrow.Author.Needs.{needs}
 use Rattle.labels.specs.Offences.{inside}
 use Rattle.labels.specs.Behind.{enclosing, is-last, further}
-use Rattle.labels.proofs.Words.{two-words, above, on, further-bounds, none-left}
+use Rattle.labels.specs.Words.{two-words, above, on, further-bounds, none-left}
 use Rattle.labels.proofs.behind.next_above.Statement.{statement}
 use Rattle.labels.proofs.behind.next_above.Tie as tie
 use Rattle.tree.proofs.Known.{known}

@@ -106,9 +106,7 @@ mutual
       ∙ ap (λ (y : List ℕ). offences (enclosing 1 x) t ++ y) (behind-trees (more u f) (s .1) w v x (omega arith))
       ∙ sym (append-assoc (offences (enclosing 1 x) t) (all-offences (enclosing 1 x) (inside (w % 256) v (enclosing 1 x)) (more u f)) (behind X))
 
--- of words that are one tree's
-pub behind-whole : {L : List ℕ} {t : Tree} → At L (length L) (t ∷ []) → behind L ≡ offences [] t
-unfolding stack-records Stack-small enclosing behind
-behind-whole {L} {t} a =
-    let e : L ≡ records t = sym (take-length L) ∙ a .text in
-    ap behind (e ∙ sym (append-nil (records t))) ∙ behind-tree t (a .small .0) [] ∙ append-nil (offences [] t)
+-- of all records of one tree
+pub behind-records : (t : Tree) → Small t → behind (records t) ≡ offences [] t
+unfolding enclosing behind
+behind-records t s = ap behind (sym (append-nil (records t))) ∙ behind-tree t s [] ∙ append-nil (offences [] t)
