@@ -1,6 +1,6 @@
 -- Laws of the entries that are kept: which stand, what they enclose, and one entry more. Assumes nothing.
 use mathlib.Core.Path.{_≡_, refl, sym, ap, _∙_}
-use mathlib.Core.Bool.{Bool, true, false, true≢false, _&&_, _||_}
+use mathlib.Core.Bool.{true, false, true≢false, _||_}
 use mathlib.Core.List.{List, [], _∷_}
 use Prim.Native.Nat.{ℕ, zero, suc, _+_, _*_, _-_, _≤_, _<_}
 use native.Mathlib.Numerals.{add-one}
@@ -11,8 +11,7 @@ use lib.Seq.{getD-set-same, getD-set-other}
 use borrow.Author.Tests.{lt-ltb, le-ltb, ltb-true, ltb-false, ne-eqb, eqb-false}
 use Rattle.tree.specs.NodeKind
 use Rattle.grammar.specs.Laws.Facts.{by-test}
-use Rattle.tables.specs.Choice.{if_then_else_}
-use Rattle.labels.specs.Offences.{Enclosing, loop, block, means, any-serves, inside}
+use Rattle.labels.specs.Offences.{Enclosing, any-serves, inside}
 use Rattle.labels.specs.Entries.{Entry, held, around, standing, encloses, node-serves, Full, entered}
 
 -- ---------------------------------------------------------------- the words that hold entries
@@ -59,16 +58,13 @@ held-stored F n k l h r =
 -- a node of another kind encloses nothing
 encloses-not : (k l : ℕ) (r : List Enclosing) → encloses k ≡ false → inside k l r ≡ r
 unfolding encloses inside
-encloses-not k l r = go (eqb k NodeKind.Loop) (eqb k NodeKind.WhileLoop) (eqb k NodeKind.ForLoop) (eqb k NodeKind.Block) (eqb k NodeKind.FunctionDef)
-  where
-    go : (a b c d e : Bool) → (if a then true else if b then true else if c then true else if d then true else if e then true else false) ≡ false
-        → (if a then loop l ∷ r else if b then loop l ∷ r else if c then loop l ∷ r else if d then block l ∷ r else if e then [] else r) ≡ r
-    go true b c d e p = absurd (true≢false p)
-    go false true c d e p = absurd (true≢false p)
-    go false false true d e p = absurd (true≢false p)
-    go false false false true e p = absurd (true≢false p)
-    go false false false false true p = absurd (true≢false p)
-    go false false false false false p = refl
+encloses-not k l r e =
+    by-test (eqb k NodeKind.Loop) (λ a. absurd (true≢false (rw a at e))) λ a.
+    by-test (eqb k NodeKind.WhileLoop) (λ b. absurd (true≢false (rw (a, b) at e))) λ b.
+    by-test (eqb k NodeKind.ForLoop) (λ c. absurd (true≢false (rw (a, b, c) at e))) λ c.
+    by-test (eqb k NodeKind.Block) (λ d. absurd (true≢false (rw (a, b, c, d) at e))) λ d.
+    by-test (eqb k NodeKind.FunctionDef) (λ f. absurd (true≢false (rw (a, b, c, d, f) at e))) λ f.
+    rw (a, b, c, d, f)
 
 -- what serves inside of a node: nothing in a function, else the node, or what encloses it
 module _ (k l j m : ℕ) (r : List Enclosing) where
@@ -78,16 +74,12 @@ module _ (k l j m : ℕ) (r : List Enclosing) where
 
   serves-inside : (j ≡ NodeKind.FunctionDef → ⊥) → any-serves k l (inside j m r) ≡ node-serves k l j m || any-serves k l r
   unfolding inside node-serves
-  serves-inside n = go (eqb j NodeKind.Loop) (eqb j NodeKind.WhileLoop) (eqb j NodeKind.ForLoop) (eqb j NodeKind.Block) (ne-eqb j NodeKind.FunctionDef n)
-    where
-      go : (a b c d : Bool) {e : Bool} → e ≡ false
-          → any-serves k l (if a then loop m ∷ r else if b then loop m ∷ r else if c then loop m ∷ r else if d then block m ∷ r else if e then [] else r)
-          ≡ (if a then means l m else if b then means l m else if c then means l m else if d then eqb k NodeKind.Break && means l m else false) || any-serves k l r
-      go true b c d p = refl
-      go false true c d p = refl
-      go false false true d p = refl
-      go false false false true p = refl
-      go false false false false p = rw p
+  serves-inside n =
+      by-test (eqb j NodeKind.Loop) (λ a. rw a) λ a.
+      by-test (eqb j NodeKind.WhileLoop) (λ b. rw (a, b)) λ b.
+      by-test (eqb j NodeKind.ForLoop) (λ c. rw (a, b, c)) λ c.
+      by-test (eqb j NodeKind.Block) (λ d. rw (a, b, c, d)) λ d.
+      rw (a, b, c, d, ne-eqb j NodeKind.FunctionDef n)
 
   pub node-does : (j ≡ NodeKind.FunctionDef → ⊥) → node-serves k l j m ≡ true → any-serves k l (inside j m r) ≡ true
   node-does n e = serves-inside n ∙ rw e

@@ -1,17 +1,15 @@
 -- Where the pass over the records stands, and one record further. Assumes nothing.
 use mathlib.Core.Path.{_≡_, refl, sym, ap, _∙_}
-use mathlib.Core.Bool.{true, false}
-use mathlib.Core.List.{List, [], _∷_, append-nil}
+use mathlib.Core.List.{List, [], _∷_}
 use Prim.Native.Nat.{ℕ, zero, suc, _+_, _*_, _-_, _/_, _%_, _≤_, _<_}
-use native.Mathlib.Numerals.{add-one}
 use native.Mathlib.Omega.{arith}
 use lib.Dec.{eqb, ltb}
 use lib.ListN.{length, getD, take, drop}
-use lib.Seq.{take-length, drop-length, drop-cons}
+use lib.Seq.{take-length, drop-length}
 use borrow.Author.Tests.{ltb-true, ltb-false, eqb-true, eqb-false}
 use Rattle.tree.specs.Tree.{Tree, records}
-use Rattle.tree.specs.Records.{Small, stack-records, Stack-small}
-use Rattle.tree.specs.Rows.{Row, end, on, rows, width, SmallRow, Trees, ScanStep, scan-step, enough, ended}
+use Rattle.tree.specs.Records.{stack-records, Stack-small}
+use Rattle.tree.specs.Rows.{end, on, rows, width, SmallRow, Trees, scan-step, enough, ended}
 use Rattle.grammar.specs.Laws.Facts.{by-test}
 use Rattle.writer.specs.Stack.{At}
 use Rattle.writer.specs.Verdict.{Whole}
@@ -22,7 +20,7 @@ use Rattle.labels.specs.Offences.{offence, inside, first, noted}
 use Rattle.labels.specs.Behind.{enclosing, behind, Found}
 use Rattle.labels.specs.Entries.{Entry, held, around, standing, Full, entered, Entered, Stands, Round}
 use Rattle.labels.specs.Words.{passed, last-child, other-child, two-words, behind-records}
-use Rattle.labels.proofs.Kept.{length-held, standing-less, standing-more, standing-inside, Outside, entered-full, entered-outside, entered-last}
+use Rattle.labels.proofs.Kept.{standing-less, standing-more, standing-inside, Outside, entered-full, entered-outside, entered-last}
 
 -- what encloses the tree number i is among the entries: there is room for one more, or the tree lies outside of the last one
 abbrev pub Known : ℕ → List Entry → ℕ → Type 0

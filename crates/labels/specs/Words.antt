@@ -6,14 +6,13 @@ use Prim.Native.Nat.{ℕ, suc, _+_, _*_, _-_, _/_, _%_, _≤_, _<_}
 use native.Mathlib.Omega.{arith}
 use lib.Dec.{eqb, ltb}
 use lib.ListN.{length, getD, drop}
-use lib.Seq.{take-length, drop-cons}
+use lib.Seq.{drop-cons}
 use borrow.Author.Tests.{lt-ltb, le-ltb, ltb-true, ne-eqb, eqb-true}
 use Rattle.tree.specs.Tree.{Tree, Forest, node, none, more, count, records, all-records}
-use Rattle.tree.specs.Records.{Small, Smalls, stack-records, Stack-small}
+use Rattle.tree.specs.Records.{Small, Smalls}
 use Rattle.grammar.specs.Reading.Result.{ifb}
 use Rattle.grammar.specs.Laws.Facts.{by-test}
-use Rattle.writer.specs.Stack.{At}
-use Rattle.labels.specs.Offences.{Enclosing, offence, inside, offences, all-offences}
+use Rattle.labels.specs.Offences.{Enclosing, inside, offences, all-offences}
 use Rattle.labels.specs.Behind.{further, is-last, enclosing, behind}
 
 -- ---------------------------------------------------------------- one record further

@@ -4,7 +4,6 @@ use Prim.Native.Nat.{_+_, _*_, _-_, _/_, _≤_}
 use native.Mathlib.Omega.{arith}
 use lib.ListN.{length, getD}
 use borrow.Author.Needs.{needs}
-use Rattle.labels.specs.Entries.{Stands}
 use Rattle.labels.proofs.Pass.{Going, Ahead, going-start, ahead, round-at, going-next, going-end}
 use Rattle.labels.proofs.first_offender.Statement.{statement}
 use Rattle.labels.proofs.first_offender.Tie as tie

@@ -1,12 +1,10 @@
 -- `labels::entries::enter` meets its contract. Assumes nothing.
-use mathlib.Core.Path.{_≡_, sym, ap, _∙_}
-use mathlib.Core.Bool.{false}
-use Prim.Native.Nat.{_+_, _*_, _≤_, _<_}
+use mathlib.Core.Path.{sym, _∙_}
 use native.Mathlib.Omega.{arith}
-use lib.ListN.{length, length-set}
+use lib.ListN.{length-set}
 use borrow.Author.Needs.{needs}
 use borrow.Author.Tests.{not-true, not-false}
-use Rattle.labels.specs.Entries.{held, encloses}
+use Rattle.labels.specs.Entries.{encloses}
 use Rattle.labels.proofs.Kept.{length-held, held-stored, entered-none, entered-not, entered-full, entered-one}
 use Rattle.labels.proofs.entries.enter.Statement.{statement}
 use Rattle.labels.proofs.entries.enter.Tie as tie

@@ -3,7 +3,7 @@ use mathlib.Core.Path.{_≡_, refl, sym, ap, _∙_}
 use mathlib.Core.List.{List}
 use Prim.Native.Nat.{ℕ, _+_, _*_, _-_, _≤_, _<_}
 use native.Mathlib.Omega.{arith}
-use lib.ListN.{length, getD}
+use lib.ListN.{getD}
 use borrow.Author.Tests.{le-ltb, lt-ltb}
 use Rattle.labels.specs.Entries.{held, standing}
 use Rattle.labels.proofs.Kept.{held-last, held-none}
@@ -52,7 +52,7 @@ shared-slice-read-if1 c = omega arith
 
 returns : tie.Need-returns Inv-loop μ-loop
 returns c = let v = known (tie.At-loop Inv-loop μ-loop) (search) .loop .inv in
-    record { words = sym (v .1 ∙ stands _ _ _ (known (tie.In-loop Inv-loop μ-loop) (search) .loop-test .taken) (c .if1 .taken)); fewer = v .0 }
+    record { words = sym (v .1 ∙ stands _ _ _ (known (tie.In-loop Inv-loop μ-loop) (search) .loop-test .taken) (omega (arith, c .if1 .taken))); fewer = v .0 }
 
 sub-i : tie.Need-sub-i Inv-loop μ-loop
 sub-i c = omega arith
@@ -62,7 +62,7 @@ loop-less c = omega arith
 
 loop-again : tie.Need-loop-again Inv-loop μ-loop
 loop-again c = let v = known (tie.At-loop Inv-loop μ-loop) (search) .loop .inv in
-    (omega arith, v .1 ∙ left-out _ _ _ (known (tie.In-loop Inv-loop μ-loop) (search) .loop-test .taken) (c .if1 .left))
+    (omega arith, v .1 ∙ left-out _ _ _ (known (tie.In-loop Inv-loop μ-loop) (search) .loop-test .taken) (omega (arith, c .if1 .left)))
 
 returns-2 : tie.Need-returns-2 Inv-loop μ-loop
 returns-2 c = let v = known (tie.At-loop Inv-loop μ-loop) (search) .loop .inv in
