@@ -1,4 +1,4 @@
-/* What the programs that call the writer share: the words of standard input, and processor time. */
+/* What the programs that call the writer or the check of labels share: the words of standard input, and processor time. */
 #ifndef RECORDS_H
 #define RECORDS_H
 

@@ -2,18 +2,14 @@
  * run on a thread whose stack was painted; the depth is from the frame that calls down to the lowest word that is not as painted. The exit
  * status is 1 if that is more than hosts are told to give. */
 #define _GNU_SOURCE
-#include <pthread.h>
-#include <sys/mman.h>
 #include "leatherlava.h"
+#include "painted.h"
 #include "sheet.h"
 
-enum { SHARE = 16, STACK_WORDS = 1 << 18 };
-#define PAINT UINT64_C(0xA5A5A5A55A5A5A5A)
+enum { SHARE = 16, STACK_BYTES = 1 << 21 };
 
-static uint64_t *stack;
 static uint64_t *store;
 static size_t part;
-static uintptr_t top;
 static struct leatherlava_answer answer;
 
 static void *read_part(void *unused) {
@@ -29,22 +25,13 @@ static void *read_part(void *unused) {
 
 int main(void) {
     static const char *const variants[] = {"tree", "error", "end", "stopped", "refused"};
-    pthread_attr_t attributes;
-    pthread_t thread;
     int status = 0;
     read_sheets();
     store = malloc((SHARE * words_n / 2 + 1) * sizeof *store);
-    stack = mmap(NULL, STACK_WORDS * sizeof *stack, PROT_READ | PROT_WRITE, MAP_PRIVATE | MAP_ANONYMOUS, -1, 0);
-    if (store == NULL || stack == MAP_FAILED) return 2;
+    if (store == NULL) return 2;
+    uint64_t *stack = make_stack(STACK_BYTES);
     for (part = 0; part < parts_n; part++) {
-        for (size_t i = 0; i < STACK_WORDS; i++) stack[i] = PAINT;
-        pthread_attr_init(&attributes);
-        pthread_attr_setstack(&attributes, stack, STACK_WORDS * sizeof *stack);
-        if (pthread_create(&thread, &attributes, read_part, NULL) != 0) return 2;
-        pthread_join(thread, NULL);
-        size_t low = 0;
-        while (low < STACK_WORDS && stack[low] == PAINT) low++;
-        size_t bytes = top - (uintptr_t)(stack + low);
+        size_t bytes = stack_used(stack, STACK_BYTES, read_part);
         printf("%s | answer=%s number=%llu bytes=%zu\n", names[part], variants[answer.variant], (unsigned long long)answer.number, bytes);
         if (bytes > LEATHERLAVA_READER_STACK) {
             fprintf(stderr, "%s: more stack than host/leatherlava.h says\n", names[part]);

@@ -1,27 +1,35 @@
 /* timed CALLS < STATEMENTS: the processor time that the proved writer takes for statements one behind the other, each into an output that its tokens
  * fill. A statement is the number of its words, and its words. Compiled with BEFORE it calls a second library of the writer, too, in turn with the
- * first. Prints the tokens of each statement, and for each library the median of CALLS times in seconds. */
+ * first; compiled with LABELS the check of labels in turn with the writer. Prints the tokens of each statement, and for each function the median
+ * of CALLS times in seconds, the check before the writer. */
 #define _GNU_SOURCE
 #include "leatherlava.h"
 #include "records.h"
 
 enum { MOST_STATEMENTS = 1 << 18 };
 
-typedef struct leatherlava_answer writer(const uint64_t *, size_t, uint64_t *, size_t);
+typedef struct leatherlava_answer timed(const uint64_t *, size_t, uint64_t *, size_t);
 struct statement { const uint64_t *records; size_t records_n, tokens; };
 
-#ifdef BEFORE
-writer leatherlava_write_before;
-static writer *const writers[] = {leatherlava_write_stmt, leatherlava_write_before};
+#if defined(BEFORE)
+timed leatherlava_write_before;
+static timed *const functions[] = {leatherlava_write_stmt, leatherlava_write_before};
+#elif defined(LABELS)
+/* The check, called as the writer is; it has no output. */
+static struct leatherlava_answer check(const uint64_t *records, size_t records_n, uint64_t *unused, size_t unused_n) {
+    (void)unused, (void)unused_n;
+    return (struct leatherlava_answer){LEATHERLAVA_REFUSED, leatherlava_check_labels(records, records_n).number};
+}
+static timed *const functions[] = {check, leatherlava_write_stmt};
 #else
-static writer *const writers[] = {leatherlava_write_stmt};
+static timed *const functions[] = {leatherlava_write_stmt};
 #endif
-enum { WRITERS = sizeof writers / sizeof *writers };
+enum { FUNCTIONS = sizeof functions / sizeof *functions };
 
 static struct statement statements[MOST_STATEMENTS];
 static size_t statements_n;
 static uint64_t *output;
-static double *seconds[WRITERS];
+static double *seconds[FUNCTIONS];
 
 /* Takes the words apart and finds the tokens of each statement. An output of three words for each word of the records is never too short. */
 static void read_statements(void) {
@@ -43,9 +51,9 @@ static void read_statements(void) {
     }
 }
 
-static double write_all(writer *write) {
+static double time_all(timed *function) {
     double begun = now();
-    for (size_t i = 0; i < statements_n; i++) write(statements[i].records, statements[i].records_n, output, 2 * statements[i].tokens);
+    for (size_t i = 0; i < statements_n; i++) function(statements[i].records, statements[i].records_n, output, 2 * statements[i].tokens);
     return now() - begun;
 }
 
@@ -60,11 +68,11 @@ int main(int argc, char **argv) {
     if (calls == 0) return 2;
     read_statements();
     printf("\n");
-    for (size_t k = 0; k < WRITERS; k++)
+    for (size_t k = 0; k < FUNCTIONS; k++)
         if ((seconds[k] = malloc(calls * sizeof *seconds[k])) == NULL) return 2;
     for (size_t i = 0; i < calls; i++)
-        for (size_t k = 0; k < WRITERS; k++) seconds[k][i] = write_all(writers[k]);
-    for (size_t k = 0; k < WRITERS; k++) {
+        for (size_t k = 0; k < FUNCTIONS; k++) seconds[k][i] = time_all(functions[k]);
+    for (size_t k = 0; k < FUNCTIONS; k++) {
         qsort(seconds[k], calls, sizeof *seconds[k], order);
         printf("%.9f ", seconds[k][calls / 2]);
     }

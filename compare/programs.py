@@ -1,4 +1,4 @@
-"""What compare/run and compare/levels share: the three programs, the sheets of oracle/gen.py, and what a program prints of each sheet."""
+"""What the commands here share: the published parser's two programs, the drivers, the sheets of oracle/gen.py, and what a program prints of each sheet."""
 import os
 import subprocess
 import sys
@@ -12,13 +12,24 @@ from library import library
 from published import warn
 
 
-def build(sources, folder):
-    """the commands of the three programs: the driver, oracle01 and oracle"""
+def oracles(sources, folder):
+    """the published parser without limits, and with the documents' limits and answers"""
     warn(sources)
     subprocess.run([os.path.join(ORACLE, "build.sh"), sources, folder], check=True, stdout=subprocess.DEVNULL)
-    driver = os.path.join(folder, "driver")
-    subprocess.run(["cc", "-O2", "-I", os.path.join(ROOT, "host"), os.path.join(HERE, "driver.c"), library("parser"), "-o", driver], check=True)
-    return [[driver], [os.path.join(folder, "oracle01"), "--state"], [os.path.join(folder, "oracle"), "--state"]]
+    return os.path.join(folder, "oracle"), os.path.join(folder, "oracle01")
+
+
+def driver(name, crate, folder):
+    """NAME.c over the library of a crate"""
+    program = os.path.join(folder, name)
+    subprocess.run(["cc", "-O2", "-I", os.path.join(ROOT, "host"), os.path.join(HERE, name + ".c"), library(crate), "-o", program], check=True)
+    return program
+
+
+def build(sources, folder):
+    """the commands of the reader's driver, oracle01 and oracle"""
+    oracle, oracle01 = oracles(sources, folder)
+    return [[driver("driver", "parser", folder)], [oracle01, "--state"], [oracle, "--state"]]
 
 
 def generated(*words):

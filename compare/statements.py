@@ -1,4 +1,5 @@
-"""Trees by their places for compare/writer: labels and tuples of one member down the edges of others, and trees made by what each place takes."""
+"""Trees by their places for compare/writer and, through jumps.py, for compare/labels: labels and tuples of one member down the edges of others, and trees
+made by what each place takes."""
 from canonical import NODE, NODES
 from trees import (ACTIONS, ASSIGNMENTS, MEMBER, VALUES, Drawn, a_list, a_name, assign, begin_end, block, body, field, function, group, index_pattern, item,
                    name_pattern, node, primary)
@@ -118,6 +119,9 @@ class Places(Drawn):
             self.statement, self.control, self.body, self.block, self.expr, self.operand, self.tight, self.atom, self.item, self.field, self.signature,
             self.function, self.pattern, self.any_list, self.any_node))(depth)
 
+    def label(self):
+        return self.number()
+
     def any_list(self, depth):
         return a_list(*self.some(self.anything, depth - 1))
 
@@ -131,13 +135,13 @@ class Places(Drawn):
         return node("Expression", self.expr(depth))
 
     def loop(self, depth):
-        return node("Loop", self.body(depth), value=self.number())
+        return node("Loop", self.body(depth), value=self.label())
 
     def while_loop(self, depth):
-        return node("WhileLoop", self.expr(depth), self.body(depth), value=self.number())
+        return node("WhileLoop", self.expr(depth), self.body(depth), value=self.label())
 
     def for_loop(self, depth):
-        return node("ForLoop", self.pattern(depth), self.expr(depth), self.body(depth), value=self.number())
+        return node("ForLoop", self.pattern(depth), self.expr(depth), self.body(depth), value=self.label())
 
     def assertion(self, depth):
         return node("Assert", self.expr(depth))
@@ -146,10 +150,10 @@ class Places(Drawn):
         return self.one_of(depth, self.continuing, self.breaking, self.returning)
 
     def continuing(self, depth):
-        return node("Continue", value=self.number())
+        return node("Continue", value=self.label())
 
     def breaking(self, depth):
-        return node("Break", self.maybe(self.expr, depth), value=self.number())
+        return node("Break", self.maybe(self.expr, depth), value=self.label())
 
     def returning(self, depth):
         return node("Return", self.maybe(self.expr, depth))
@@ -212,7 +216,7 @@ class Places(Drawn):
         return node("IfExpr", a_list(*branches), self.maybe(self.block, depth))
 
     def labelled(self, depth):
-        return node("Block", self.block(depth), value=self.number())
+        return node("Block", self.block(depth), value=self.label())
 
     def modified(self, depth):
         """a modifier in parentheses, mostly before an assignment with its action"""

@@ -1,6 +1,6 @@
-"""Trees for compare/writer: their records, changed and altered ones, the parts that others are made of, and ones wrapped in more levels.
+"""Trees for compare/writer and compare/labels: their records, changed and altered ones, the parts that others are made of, and ones wrapped in more levels.
 
-functions.py, statements.py and standing.py make others. A tree is (kind, value, [trees]) as in tools/canonical.py; a record is (first word, value), and
+functions.py, statements.py, standing.py and jumps.py make others. A tree is (kind, value, [trees]) as in tools/canonical.py; a record is (first word, value), and
 a tree's records are those of docs/TREE.md.
 """
 import functools

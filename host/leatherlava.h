@@ -1,5 +1,6 @@
-/* The proved statement reader and the proved writer of canonical tokens, for C and C++. Link target/staticlib/libparser.a for the reader and
- * target/staticlib/libwriter.a for the writer: `rt staticlib parser` and `rt staticlib writer` write them. README.md beside this file says how.
+/* The proved statement reader, the proved writer of canonical tokens and the proved check of labels, for C and C++. Link target/staticlib/libparser.a for the reader,
+ * target/staticlib/libwriter.a for the writer and target/staticlib/liblabels.a for the check: `rt staticlib parser`, `rt staticlib writer` and `rt staticlib labels` write them.
+ * README.md beside this file says how.
  *
  * Units: a word has 64 bits. An argument whose name ends in _n counts the words behind the pointer before it. A token is two words (docs/TOKENS.md);
  * a record, one for each node of a tree, is two words, too (docs/TREE.md).
@@ -19,11 +20,12 @@ extern "C" {
 #endif
 
 /* The stack to give a call, in bytes below the frame that calls. It does not grow with a sheet or a tree: a reading is at most 37 deep and then stops with 62, and so
- * does the writing. The deepest that was found takes 178,960 bytes in the reader and 244,040 in the writer, of these libraries, for x86-64; it is measured, not
- * proved (docs/BENCHMARK.md, docs/WRITER.md). Built for another machine they have other frames: measure them there. */
+ * does the writing; the check does not recurse. The deepest that was found takes 178,960 bytes in the reader, 244,040 in the writer and STACKBYTES in the check, of these libraries, for x86-64; it is
+ * measured, not proved (docs/BENCHMARK.md, docs/WRITER.md, docs/LABELS.md). Built for another machine they have other frames: measure them there. */
 enum leatherlava_stack {
     LEATHERLAVA_READER_STACK = 256 * 1024,
-    LEATHERLAVA_WRITER_STACK = 320 * 1024
+    LEATHERLAVA_WRITER_STACK = 320 * 1024,
+    LEATHERLAVA_LABELS_STACK = 64 * 1024
 };
 
 /* A reader is fresh with every field 0. Each call takes it as the call before left it. */
@@ -60,6 +62,17 @@ struct leatherlava_answer leatherlava_next_stmt(size_t *position, size_t *waitin
  * does not, the answer is a refusal 66. How many tokens there are is not known before the call, but there are at most three for each record
  * (docs/WRITER.md, section 1): with output_n = 3 * records_n no answer is 66. */
 struct leatherlava_answer leatherlava_write_stmt(const uint64_t *records, size_t records_n, uint64_t *output, size_t output_n);
+
+/* What the check of labels answers: number 0 where nothing is wrong, else the number of the refusal (docs/NUMBERS.md) and the number, from 0, of the record that it is
+ * for: 67 or 68 and the first break or continue that leads nowhere, with a label or without; or 65 and 0. */
+struct leatherlava_labels {
+    uint64_t number;
+    uint64_t record_number;
+};
+
+/* Whether each break and continue of the statement whose records these are has round it what it leaves or goes on with (docs/LABELS.md). records_n is 2 * number of a
+ * tree that was read; the record number i is the words records[2 * i] and records[2 * i + 1]. */
+struct leatherlava_labels leatherlava_check_labels(const uint64_t *records, size_t records_n);
 
 /* Reads the next statement of a sheet. tokens_n is two words for each token, at most 65,536 tokens. store_n is at least 16 words for each unread token, so
  * 16 * (tokens_n / 2 - position); a shorter store is answered with a refusal 63, unless a waiting error is answered, which needs no store. */
