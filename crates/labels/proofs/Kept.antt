@@ -1,6 +1,6 @@
 -- Laws of the entries that are kept: which stand, what they enclose, and one entry more. Assumes nothing.
 use mathlib.Core.Path.{_≡_, refl, sym, ap, _∙_}
-use mathlib.Core.Bool.{true, false, true≢false, _||_}
+use mathlib.Core.Bool.{Bool, true, false, true≢false, _||_}
 use mathlib.Core.List.{List, [], _∷_}
 use Prim.Native.Nat.{ℕ, zero, suc, _+_, _*_, _-_, _≤_, _<_}
 use native.Mathlib.Numerals.{add-one}
@@ -38,6 +38,14 @@ pub held-same : (F G : List ℕ) (n : ℕ) → ((i : ℕ) → i < 3 * n → getD
 unfolding held
 held-same F G zero h = refl
 held-same F G (suc n) h = rw (h (3 * n) (omega arith), h (3 * n + 1) (omega arith), h (3 * n + 2) (omega arith), held-same F G n (λ i l. h i (omega arith)))
+
+-- what the test for room says
+module _ (F : List ℕ) (n : ℕ) {b : Bool} (e : b ≡ ltb (length F - 3 * n) 3) where
+  pub is-full : b ≡ true → Full (length F) (held F n)
+  is-full t = omega (arith, length-held F n, ltb-true (length F - 3 * n) 3 (sym e ∙ t))
+
+  pub has-room : b ≡ false → 3 * n + 3 ≤ length F
+  has-room t = omega (arith, ltb-false (length F - 3 * n) 3 (sym e ∙ t))
 
 -- one more is stored behind them
 pub held-stored : (F : List ℕ) (n k l h : ℕ) → 3 * n + 3 ≤ length F → held (set (set (set F (3 * n) k) (3 * n + 1) l) (3 * n + 2) h) (n + 1) ≡ record { kind = k; label = l; from = h } ∷ held F n

@@ -1,7 +1,8 @@
 // What is kept of the nodes that enclose a place: loops, blocks and functions, three words each, the innermost last. A node's last child, its body, ends where the
 // node's record begins, so its entry stands as long as no fewer trees are still to be visited than then. Where there is no room for one more, none is kept.
 ghost use mathlib.Core.Path.{_≡_};
-ghost use Prim.Native.Nat.{_*_, _≤_};
+ghost use Prim.Native.Nat.{_*_, _-_, _≤_};
+ghost use lib.Dec.{ltb};
 ghost use lib.ListN.{length};
 ghost use Rattle.labels.specs.Offences.{any-serves, means as means-def};
 ghost use Rattle.labels.specs.Entries.{held, around, encloses as encloses-def, node-serves as node-serves-def, Entered, Stands};
@@ -86,6 +87,14 @@ pub fn standing(kept: &[u64], n: usize, pending: u64) -> usize
     i
 }
 
+// Whether there is no room for one entry more behind the first n.
+pub fn is_full(kept: &[u64], n: usize) -> bool
+    requires { ⌜ 3 * n ≤ length (now kept) ⌝ }
+    ensures { λ r. ⌜ r ≡ ltb (length (now (kept .entry)) - 3 * n) 3 ⌝ }
+{
+    kept.len() - ENTRY * n < ENTRY
+}
+
 // Keeps an entry behind the first n for a node with so many children, if it encloses the last of them and there is room; answers how many are kept then. So many
 // trees are pending behind it, the last child first.
 pub fn enter(kept: &mut [u64], n: usize, kind: u64, label: u64, kids: u64, pending: u64) -> usize
@@ -98,7 +107,7 @@ pub fn enter(kept: &mut [u64], n: usize, kind: u64, label: u64, kids: u64, pendi
     if !encloses(kind) {
         return n;
     }
-    if kept.len() - ENTRY * n < ENTRY {
+    if is_full(kept, n) {
         return n;
     }
     kept[ENTRY * n] = kind;

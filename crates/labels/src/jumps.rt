@@ -8,6 +8,7 @@ ghost use Rattle.labels.specs.Entries.{Round};
 use crate::Labels;
 use crate::behind::any_behind;
 use crate::entries::any_kept;
+use crate::entries::is_full;
 use grammar::limit;
 use tree::node;
 use tree::word::CHILD;
@@ -27,7 +28,7 @@ fn any_serves(records: &[u64], kept: &[u64], n: usize, p: usize, jump: u64, labe
     requires { ⌜ Round (now records) (now kept) n p ⌝ }
     ensures { λ r. ⌜ r ≡ any-serves-def jump label (enclosing 1 (drop p (now (records .entry)))) ⌝ }
 {
-    if kept.len() - 3 * n < 3 {
+    if is_full(kept, n) {
         return any_behind(records, p, jump, label);
     }
     any_kept(kept, n, jump, label)
