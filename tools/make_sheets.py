@@ -1,5 +1,6 @@
 #!/usr/bin/env python3
-"""Makes the input of the program `replay`: fixed sheets with the answers of the published parser, and what the writer makes of their trees.
+"""Makes the input of the program `replay`: fixed sheets with the answers of the published parser, what the writer makes of their trees, and
+what the check of labels answers of those.
 
     make_sheets.py --build DIR [--oracle DIR] [--seeds 1,2] > crates/replay/stdin
 
@@ -12,6 +13,8 @@ published parser panics, or goes past a limit of documents 01 and 02, they are t
 The canonical tokens of the sheets in canonical.txt are the supplied ones. Those of any other records are judged: a model of the
 definition (canonical.py) writes a tree, whatever it is, and the published parser reads that back. If this gives another tree or an
 error, no clean reading gives the tree: 65. If oracle01 stops with 62, so does the writer. Else the model's tokens are written.
+
+The check answers 65 where the writer does; else it is judged by the text of request P2 (compare/labels_rule.py).
 """
 import argparse
 import os
@@ -20,16 +23,20 @@ import subprocess
 import sys
 
 sys.dont_write_bytecode = True  # no compiled files beside the sources
+ROOT = os.path.dirname(os.path.dirname(os.path.abspath(__file__)))
+sys.path.append(os.path.join(ROOT, "compare"))
 import canonical
+import labels_rule
 import stored
 import supplied
 
-ROOT = os.path.dirname(os.path.dirname(os.path.abspath(__file__)))
-HEADER = """# Sheets with the answers that the published parser gave for them, and what the writer makes of their trees. Made by
+HEADER = """# Sheets with the answers that the published parser gave for them, what the writer makes of their trees, and what the check of labels
+# answers of those. Made by
 #   tools/make_sheets.py --oracle DIR --build DIR --seeds %(seeds)s
 # from the sheets of document 01, gen.py's families a to f with these seeds, such sheets joined to nearly 500 tokens, sheets with a
-# lexer error in the place of each token in turn and before it, sheets about requests P1 (the numbers 24, 28 and 32, the operators' levels)
-# and P3 (the depth) of document 02, the sheets of canonical.txt, and trees of all but the joined ones, P1's and P3's, altered.
+# lexer error in the place of each token in turn and before it, sheets about requests P1 (the numbers 24, 28 and 32, the operators' levels),
+# P3 (the depth) and P2 (labels that lead nowhere) of document 02, the sheets of canonical.txt, and trees of all but the joined ones, P1's and
+# P3's, altered.
 #
 # s WORDS            a sheet: two words for each token, kind + 256 x newline, then the value; the line above it has its text
 # t WORDS = READER   the next answer is a tree with these records, two words each
@@ -37,9 +44,10 @@ HEADER = """# Sheets with the answers that the published parser gave for them, a
 # . = READER         the end
 # x N = READER       a stop with this number
 # READER is the reader behind the answer: its position in tokens, how many errors wait, and their numbers, the oldest first.
-# a WORDS            records that the writer gets, in the place of a tree's
+# a WORDS            records that the writer and the check get, in the place of a tree's
 # w WORDS            the writer writes the records before this as these tokens, two words each
 # n N                the writer writes nothing for the records before this, and answers this number
+# l N I              the check of the records before this answers the number N, 0 where nothing is wrong, and the record number I
 # >NAME              ends a group, whose counts are printed behind NAME
 # Groups named `oracle01` have sheets at which the published parser panics or that go past a limit of documents 01 and 02; the answers
 # there are those of the parser patched with the documents' own.
@@ -59,6 +67,10 @@ FAMILIES = [
 
 # values that an altered record gets: operators' and modifiers' numbers and one more, the ends of the names' range, the greatest word
 VALUES = [0, 1, 2, 3, 4, 5, 17, 18, 39, 40, 43, 44, 4294967295, 4294967296, 8589934591, 8589934592, 18446744073709551615]
+
+# the kinds that can have a label, and the kinds that can stand where a jump does, with as many children
+LABELLED = labels_rule.JUMPS | labels_rule.LOOPS | {canonical.NODE["Block"]}
+JUMPS = {canonical.NODE[one]: canonical.NODE[two] for one, two in (("Break", "Return"), ("Return", "Break"), ("Continue", "Absent"), ("Absent", "Continue"))}
 
 # how many trees are altered in each way, and how many words they have at most
 ALTERED = 120
@@ -156,6 +168,11 @@ def text_row(text):
     return " ".join(["w"] + ["%d %d" % token for token in text])
 
 
+def tree_rows(words, row):
+    """The lines of the input about these records: the writer's, and the check's."""
+    return [row, "l 65 0" if row == "n 65" else "l %d %d" % labels_rule.checked(words)]
+
+
 def write_sheet(toks, rows, tokens, write):
     words = ["%d %d" % (kind + 256 * newline, value) for kind, newline, value in toks]
     write("# %s\n" % tokens.text(toks))
@@ -171,7 +188,7 @@ def group(name, sheets, args, tokens, write):
     for ours, title in ((True, "published parser"), (False, "oracle01")):
         part = [(toks, rows) for toks, rows, same in found if same == ours]
         for toks, rows in part:
-            both = [[row, texts[records_of(row)]] if row.startswith("t ") else [row] for row in rows]
+            both = [[row] + tree_rows(records_of(row), texts[records_of(row)]) if row.startswith("t ") else [row] for row in rows]
             write_sheet(toks, sum(both, []), tokens, write)
         if part:
             write(">%s, %s\n" % (name, title))
@@ -199,7 +216,7 @@ def supplied_group(args, tokens, write):
         if [records_of(row) for row in rows] != [records_of(row) for row in again]:
             sys.exit("make_sheets.py: a run of canonical.txt reads to other trees than its sheet")
         texts = texts_of(run, again, (tokens.EOF, 0, 0))
-        both = [[row, text_row(text)] for row, text in zip(rows, texts)]
+        both = [[row] + tree_rows(records_of(row), text_row(text)) for row, text in zip(rows, texts)]
         write_sheet(toks, sum(both, []) + rows[-1:], tokens, write)
         trees += [records_of(row) for row in rows[:-1]]
     write(">canonical tokens, supplied\n")
@@ -257,6 +274,19 @@ def deepened(records, at, kinds, draw):
     return records[:-1] + [group] + [sign] * draw.randrange(DEPTH - 8, DEPTH + 1) + records[-1:]
 
 
+def with_label(records, at, kinds, draw):
+    """Another label, where the record can have one."""
+    word, value = records[at]
+    return records[:at] + [(word, draw.randrange(4) if word % 256 in LABELLED else value)] + records[at + 1:]
+
+
+def with_jump(records, at, kinds, draw):
+    """A break for a return, a continue for something absent, or the other way round."""
+    word, value = records[at]
+    kind = word % 256
+    return records[:at] + [(word - kind + JUMPS.get(kind, kind), value)] + records[at + 1:]
+
+
 WAYS = [
     ("a kind", with_kind),
     ("a value", with_value),
@@ -265,6 +295,10 @@ WAYS = [
     ("a record doubled", doubled),
     ("two records swapped", swapped),
     ("deep in signs", deepened),
+]
+LABEL_WAYS = [
+    ("a label", with_label),
+    ("a jump", with_jump),
 ]
 
 
@@ -277,12 +311,16 @@ def kinds_by_count(trees):
     return {count: sorted(kinds) for count, kinds in found.items()}
 
 
-def altered_groups(trees, args, tokens, write):
-    """Trees with one thing altered, each way a group; and words that are no records."""
+def small_trees(trees):
+    return [words for words in dict.fromkeys(trees) if len(words) <= SMALL]
+
+
+def altered(trees, ways, title, args, tokens, write):
+    """Trees with one thing altered, each way a group."""
     draw = random.Random(1)
     kinds = kinds_by_count(trees)
-    small = [words for words in dict.fromkeys(trees) if len(words) <= SMALL]
-    for name, way in WAYS:
+    small = small_trees(trees)
+    for name, way in ways:
         found = []
         while len(found) < ALTERED:
             words = draw.choice(small)
@@ -290,15 +328,26 @@ def altered_groups(trees, args, tokens, write):
             other = tuple(word for record in way(records, draw.randrange(len(records)), kinds, draw) for word in record)
             if other != words and other not in found:
                 found.append(other)
-        records_group("altered, " + name, found, args, tokens, write)
-    first, second = small[:2]
+        records_group(title % name, found, args, tokens, write)
+
+
+def altered_groups(trees, args, tokens, write):
+    """Trees altered; and words that are no records."""
+    altered(trees, WAYS, "altered, %s", args, tokens, write)
+    first, second = small_trees(trees)[:2]
     records_group("no records", [(), (31,), first[:-1], first + (0,), first + second], args, tokens, write)
+
+
+def label_groups(sheets, args, tokens, write):
+    """Sheets about labels, and their trees with a label or a jump altered."""
+    trees = group("labels", sheets, args, tokens, write)
+    altered(trees, LABEL_WAYS, "labels, %s altered", args, tokens, write)
 
 
 def records_group(name, found, args, tokens, write):
     for words, row in written(found, args, tokens.lines).items():
-        write(" ".join(["a"] + [str(word) for word in words]) + "\n")
-        write(row + "\n")
+        rows = [" ".join(["a"] + [str(word) for word in words])] + tree_rows(words, row)
+        write("".join(row + "\n" for row in rows))
     write(">%s\n" % name)
 
 
@@ -325,9 +374,10 @@ def main():
     group("joined to 500 tokens", joined(sheets, (tokens.EOF, 0, 0)), args, tokens, write)
     broken = [toks for row in stored.DAMAGED for toks in damaged(tokens.sheet(row), (tokens.LEXERR, 0, 0))]
     trees += group("lexer errors everywhere", broken, args, tokens, write)
-    # the trees of these two are not altered; those of the other groups are, but for the joined ones
+    # the trees of the next two are not altered, those about labels in ways of their own; those of the other groups are, but for the joined ones
     group("numbers and levels", [tokens.sheet(row) for row in stored.NUMBERS + stored.mixed() + stored.PLACES], args, tokens, write)
     depth_groups([tokens.sheet(row) for row, _ in tried.DEPTHS], args, tokens, write)
+    label_groups([tokens.sheet(row) for row in stored.LABELS], args, tokens, write)
     trees += supplied_group(args, tokens, write)
     altered_groups(trees, args, tokens, write)
 

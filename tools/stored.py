@@ -75,6 +75,91 @@ NUMBERS = [
     "begin fun ( a = 1 , let b ) end ; c end EOF",
 ]
 
+# request P2: where a `break` or `continue` stands, each clause on both sides
+LABELS = [
+    # without a label: a break in a loop or block, a continue in a loop, labelled or not; a branch of an if is no block
+    "loop break end EOF",
+    "while a do break end EOF",
+    "for a in b do break end EOF",
+    "begin break end EOF",
+    "if a then break end EOF",
+    "if a then b elif c then d else break end EOF",
+    "loop continue end EOF",
+    "::0 while a do continue end EOF",
+    "::0 for a in b do continue end EOF",
+    "begin continue end EOF",
+    "if a then continue end EOF",
+    "a = ::0 begin break end EOF",
+    "a = ::0 begin continue end EOF",
+    # one that is not the nearest
+    "loop if a then continue end end EOF",
+    "loop begin continue end end EOF",
+    "for a in b do begin if c then continue else d end end end EOF",
+    "begin if a then break end ; b end EOF",
+    "while a do b ; begin loop end ; continue end end EOF",
+    # with a label: a break to a loop or block that has it, a continue to a loop that has it, any that stands round
+    "::0 loop break ::0 end EOF",
+    "::1 loop break ::0 end EOF",
+    "loop break ::0 end EOF",
+    "::0 while a do continue ::0 end EOF",
+    "::0 for a in b do continue ::1 end EOF",
+    "a = ::0 begin break ::0 end EOF",
+    "a = ::1 begin break ::0 end EOF",
+    "a = ::0 begin continue ::0 end EOF",
+    "if a then break ::0 end EOF",
+    "::0 loop ::1 loop break ::0 end end EOF",
+    "::0 loop ::1 loop continue ::2 end end EOF",
+    "::0 loop a ( ::0 begin continue ::0 end ) end EOF",
+    "a = ::0 begin ::1 loop continue ::0 end end EOF",
+    "::4294967295 loop break ::4294967295 end EOF",
+    "::4294967295 loop break ::4294967294 end EOF",
+    # one that has ended, in this statement or in the one before, or that comes after
+    "if a then ::0 loop end ; break ::0 end EOF",
+    "begin loop end ; continue end EOF",
+    "::0 loop break ::0 end ; ::1 loop break ::0 end EOF",
+    "::0 loop if a then continue ::1 end ; ::1 loop end end EOF",
+    # a loop's condition, what it runs over and its pattern stand outside of it
+    "while begin continue end do end EOF",
+    "while begin break end do end EOF",
+    "::0 while if a then break ::0 end do end EOF",
+    "::0 loop while if a then break ::0 end do end end EOF",
+    "for a in if b then continue end do end EOF",
+    "::0 for a in if b then break ::0 end do c end EOF",
+    "loop for a in if b then continue end do end end EOF",
+    "for a [ if b then break end ] in c do end EOF",
+    "::0 loop for a [ if b then break ::0 end ] in c do end end EOF",
+    # a function's body starts with nothing round it; its default and its target stand where it stands
+    "fun ( ) break end EOF",
+    "loop fun ( ) break end end EOF",
+    "::0 loop fun ( ) if a then continue ::0 end ; b end end EOF",
+    "a = ::0 begin fun ( ) break ::0 end end EOF",
+    "loop fun ( ) loop break end end end EOF",
+    "fun ( ) begin break end ; ::0 while a do continue ::0 end end EOF",
+    "fun ( a = if b then break end ) loop end end EOF",
+    "loop fun ( a = if b then break end ) c end end EOF",
+    "loop fun ( ) fun ( a = begin continue end ) end end end EOF",
+    "::0 loop fun a [ if b then continue ::0 end ] ( ) end end EOF",
+    "fun a [ if b then continue ::0 end ] ( ) ::0 loop end end EOF",
+    # a value stands where its break stands
+    "loop break begin continue end end EOF",
+    "begin break begin continue end end EOF",
+    "a = ::0 begin break if b then break ::0 end end EOF",
+    "if a then break ::0 a ( ::0 begin end ) end EOF",
+    "fun ( ) return begin break end end EOF",
+    # in any part of an expression
+    "loop { a = - begin continue end , [ if b then break end ] = ( c , begin continue end ) } end EOF",
+    "{ a = - begin continue end , [ if b then break end ] = c } EOF",
+    # the first of more; return is none
+    "if a then break elif b then continue ::0 end EOF",
+    "if a then continue ::0 elif b then break end EOF",
+    "if a then break if b then continue ::1 end end EOF",
+    "if a then loop break end elif b then break ::0 else continue end EOF",
+    "fun ( ) return end ; begin return a end ; if a then return end EOF",
+    # 65 before any: a tree that no clean reading gives, read before an error
+    "if a then break end , ) EOF",
+    "loop continue end ; begin continue ::0 end , ) EOF",
+]
+
 # the binary operators by their levels, 1 to 10
 LEVELS = [row.split() for row in ("* / %", "+ -", "<< >>", "&", "^^", "|", "< > <= >=", "== !=", "and", "or")]
 

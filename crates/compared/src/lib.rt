@@ -1,5 +1,6 @@
-// Calls of the reader and of the writer, compared with what is expected of them: what the programs `replay` and `limits` share.
+// Calls of the reader, of the writer and of the check of labels, compared with what is expected of them: what the programs `replay` and `limits` share.
 pub mod call;
+pub mod checking;
 pub mod parts;
 pub mod print;
 pub mod tally;

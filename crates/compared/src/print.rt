@@ -23,7 +23,7 @@ fn print_said(case: u8, number: u64) {
     print_number(number);
 }
 
-// What differs at a place: the answer, the reader, the store or the output, and the answers had and expected.
+// What differs at a place: the answer, the reader, the store, the output or the record number, and the answers had and expected.
 pub fn print_difference(name: &[u8], at: u64, what: &[u8], said: Said, want: Said) {
     print(b"difference at ");
     print(name);
@@ -55,6 +55,8 @@ pub fn print_tally(t: Tally) {
     print_number(t.answers);
     print(b", writes ");
     print_number(t.writes);
+    print(b", checks ");
+    print_number(t.checks);
     print(b", differences ");
     print_number(t.differences);
     print(b"\n");

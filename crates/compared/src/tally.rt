@@ -1,11 +1,12 @@
 // The counts of a run.
 use std::num::wrapping_add_u64;
 
-// How many sheets were begun, how many calls of the reader and of the writer were compared, and how many things were not as expected.
+// How many sheets were begun, how many calls of the reader, of the writer and of the check were compared, and how many things were not as expected.
 pub struct Tally {
     pub sheets: u64,
     pub answers: u64,
     pub writes: u64,
+    pub checks: u64,
     pub differences: u64,
 }
 
@@ -19,6 +20,7 @@ pub fn no_tally() -> Tally {
         sheets: 0,
         answers: 0,
         writes: 0,
+        checks: 0,
         differences: 0,
     }
 }
@@ -28,46 +30,42 @@ pub fn added(a: Tally, b: Tally) -> Tally {
         sheets: wrapping_add_u64(a.sheets, b.sheets),
         answers: wrapping_add_u64(a.answers, b.answers),
         writes: wrapping_add_u64(a.writes, b.writes),
+        checks: wrapping_add_u64(a.checks, b.checks),
         differences: wrapping_add_u64(a.differences, b.differences),
     }
 }
 
 // One sheet more.
 pub fn with_sheet(t: Tally) -> Tally {
-    Tally {
-        sheets: one_more(t.sheets),
-        answers: t.answers,
-        writes: t.writes,
-        differences: t.differences,
-    }
+    let mut u = t;
+    u.sheets = one_more(t.sheets);
+    u
 }
 
 // One difference more.
 pub fn with_difference(t: Tally) -> Tally {
-    Tally {
-        sheets: t.sheets,
-        answers: t.answers,
-        writes: t.writes,
-        differences: one_more(t.differences),
-    }
+    let mut u = t;
+    u.differences = one_more(t.differences);
+    u
 }
 
 // One call of the reader more.
 pub fn with_answer(t: Tally) -> Tally {
-    Tally {
-        sheets: t.sheets,
-        answers: one_more(t.answers),
-        writes: t.writes,
-        differences: t.differences,
-    }
+    let mut u = t;
+    u.answers = one_more(t.answers);
+    u
 }
 
 // One call of the writer more.
 pub fn with_write(t: Tally) -> Tally {
-    Tally {
-        sheets: t.sheets,
-        answers: t.answers,
-        writes: one_more(t.writes),
-        differences: t.differences,
-    }
+    let mut u = t;
+    u.writes = one_more(t.writes);
+    u
+}
+
+// One call of the check more.
+pub fn with_check(t: Tally) -> Tally {
+    let mut u = t;
+    u.checks = one_more(t.checks);
+    u
 }

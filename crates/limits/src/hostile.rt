@@ -1,6 +1,8 @@
-// Records of a size that no input of this program has: a sum of 30,000 terms, 200,000 signs one in the other.
+// Records of a size that no input of this program has: a sum of 30,000 terms, 200,000 signs one in the other, 50,000 loops.
 use crate::depth::signs_tree;
 use crate::made::repeat;
+use crate::nested::nests;
+use compared::checking::is_checked;
 use compared::tally::Tally;
 use compared::tally::no_tally;
 use compared::words::between;
@@ -39,20 +41,23 @@ fn long_sum(t: Tally, held: &mut [u64], output: &mut [u64]) -> Tally {
     let m = sum_text(held, n, 29999);
     let tree = between(held, 0, n);
     let text = between(held, n, m);
-    is_written(t, b"terms of a sum", 30000, tree, output, text)
+    let a = is_written(t, b"terms of a sum", 30000, tree, output, text);
+    is_checked(a, b"terms of a sum", 30000, tree, 0, 0)
 }
 
 // Damaged signs, by number: no clean reading gives them.
 fn no_tree(t: Tally, which: u64, records: &[u64], output: &mut [u64]) -> Tally {
-    is_not_written(t, b"damaged signs", which, records, output, 65)
+    let a = is_not_written(t, b"damaged signs", which, records, output, 65);
+    is_checked(a, b"damaged signs", which, records, 65, 0)
 }
 
-// Signs beyond the depth are too deep. Without their operand, or from the middle of a record on, they are no tree.
+// Signs beyond the depth are too deep for the writer, and not for the check. Without their operand, or from the middle of a record on, they are no tree.
 fn too_many(t: Tally, tree: &[u64], output: &mut [u64], times: u64) -> Tally {
     let n = tree.len();
     let a = is_not_written(t, b"signs", times, tree, output, 62);
-    let b = no_tree(a, 1, between(tree, 2, n), output);
-    no_tree(b, 2, between(tree, 1, n), output)
+    let b = is_checked(a, b"signs", times, tree, 0, 0);
+    let c = no_tree(b, 1, between(tree, 2, n), output);
+    no_tree(c, 2, between(tree, 1, n), output)
 }
 
 // Nor are they one with another tree behind them, or with a number, at the word in the middle, that is no operator's.
@@ -72,11 +77,12 @@ fn many_signs(t: Tally, held: &mut [u64], output: &mut [u64], times: u64, middle
     damaged(a, held, output, n, middle)
 }
 
-// The sum's records and text take 240,000 words, the signs' records and a tree behind them 400,006.
+// The sum's records and text take 240,000 words, the signs' records and a tree behind them 400,006, the loops less than that.
 pub fn records() -> Tally {
     let mut held = [0u64; 400006];
     let mut output = [0u64; 120003];
     let a = long_sum(no_tally(), &mut held, &mut output);
     let b = many_signs(a, &mut held, &mut output, 37, 39);
-    many_signs(b, &mut held, &mut output, 200000, 200003)
+    let c = many_signs(b, &mut held, &mut output, 200000, 200003);
+    nests(c, &mut held)
 }

@@ -4,6 +4,7 @@ mod depth;
 mod hostile;
 mod length;
 mod made;
+mod nested;
 mod queue;
 mod reader;
 

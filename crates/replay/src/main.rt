@@ -1,5 +1,5 @@
-// Replays fixed sheets through the reader, and their trees and others through the writer, and compares each answer with the one in the
-// input. Prints the counts of each group and of all.
+// Replays fixed sheets through the reader, and their trees and others through the writer and the check of labels, and compares each answer with the one in
+// the input. Prints the counts of each group and of all.
 mod input;
 mod steps;
 

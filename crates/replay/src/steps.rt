@@ -1,9 +1,10 @@
 // The sheets of the input and the answers that the published parser gave: a line `s` begins a sheet, each line after it expects an answer.
-// A line `w` or `n` expects what the writer makes of the tree before it, or of the records of a line `a`.
+// A line `w` or `n` expects what the writer makes of the tree before it, or of the records of a line `a`, and a line `l` what the check of labels answers of them.
 use crate::input::Line;
 use compared::call::called_full;
 use compared::call::called_short;
 use compared::call::read_whole;
+use compared::checking::is_checked;
 use compared::parts::Want;
 use compared::print::print;
 use compared::print::print_number;
@@ -72,7 +73,7 @@ fn sheet_read(run: Run, numbers: &[u64], held: &mut [u64]) -> Run {
     }
 }
 
-// Records that the writer is to write.
+// Records for the writer and the check.
 fn records_read(run: Run, records: &[u64], held: &mut [u64]) -> Run {
     let words = run.words;
     let mut r = run;
@@ -162,7 +163,7 @@ fn answer_compared(run: Run, line: Line, want: Want, tree: &[u64], held: &[u64])
     stepped_again(t, line.at, tokens, want)
 }
 
-// A line that expects an answer. The next call gets the reader that this one was to return; the records are held for the writer.
+// A line that expects an answer. The next call gets the reader that this one was to return; the records are held for the writer and the check.
 fn answer_read(run: Run, line: Line, numbers: &[u64], held: &mut [u64]) -> Run {
     let mark = line.mark;
     let case = line.case;
@@ -205,6 +206,17 @@ fn writing_read(run: Run, line: Line, numbers: &[u64], held: &[u64]) -> Run {
     r
 }
 
+// A line that expects what the check answers of the records that are held: a number, and a record number.
+fn checking_read(run: Run, line: Line, numbers: &[u64], held: &[u64]) -> Run {
+    let group = run.group;
+    let records = between(held, run.words, run.end);
+    let number = word_at(numbers, 0);
+    let record = word_at(numbers, 1);
+    let mut r = run;
+    r.group = is_checked(group, b"line", line.at, records, number, record);
+    r
+}
+
 // A group ends: its counts are printed behind its name.
 fn group_end(run: Run) -> Run {
     let group = run.group;
@@ -229,6 +241,7 @@ pub fn line_read(run: Run, line: Line, numbers: &[u64], held: &mut [u64]) -> Run
         b't' | b'e' | b'.' | b'x' => answer_read(run, line, numbers, held),
         b'a' => records_read(run, numbers, held),
         b'w' | b'n' => writing_read(run, line, numbers, held),
+        b'l' => checking_read(run, line, numbers, held),
         _ => malformed(run, line),
     }
 }
