@@ -1,4 +1,3 @@
-mod Tests
 mod Kept
 mod Pass
 mod Answers

@@ -1,4 +1,4 @@
-mod Numbers
+pub mod Numbers
 mod Laws
 mod Shaping
 mod Texts

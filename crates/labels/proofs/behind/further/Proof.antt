@@ -1,7 +1,7 @@
 -- `labels::behind::further` meets its contract. Assumes nothing.
 use borrow.Author.Needs.{needs}
 use Rattle.labels.specs.Behind.{further}
-use Rattle.labels.proofs.Tests.{tests}
+use Rattle.writer.proofs.Numbers.{tests}
 use Rattle.labels.proofs.behind.further.Statement.{statement}
 use Rattle.labels.proofs.behind.further.Tie as tie
 

@@ -1,6 +1,6 @@
 -- `labels::behind::is_last` meets its contract. Assumes nothing.
 use Rattle.labels.specs.Behind.{is-last}
-use Rattle.labels.proofs.Tests.{tests}
+use Rattle.writer.proofs.Numbers.{tests}
 use Rattle.labels.proofs.behind.is_last.Statement.{statement}
 use Rattle.labels.proofs.behind.is_last.Tie as tie
 

@@ -1,6 +1,6 @@
 -- `labels::entries::encloses` meets its contract: each arm is the definition there. Assumes nothing.
 use Rattle.labels.specs.Entries.{encloses}
-use Rattle.labels.proofs.Tests.{tests}
+use Rattle.writer.proofs.Numbers.{tests}
 use Rattle.labels.proofs.entries.encloses.Statement.{statement}
 use Rattle.labels.proofs.entries.encloses.Tie as tie
 

@@ -1,5 +1,5 @@
 -- `labels::entries::means` meets its contract. Assumes nothing.
-use Rattle.labels.proofs.Tests.{tests}
+use Rattle.writer.proofs.Numbers.{tests}
 use Rattle.labels.proofs.entries.means.Statement.{statement}
 use Rattle.labels.proofs.entries.means.Tie as tie
 

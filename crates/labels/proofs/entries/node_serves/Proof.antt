@@ -2,7 +2,7 @@
 use borrow.Author.Needs.{needs}
 use borrow.Author.Tests.{ne-eqb}
 use Rattle.labels.specs.Entries.{node-serves}
-use Rattle.labels.proofs.Tests.{tests}
+use Rattle.writer.proofs.Numbers.{tests}
 use Rattle.labels.proofs.entries.node_serves.Statement.{statement}
 use Rattle.labels.proofs.entries.node_serves.Tie as tie
 use Rattle.tree.proofs.Known.{known}

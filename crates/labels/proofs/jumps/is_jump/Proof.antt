@@ -1,5 +1,5 @@
 -- `labels::jumps::is_jump` meets its contract: each arm is the definition there. Assumes nothing.
-use Rattle.labels.proofs.Tests.{tests}
+use Rattle.writer.proofs.Numbers.{tests}
 use Rattle.labels.proofs.jumps.is_jump.Statement.{statement}
 use Rattle.labels.proofs.jumps.is_jump.Tie as tie
 

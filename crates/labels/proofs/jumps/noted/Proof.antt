@@ -1,5 +1,5 @@
 -- `labels::jumps::noted` meets its contract. Assumes nothing.
-use Rattle.labels.proofs.Tests.{tests}
+use Rattle.writer.proofs.Numbers.{tests}
 use Rattle.labels.proofs.jumps.noted.Statement.{statement}
 use Rattle.labels.proofs.jumps.noted.Tie as tie
 

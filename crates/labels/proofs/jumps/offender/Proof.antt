@@ -1,5 +1,5 @@
 -- `labels::jumps::offender` meets its contract. Assumes nothing.
-use Rattle.labels.proofs.Tests.{tests}
+use Rattle.writer.proofs.Numbers.{tests}
 use Rattle.labels.proofs.jumps.offender.Statement.{statement}
 use Rattle.labels.proofs.jumps.offender.Tie as tie
 
