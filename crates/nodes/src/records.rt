@@ -19,8 +19,8 @@ ghost use Rattle.scan.specs.Post.{Writes};
 ghost use Rattle.nodes.specs.Parts.{tuple-words, path-words, unpack-end as unpack-end-def, expression-end as expression-end-def};
 ghost use Rattle.nodes.specs.Ends.{Added, Ended, Shape, A-shape, Counts, Counts-after, Any, as-it-is, Marked, Carries};
 ghost use Rattle.nodes.specs.Lists.{Closing, Blocked, Closable, Unders};
-use pattern::Converted;
-use pattern::to_pattern;
+use pattern::deciding::can_be_pattern;
+use pattern::moving::move_to_pattern;
 use scan::Failure;
 use scan::Listed;
 use scan::Step;
@@ -175,7 +175,7 @@ pub fn path_end(store: &mut [u64], a: usize, n: u64) -> usize
     emit(store, b, word::PRIMARY, 0)
 }
 
-// The expression from `from` to a becomes a pattern; else the error e.
+// The expression from `from` to a becomes a pattern: the whole is settled first, with the store only read, and then moved; else the error e.
 pub fn expect_pattern(
     store: &mut [u64],
     from: usize,
@@ -187,14 +187,14 @@ pub fn expect_pattern(
     requires { ⌜ A-tree (now store) from a ⌝ }
     ensures { λ r. ⌜ ((t : Tree) (T : List ℕ) → Whole t (now (store .entry)) from a → pos ≤ length T → Writes records (λ q. expect-pattern-def e (to-pattern-def t) q (drop pos T)) T pos pos 0 a waiting (take from (now (store .entry))) (now (store .entry)) (now (store .exit)) r) ⌝ }
 {
-    match to_pattern(store, from, a) {
-        Converted::End(b) => Step::Done(pos, b, waiting),
-        Converted::NotAPattern => Step::Fail(Failure {
+    if !can_be_pattern(store, from, a) {
+        return Step::Fail(Failure {
             error: e,
             pos,
             waiting,
-        }),
+        });
     }
+    Step::Done(pos, move_to_pattern(store, from, a), waiting)
 }
 
 // A pattern under a modifier, 0 or 1 + its action.

@@ -1,6 +1,7 @@
--- What the proofs of several functions use.
+-- What the proofs of several functions use; `Decided` is used in `nodes` too.
 mod Lists
 mod Conv
 mod Steps
 mod Access
-mod Places
+mod Moved
+pub mod Decided

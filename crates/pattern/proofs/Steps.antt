@@ -12,11 +12,11 @@ use Rattle.tree.specs.NodeKind
 use Rattle.tree.specs.Tree.{Tree, Forest, node, none, one, count, records, all-records}
 use Rattle.tree.specs.Records.{Small, Smalls}
 use Rattle.tree.specs.Rows.{Row, end, on, rows, width, SmallRow, push, rows-push, small-push, rows-long, top}
-use Rattle.tree.specs.Maybe.{Maybe, nothing, just, bindM, both}
+use Rattle.tree.specs.Maybe.{Maybe, nothing, just, is-just, bindM, both}
 use Rattle.grammar.specs.Reading.Pattern.{pattern, maybe, members, over, modified, grouped, listed, conv, all-conv, to-pattern}
 use Rattle.grammar.specs.Laws.Facts.{by-test}
 use Rattle.pattern.specs.Word
-use Rattle.pattern.specs.Contract.{Is, Whole, has-members}
+use Rattle.pattern.specs.Contract.{Whole, has-members}
 use Rattle.pattern.proofs.Conv.{ident, Over, group, unpack, absent, present, tuple, list-is, not-list, no-members, other, convR, wordsR, wordsM, pattern-on-top, none-on-top, same-as, wrapped, tupled}
 
 -- the words T are B and trees that are to be patterns, Y is what follows them, and all of that is the pattern m
@@ -101,15 +101,12 @@ row-end m B S i Y (on r t) h l e w =
     let o = rows-long (on r t) in
     absurd (omega arith)
 
-is-one : (m : Maybe Tree) (Y : List ℕ) → wordsM m ≡ just Y → Is m
-is-one nothing Y e = absurd (let z : _≡_ {A = ℕ} 0 1 = cc in omega arith)
-is-one (just p) Y e = record { what = p; same = refl }
-
 pub all-read : {m : Maybe Tree} {B : List ℕ} (S : List ℕ) (i : ℕ) {Y : List ℕ} → i ≤ length S → Ahead m B (take i S) Y → i ≤ length B → wordsM m ≡ just Y
 all-read {m = m} {B = B} S i {Y = Y} h a l = row-end m B S i Y (a .row) h l (a .text) (a .same)
 
-pub settled : {m : Maybe Tree} {Y : List ℕ} → wordsM m ≡ just Y → Is m
-settled {m = m} {Y = Y} e = is-one m Y e
+pub decided-yes : (m : Maybe Tree) {Y : List ℕ} → wordsM m ≡ just Y → true ≡ is-just m
+decided-yes nothing e = absurd (let z : _≡_ {A = ℕ} 0 1 = cc in omega arith)
+decided-yes (just p) e = refl
 
 -- at the start: one tree
 pub whole-ahead : {t : Tree} {S : List ℕ} {from to : ℕ} → Whole t S from to → Ahead (to-pattern t) (take from S) (take to S) []

@@ -9,11 +9,9 @@ use Rattle.tree.specs.NodeKind
 use Rattle.tree.specs.Tree.{Tree, records}
 use Rattle.tree.specs.Records.{Small}
 use Rattle.tree.specs.Rows.{Trees}
-use Rattle.tree.specs.Maybe.{Maybe, nothing, just}
-use Rattle.grammar.specs.Reading.Pattern.{to-pattern}
+use Rattle.tree.specs.Maybe.{Maybe, just}
+use Rattle.grammar.specs.Reading.Pattern.{to-pattern, can-be-pattern}
 use Rattle.pattern.specs.Word
-use Rattle.pattern.specs.declared.Converted.{Converted}
-use Rattle.pattern.specs.declared.Converted.the-variants.{NotAPattern, End}
 
 -- a record was put at a place
 pub record Put (at word value : ℕ) (S S′ : List ℕ) : Type 0 where
@@ -25,9 +23,10 @@ pub record Right (from to by : ℕ) (S S′ : List ℕ) : Type 0 where
   pub head : take (from + by) S′ ≡ take (from + by) S
   pub tail : drop (from + by) S′ ≡ drop from (take to S) ++ drop (to + by) S
 
--- the words from «from» to «to» moved left
+-- the words from «from» to «to» moved left: what stood before their new place is as it was, and so is what stood after their old one
 pub record Left (from to by : ℕ) (S S′ : List ℕ) : Type 0 where
   pub text : take (to - by) S′ ≡ take (from - by) S ++ drop from (take to S)
+  pub rest : drop to S′ ≡ drop to S
 
 -- n trees end here, after something
 pub record Ended (T : List ℕ) (n : ℕ) : Type 0 where
@@ -50,14 +49,6 @@ pub record Is (m : Maybe Tree) : Type 0 where
   pub what : Tree
   pub same : m ≡ just what
 
--- the test's answer
-abbrev pub SettledAs : Maybe Tree → Bool → Type 0
-SettledAs m true = Is m
-SettledAs m false = m ≡ nothing
-
-pub record Settled (m : Maybe Tree) (r : Bool) : Type 0 where
-  pub how : SettledAs m r
-
 -- a first word is that of a list with members
 abbrev pub has-members : ℕ → Bool
 has-members word = eqb (word % 256) NodeKind.List && leb 256 word
@@ -78,7 +69,7 @@ pub record An-access (S : List ℕ) (i w : ℕ) : Type 0 where
   pub it : Access base pat S i w
 
 -- the pattern ends at w, and what stood before the access stands as it was
-pub record Placed (B : List ℕ) (p : Tree) (S : List ℕ) (i w r : ℕ) (S′ : List ℕ) : Type 0 where
+pub record Moved (B : List ℕ) (p : Tree) (S : List ℕ) (i w r : ℕ) (S′ : List ℕ) : Type 0 where
   pub at : r ≡ length B
   pub on : r ≤ i
   pub head : take r S′ ≡ B
@@ -104,20 +95,14 @@ pub record Fit (t p : Tree) (S : List ℕ) (from to : ℕ) : Type 0 where
   pub whole : Whole t S from to
   pub same : to-pattern t ≡ just p
 
+-- some expression that can be a pattern stands there
 pub record A-fit (S : List ℕ) (from to : ℕ) : Type 0 where
   pub tree : Tree
-  pub pat : Tree
-  pub fit : Fit tree pat S from to
+  pub whole : Whole tree S from to
+  pub can : can-be-pattern tree ≡ true
 
--- the pattern p stands from «from» to r
+-- the pattern p stands from «from» to r, and no word but those of the expression has changed: what stood before «from» and from «to» on is as it was; the words from r to «to» are any
 pub record Stands (p : Tree) (S : List ℕ) (from to r : ℕ) (S′ : List ℕ) : Type 0 where
   pub text : take r S′ ≡ take from S ++ records p
   pub short : r ≤ to
-
--- no pattern, and the store as it was; or the pattern, and where its records end
-abbrev pub AnswersAs : Maybe Tree → List ℕ → ℕ → ℕ → List ℕ → Converted → Type 0
-AnswersAs m S from to S′ NotAPattern = (m ≡ nothing) × (S′ ≡ S)
-AnswersAs m S from to S′ (End r) = (p : Tree) × (m ≡ just p) × Stands p S from to r S′
-
-pub record Answers (m : Maybe Tree) (S : List ℕ) (from to : ℕ) (S′ : List ℕ) (r : Converted) : Type 0 where
-  pub how : AnswersAs m S from to S′ r
+  pub rest : drop to S′ ≡ drop to S

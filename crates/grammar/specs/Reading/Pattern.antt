@@ -1,10 +1,11 @@
 -- What pattern an expression is, if it is one (pattern.rs, the three `try_from`). A definition, which runs on trees of any shape; it assumes nothing.
+use mathlib.Core.Bool.{Bool}
 use Prim.Native.Nat.{ℕ, zero, suc}
 use lib.Dec.{eqb}
 use Rattle.tree.specs.NodeKind
 use Rattle.tree.specs.Node
 use Rattle.tree.specs.Tree.{Tree, Forest, node, none, more, one, two}
-use Rattle.tree.specs.Maybe.{Maybe, nothing, just, bindM, both, pick}
+use Rattle.tree.specs.Maybe.{Maybe, nothing, just, is-just, bindM, both, pick}
 
 -- where a tree stands: as a pattern; as the list of a tuple's members; as what an `Unpack` has
 pub data Role : Type 0 where
@@ -103,3 +104,7 @@ unfoldable mutual
 
 abbrev pub to-pattern : Tree → Maybe Tree
 to-pattern t = conv t pattern
+
+-- document 02, P4: an expression can be a pattern exactly when a pattern is made of it
+abbrev pub can-be-pattern : Tree → Bool
+can-be-pattern t = is-just (to-pattern t)

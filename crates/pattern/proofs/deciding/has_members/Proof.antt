@@ -1,7 +1,7 @@
--- `pattern::has_members` meets its contract. Assumes nothing.
+-- `pattern::deciding::has_members` meets its contract. Assumes nothing.
 use borrow.Author.Tests.{eq-eqb, ne-eqb}
-use Rattle.pattern.proofs.has_members.Statement.{statement}
-use Rattle.pattern.proofs.has_members.Tie as tie
+use Rattle.pattern.proofs.deciding.has_members.Statement.{statement}
+use Rattle.pattern.proofs.deciding.has_members.Tie as tie
 
 returns : tie.Need-returns
 returns c = rw (ne-eqb _ _ (c .if1 .taken))

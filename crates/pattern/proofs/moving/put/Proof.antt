@@ -1,4 +1,4 @@
--- `pattern::put` meets its contract. Assumes nothing.
+-- `pattern::moving::put` meets its contract. Assumes nothing.
 use mathlib.Core.Path.{_∙_}
 use mathlib.Core.List.{[], _∷_}
 use Prim.Native.Nat.{_+_}
@@ -8,8 +8,8 @@ use borrow.Author.Needs.{needs}
 use lib.ListN.{set, length-set}
 use lib.Seq.{take-set-le}
 use Rattle.pattern.proofs.Lists.{stored}
-use Rattle.pattern.proofs.put.Statement.{statement}
-use Rattle.pattern.proofs.put.Tie as tie
+use Rattle.pattern.proofs.moving.put.Statement.{statement}
+use Rattle.pattern.proofs.moving.put.Tie as tie
 
 mul-store : tie.Need-mul-store
 mul-store c = search needs

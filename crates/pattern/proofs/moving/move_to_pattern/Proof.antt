@@ -1,4 +1,4 @@
--- `pattern::place` meets its contract: in each turn the top of a row of trees that are all to be patterns is passed, and its records are written. Assumes nothing.
+-- `pattern::moving::move_to_pattern` meets its contract: in each turn the top of a row of trees that are all to be patterns is passed, and its records are written. Assumes nothing.
 use mathlib.Core.Path.{_≡_, refl, _∙_}
 use mathlib.Core.List.{List, [], _∷_, _++_}
 use Prim.Native.Nat.{ℕ, _-_, _≤_}
@@ -11,10 +11,11 @@ use Rattle.tree.specs.Rows.{rows}
 use Rattle.grammar.specs.Reading.Pattern.{to-pattern, conv, pattern}
 use Rattle.pattern.specs.Contract.{Is, Put, Fit, Access}
 use Rattle.tree.proofs.Known.{known}
+use Rattle.pattern.proofs.Decided.{can}
 use Rattle.pattern.proofs.Steps.{Ahead, View, view, shorter, whole-ahead, ident-step, group-bare, group-modified}
-use Rattle.pattern.proofs.Places.{Going, go-same, go-put, go-access, an-access, Above, sure-above, go-over, sure-pat, not-below, all-placed}
-use Rattle.pattern.proofs.place.Statement.{statement}
-use Rattle.pattern.proofs.place.Tie as tie
+use Rattle.pattern.proofs.Moved.{Going, go-same, go-put, go-access, an-access, Above, sure-above, go-over, sure-pat, not-below, all-moved}
+use Rattle.pattern.proofs.moving.move_to_pattern.Statement.{statement}
+use Rattle.pattern.proofs.moving.move_to_pattern.Tie as tie
 
 abbrev Inv-loop : tie.InvT-loop
 Inv-loop store₀ from to i₀ w₀ store i w = (i ≤ w) × (w ≤ to) × (length store ≡ length store₀) × ((t p : Tree) → Fit t p store₀ from to → Going (to-pattern t) (take from store₀) (drop to store₀) store i w)
@@ -48,8 +49,11 @@ module _ (c : tie.At-loop Inv-loop μ-loop) where
   abbrev w : ℕ
   w = c .loop .w
 
-  abbrev held : Holds (start .pre .tree) (start .pre .pat)
-  held = start .pre .fit
+  abbrev pat : Is (to-pattern (start .pre .tree))
+  pat = can _ (start .pre .can)
+
+  abbrev held : Holds (start .pre .tree) (pat .what)
+  held = record { whole = start .pre .whole; same = pat .same }
 
   behind : i ≤ w
   behind = c .loop .inv .0
@@ -187,59 +191,59 @@ loop-again-3 c =
           go-same _ (group-bare (seen e g) (known (tie.At-match-keys2 Inv-loop μ-loop) (search) .match .keys2) (c .if1 .left)) (going (at e) g .done),
     )
 
-place-access-requires : tie.Need-place-access-requires Inv-loop μ-loop
-place-access-requires c κs =
+move-access-requires : tie.Need-move-access-requires Inv-loop μ-loop
+move-access-requires c κs =
     let k : tie.At-match-keys3 Inv-loop μ-loop = search in
     record { base = _; pat = _; it = access k (held (at (turn k))) }
 
 sub-w-3 : tie.Need-sub-w-3 Inv-loop μ-loop
 sub-w-3 c = behind (at (search))
 
-abbrev accessed : tie.After-place-access Inv-loop μ-loop → tie.At-match-keys3 Inv-loop μ-loop
+abbrev accessed : tie.After-move-access Inv-loop μ-loop → tie.At-match-keys3 Inv-loop μ-loop
 accessed c = search
 
 add-w : tie.Need-add-w Inv-loop μ-loop
 add-w c =
-    let a : tie.After-place-access Inv-loop μ-loop = search in
+    let a : tie.After-move-access Inv-loop μ-loop = search in
     let k = accessed a in
-    omega (arith, a .place-access .ensures _ _ (access k (held (at (turn k)))) .on)
+    omega (arith, a .move-access .ensures _ _ (access k (held (at (turn k)))) .on)
 
 loop-less-4 : tie.Need-loop-less-4 Inv-loop μ-loop
 loop-less-4 c =
-    let a : tie.After-place-access Inv-loop μ-loop = search in
+    let a : tie.After-move-access Inv-loop μ-loop = search in
     let k = accessed a in
     let e = turn k in
     let g = held (at e) in
-    omega (arith, a .place-access .ensures _ _ (access k g) .at, seen e g .here .room, length-append (take (from (at e)) (S₀ (at e))) (rows (seen e g .under)))
+    omega (arith, a .move-access .ensures _ _ (access k g) .at, seen e g .here .room, length-append (take (from (at e)) (S₀ (at e))) (rows (seen e g .under)))
 
 loop-again-4 : tie.Need-loop-again-4 Inv-loop μ-loop
 loop-again-4 c =
-    let a : tie.After-place-access Inv-loop μ-loop = search in
+    let a : tie.After-move-access Inv-loop μ-loop = search in
     let k = accessed a in
     let e = turn k in
-    let o = a .place-access .ensures _ _ (access k (held (at e))) .on in (
+    let o = a .move-access .ensures _ _ (access k (held (at e))) .on in (
       omega arith,
       omega arith,
-      a .place-access .kept .0 ∙ kept (at e),
+      a .move-access .kept .0 ∙ kept (at e),
       λ t u g.
-          go-access _ (seen e g) (is k g .same) (going (at e) g .done) (a .place-access .ensures _ _ (access k g)),
+          go-access _ (seen e g) (is k g .same) (going (at e) g .done) (a .move-access .ensures _ _ (access k g)),
     )
 
-place-over-requires : tie.Need-place-over-requires Inv-loop μ-loop
-place-over-requires c κs =
+put-over-requires : tie.Need-put-over-requires Inv-loop μ-loop
+put-over-requires c κs =
     let k : tie.At-match-rest Inv-loop μ-loop = search in
     let l = at (other k) in
     (above k (held l) .room, behind l, within l)
 
 -- how many words are passed
-module _ (c : tie.After-place-over Inv-loop μ-loop) where
+module _ (c : tie.After-put-over Inv-loop μ-loop) where
   abbrev kind : tie.At-match-rest Inv-loop μ-loop
   kind = search
 
-  few : (c .place-over .result ≤ i (at (other kind))) × (2 ≤ c .place-over .result) × (i (at (other kind)) ≤ w (at (other kind)))
+  few : (c .put-over .result ≤ i (at (other kind))) × (2 ≤ c .put-over .result) × (i (at (other kind)) ≤ w (at (other kind)))
   few =
       let a = above kind (held (at (other kind))) in
-      let many = c .place-over .ensures .many in
+      let many = c .put-over .ensures .many in
       (omega (arith, a .room, a .many), omega (arith, a .many), behind (at (other kind)))
 
 sub-w-4 : tie.Need-sub-w-4 Inv-loop μ-loop
@@ -253,14 +257,14 @@ loop-less-5 c = omega (arith, few (search))
 
 loop-again-5 : tie.Need-loop-again-5 Inv-loop μ-loop
 loop-again-5 c =
-    let o : tie.After-place-over Inv-loop μ-loop = search in
+    let o : tie.After-put-over Inv-loop μ-loop = search in
     let l = at (other (kind o)) in
     let f = few o in (
       omega arith,
       omega arith,
-      o .place-over .kept .0 ∙ kept l,
+      o .put-over .kept .0 ∙ kept l,
       λ t u g.
-          go-over _ (above (kind o) g) (going l g .done) (behind l) (o .place-over .ensures),
+          go-over _ (above (kind o) g) (going l g .done) (behind l) (o .put-over .ensures),
     )
 
 sub-by : tie.Need-sub-by Inv-loop μ-loop
@@ -281,10 +285,10 @@ same-length c = omega arith
 returns : tie.Need-returns Inv-loop μ-loop
 returns c =
     let l : tie.At-loop Inv-loop μ-loop = search in
-    λ t p g. all-placed g (kept l) (behind l) (l .loop .inv .1) (going l g) (known (tie.After-loop Inv-loop μ-loop) (search) .loop-test .left) (known (tie.After-move-left Inv-loop μ-loop) (search) .move-left .ensures) refl
+    λ t p g. all-moved g (kept l) (behind l) (l .loop .inv .1) (going l g) (known (tie.After-loop Inv-loop μ-loop) (search) .loop-test .left) (known (tie.After-move-left Inv-loop μ-loop) (search) .move-left .ensures) refl
 
-pub place-spec : {M : Type 1} → statement M
-place-spec =
+pub move-to-pattern-spec : {M : Type 1} → statement M
+move-to-pattern-spec =
     tie.close
     (tie.spec
     Inv-loop
@@ -309,12 +313,12 @@ place-spec =
     loop-again-2
     loop-less-3
     loop-again-3
-    place-access-requires
+    move-access-requires
     sub-w-3
     add-w
     loop-less-4
     loop-again-4
-    place-over-requires
+    put-over-requires
     sub-w-4
     sub-i-3
     loop-less-5

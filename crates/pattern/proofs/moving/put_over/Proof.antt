@@ -1,10 +1,10 @@
--- `pattern::place_over` meets its contract: one record is put, or two. Assumes nothing.
+-- `pattern::moving::put_over` meets its contract: one record is put, or two. Assumes nothing.
 use native.Mathlib.Omega.{arith}
 use borrow.Author.Tests.{eq-eqb, ne-eqb}
 use Rattle.tree.proofs.Known.{known}
-use Rattle.pattern.proofs.Places.{over-one, over-two}
-use Rattle.pattern.proofs.place_over.Statement.{statement}
-use Rattle.pattern.proofs.place_over.Tie as tie
+use Rattle.pattern.proofs.Moved.{over-one, over-two}
+use Rattle.pattern.proofs.moving.put_over.Statement.{statement}
+use Rattle.pattern.proofs.moving.put_over.Tie as tie
 
 sub-word : tie.Need-sub-word
 sub-word c = omega arith
@@ -79,8 +79,8 @@ returns-3 : tie.Need-returns-3
 returns-3 c =
     over-one (omega arith) (known tie.After-put3 (search) .put3 .ensures) (rw (eq-eqb _ _ (known tie.Else1 (search) .if1 .left), ne-eqb _ _ (c .if2 .left)))
 
-pub place-over-spec : {M : Type 1} → statement M
-place-over-spec =
+pub put-over-spec : {M : Type 1} → statement M
+put-over-spec =
     tie.close
     (tie.spec
     sub-word

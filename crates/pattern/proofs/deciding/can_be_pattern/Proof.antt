@@ -1,5 +1,5 @@
--- `pattern::settles` meets its contract: in each turn the top of a row of trees that are all to be patterns is passed. Assumes nothing.
-use mathlib.Core.Path.{sym, _∙_}
+-- `pattern::deciding::can_be_pattern` meets its contract: in each turn the top of a row of trees that are all to be patterns is passed. Assumes nothing.
+use mathlib.Core.Path.{_≡_, sym, ap, _∙_}
 use mathlib.Core.Logic.{⊎-elim, inl, inr}
 use mathlib.Core.List.{List, [], _++_}
 use Prim.Native.Nat.{ℕ, _+_, _-_, _/_, _≤_, _<_}
@@ -15,12 +15,13 @@ use Rattle.grammar.specs.Reading.Pattern.{to-pattern, conv, pattern}
 use Rattle.grammar.specs.Laws.Facts.{by-test}
 use Rattle.pattern.specs.Contract.{Is, Whole}
 use Rattle.tree.proofs.Known.{known}
-use Rattle.pattern.proofs.Steps.{Ahead, View, view, shorter, whole-ahead, all-read, settled, ident-step, group-bare, group-modified, unpack-room, unpack-absent, unpack-other, tuple-room, tuple-step, tuple-none, some-members, no-pattern}
+use Rattle.pattern.proofs.Decided.{decided-no}
+use Rattle.pattern.proofs.Steps.{Ahead, View, view, shorter, whole-ahead, all-read, decided-yes, ident-step, group-bare, group-modified, unpack-room, unpack-absent, unpack-other, tuple-room, tuple-step, tuple-none, some-members, no-pattern}
 use Rattle.pattern.proofs.Access.{Receives, top-primary, primary-room, path-none, Shape, shape-of, no-item-step, attribute-pat, attribute-trees, index-pat, index-trees, no-top, top-passed}
-use Rattle.pattern.proofs.settles.Statement.{statement}
-use Rattle.pattern.proofs.settles.Tie as tie
+use Rattle.pattern.proofs.deciding.can_be_pattern.Statement.{statement}
+use Rattle.pattern.proofs.deciding.can_be_pattern.Tie as tie
 
--- up to i stands what is to be settled yet
+-- up to i stands what is still to be settled
 record Seeing (m : Maybe Tree) (S : List ℕ) (from i : ℕ) : Type 0 where
   ahead : List ℕ
   left : Ahead m (take from S) (take i S) ahead
@@ -77,6 +78,13 @@ module _ (c : tie.At-match-keys2 Inv-loop μ-loop) where
   pack-room : 4 ≤ i unpack-turn
   pack-room = omega (arith, unpack-room (reach unpack-turn) (seen unpack-turn (held unpack-turn)) (c .match .keys2))
 
+  -- the record of what an unpack has stands before its own
+  inner-at : i unpack-turn - 4 ≡ i unpack-turn - 2 - 2
+  inner-at = omega arith
+
+  inner : getD (S unpack-turn) (i unpack-turn - 4) 0 ≡ getD (S unpack-turn) (i unpack-turn - 2 - 2) 0
+  inner = ap (λ (n : ℕ). getD (S unpack-turn) n 0) inner-at
+
 module _ (c : tie.At-match-keys3 Inv-loop μ-loop) where
   abbrev tuple-turn : Turn
   tuple-turn = search
@@ -125,19 +133,19 @@ module _ (c : tie.Else3 Inv-loop μ-loop) where
         (omega (arith, passed-less), λ t g. record { ahead = _; left = top-passed (seen path-turn g) (pats t g .what) (pats t g .same) (skips _ (trees t g) .text) })
 
 -- where the last item is an attribute, and where it is an index
-module _ (c : tie.Then4 Inv-loop μ-loop) where
+module _ (c : tie.At-match2-keys1 Inv-loop μ-loop) where
   abbrev attribute-at : tie.Else3 Inv-loop μ-loop
   attribute-at = search
 
   attributes : (t : Tree) (g : Holds (path-turn attribute-at) t) → Trees (base (access attribute-at) g) (take (i (path-turn attribute-at) - 6) (S (path-turn attribute-at))) (getD (S (path-turn attribute-at)) (i (path-turn attribute-at) - 4) 0 / 256)
-  attributes t g = attribute-trees (parts attribute-at g) (c .if4 .taken)
+  attributes t g = attribute-trees (parts attribute-at g) (c .match2 .keys1)
 
-module _ (c : tie.Else5 Inv-loop μ-loop) where
+module _ (c : tie.At-match2-keys2 Inv-loop μ-loop) where
   abbrev index-at : tie.Else3 Inv-loop μ-loop
   index-at = search
 
   indexes : (t : Tree) (g : Holds (path-turn index-at) t) → Trees (base (access index-at) g) (take (i (path-turn index-at) - 6) (S (path-turn index-at))) (getD (S (path-turn index-at)) (i (path-turn index-at) - 4) 0 / 256 + 1)
-  indexes t g = index-trees (parts index-at g) (c .if5 .left)
+  indexes t g = index-trees (parts index-at g) (c .match2 .keys2)
 
 loop-holds : tie.Need-loop-holds Inv-loop μ-loop
 loop-holds c = (known (tie.Start Inv-loop μ-loop) (search) .pre .whole .within, λ t g. record { ahead = []; left = whole-ahead g })
@@ -171,8 +179,11 @@ loop-again c =
           (c .match .keys1),
     )
 
+sub-i-2 : tie.Need-sub-i-2 Inv-loop μ-loop
+sub-i-2 c = room (search)
+
 sub-if1 : tie.Need-sub-if1 Inv-loop μ-loop
-sub-if1 c = pack-room c
+sub-if1 c = omega (arith, pack-room c)
 
 mul-if1 : tie.Need-mul-if1 Inv-loop μ-loop
 mul-if1 c = omega arith
@@ -180,8 +191,8 @@ mul-if1 c = omega arith
 shared-slice-read-if1 : tie.Need-shared-slice-read-if1 Inv-loop μ-loop
 shared-slice-read-if1 c = omega arith
 
-sub-i-2 : tie.Need-sub-i-2 Inv-loop μ-loop
-sub-i-2 c = pack-room (search)
+sub-i-3 : tie.Need-sub-i-3 Inv-loop μ-loop
+sub-i-3 c = omega (arith, pack-room (search))
 
 loop-less-2 : tie.Need-loop-less-2 Inv-loop μ-loop
 loop-less-2 c = omega arith
@@ -191,10 +202,7 @@ loop-again-2 c =
     let k : tie.At-match-keys2 Inv-loop μ-loop = search in
     let e = unpack-turn k in
     let h = reach e in
-    (omega arith, λ t g. record { ahead = _; left = unpack-absent h (seen e g) (k .match .keys2) (c .if1 .taken) })
-
-sub-i-3 : tie.Need-sub-i-3 Inv-loop μ-loop
-sub-i-3 c = room (search)
+    (omega arith, λ t g. record { ahead = _; left = rw (inner-at k) at (unpack-absent h (seen e g) (k .match .keys2) (inner k ∙ c .if1 .taken)) })
 
 loop-less-3 : tie.Need-loop-less-3 Inv-loop μ-loop
 loop-less-3 c = omega arith
@@ -204,7 +212,7 @@ loop-again-3 c =
     let k : tie.At-match-keys2 Inv-loop μ-loop = search in
     let e = unpack-turn k in
     let h = reach e in
-    (omega arith, λ t g. record { ahead = _; left = unpack-other h (seen e g) (k .match .keys2) (c .if1 .left) })
+    (omega arith, λ t g. record { ahead = _; left = unpack-other h (seen e g) (k .match .keys2) (λ z. c .if1 .left (sym (inner k) ∙ z)) })
 
 sub-has-members : tie.Need-sub-has-members Inv-loop μ-loop
 sub-has-members c = member-room c
@@ -224,7 +232,7 @@ returns c =
     let e = tuple-turn k in
     let m = known (tie.After-has-members Inv-loop μ-loop) (search) .has-members in
     let n = sym (m .ensures) ∙ not-true (m .result) (c .if2 .taken) in
-    λ t g. record { how = tuple-none (reach e) (seen e g) (k .match .keys3) n }
+    λ t g. decided-no (tuple-none (reach e) (seen e g) (k .match .keys3) n)
 
 sub-i-4 : tie.Need-sub-i-4 Inv-loop μ-loop
 sub-i-4 c = member-room (search)
@@ -261,7 +269,7 @@ returns-2 c =
     let a : tie.At-match-keys4 Inv-loop μ-loop = search in
     let m = known (tie.After-has-members2 Inv-loop μ-loop) (search) .has-members2 in
     let n = sym (m .ensures) ∙ not-true (m .result) (c .if3 .taken) in
-    λ t g. record { how = no-top (seen (access-turn a) g) (path-none (receives a g) n) }
+    λ t g. decided-no (no-top (seen (access-turn a) g) (path-none (receives a g) n))
 
 sub-last : tie.Need-sub-last Inv-loop μ-loop
 sub-last c = omega (arith, path-room c)
@@ -283,18 +291,13 @@ skip-requires c κs =
 
 loop-less-5 : tie.Need-loop-less-5 Inv-loop μ-loop
 loop-less-5 c =
-    let k : tie.Then4 Inv-loop μ-loop = search in
+    let k : tie.At-match2-keys1 Inv-loop μ-loop = search in
     passed-less (attribute-at k) (attributes k) (c .skip .ensures)
 
 loop-again-5 : tie.Need-loop-again-5 Inv-loop μ-loop
 loop-again-5 c =
-    let k : tie.Then4 Inv-loop μ-loop = search in
-    passed-again (attribute-at k) (attributes k) (c .skip .ensures) (λ t g. record { what = _; same = attribute-pat (parts (attribute-at k) g) (k .if4 .taken) })
-
-returns-3 : tie.Need-returns-3 Inv-loop μ-loop
-returns-3 c =
-    let p : tie.Else3 Inv-loop μ-loop = search in
-    λ t g. record { how = no-top (seen (path-turn p) g) (no-item-step (parts p g) (known (tie.Else4 Inv-loop μ-loop) (search) .if4 .left) (c .if5 .taken)) }
+    let k : tie.At-match2-keys1 Inv-loop μ-loop = search in
+    passed-again (attribute-at k) (attributes k) (c .skip .ensures) (λ t g. record { what = _; same = attribute-pat (parts (attribute-at k) g) (k .match2 .keys1) })
 
 sub-skip-2 : tie.Need-sub-skip-2 Inv-loop μ-loop
 sub-skip-2 c = omega (arith, path-room (index-at c))
@@ -312,27 +315,33 @@ skip-requires-2 c κs =
 
 loop-less-6 : tie.Need-loop-less-6 Inv-loop μ-loop
 loop-less-6 c =
-    let k : tie.Else5 Inv-loop μ-loop = search in
+    let k : tie.At-match2-keys2 Inv-loop μ-loop = search in
     passed-less (index-at k) (indexes k) (c .skip2 .ensures)
 
 loop-again-6 : tie.Need-loop-again-6 Inv-loop μ-loop
 loop-again-6 c =
-    let k : tie.Else5 Inv-loop μ-loop = search in
-    passed-again (index-at k) (indexes k) (c .skip2 .ensures) (λ t g. record { what = _; same = index-pat (parts (index-at k) g) (k .if5 .left) })
+    let k : tie.At-match2-keys2 Inv-loop μ-loop = search in
+    passed-again (index-at k) (indexes k) (c .skip2 .ensures) (λ t g. record { what = _; same = index-pat (parts (index-at k) g) (k .match2 .keys2) })
+
+returns-3 : tie.Need-returns-3 Inv-loop μ-loop
+returns-3 c =
+    let p : tie.Else3 Inv-loop μ-loop = search in
+    let n = c .match2 .rest in
+    λ t g. decided-no (no-top (seen (path-turn p) g) (no-item-step (parts p g) (n .0 .1) (n .1)))
 
 returns-4 : tie.Need-returns-4 Inv-loop μ-loop
 returns-4 c =
     let e : Turn = search in
     let n = c .match .rest in
-    λ t g. record { how = no-pattern (seen e g) (λ k. n .0 .0 .0 .1 (inl k)) (λ k. n .0 .0 .0 .1 (inr k)) (n .0 .0 .1) (n .0 .1) (n .1) }
+    λ t g. decided-no (no-pattern (seen e g) (λ k. n .0 .0 .0 .1 (inl k)) (λ k. n .0 .0 .0 .1 (inr k)) (n .0 .0 .1) (n .0 .1) (n .1))
 
 returns-5 : tie.Need-returns-5 Inv-loop μ-loop
 returns-5 c =
     let l = known (tie.At-loop Inv-loop μ-loop) (search) .loop in
-    λ t g. record { how = settled (all-read _ _ (l .inv .0) (l .inv .1 _ g .left) (no-shorter _ _ _ _ g (c .loop-test .left))) }
+    λ t g. decided-yes (to-pattern t) (all-read _ _ (l .inv .0) (l .inv .1 _ g .left) (no-shorter _ _ _ _ g (c .loop-test .left)))
 
-pub settles-spec : {M : Type 1} → statement M
-settles-spec =
+pub can-be-pattern-spec : {M : Type 1} → statement M
+can-be-pattern-spec =
     tie.close
     (tie.spec
     Inv-loop
@@ -344,13 +353,13 @@ settles-spec =
     sub-i
     loop-less
     loop-again
+    sub-i-2
     sub-if1
     mul-if1
     shared-slice-read-if1
-    sub-i-2
+    sub-i-3
     loop-less-2
     loop-again-2
-    sub-i-3
     loop-less-3
     loop-again-3
     sub-has-members
@@ -373,11 +382,11 @@ settles-spec =
     skip-requires
     loop-less-5
     loop-again-5
-    returns-3
     sub-skip-2
     add-skip
     skip-requires-2
     loop-less-6
     loop-again-6
+    returns-3
     returns-4
     returns-5)

@@ -1,4 +1,4 @@
--- `pattern::skip` meets its contract: each record that is passed is a tree less and its children more. Assumes nothing.
+-- `pattern::rows::skip` meets its contract: each record that is passed is a tree less and its children more. Assumes nothing.
 use mathlib.Core.List.{List}
 use Prim.Native.Nat.{ℕ, _-_, _≤_}
 use native.Mathlib.Omega.{arith}
@@ -7,8 +7,8 @@ use borrow.Author.Needs.{needs}
 use lib.ListN.{length, take}
 use Rattle.tree.specs.Rows.{Trees, ScanStep, scan-step, enough, ended}
 use Rattle.tree.proofs.Known.{known}
-use Rattle.pattern.proofs.skip.Statement.{statement}
-use Rattle.pattern.proofs.skip.Tie as tie
+use Rattle.pattern.proofs.rows.skip.Statement.{statement}
+use Rattle.pattern.proofs.rows.skip.Tie as tie
 
 -- whatever stands before the trees, it and those that are still needed stand up to i
 abbrev Inv-loop : tie.InvT-loop

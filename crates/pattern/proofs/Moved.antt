@@ -8,7 +8,7 @@ use native.Mathlib.Nat.{le-trans}
 use borrow.Author.Tests.{eqb-true, eqb-false}
 use lib.Dec.{eqb}
 use lib.ListN.{length, take, drop, getD, length-append, length-drop}
-use lib.Seq.{take-take, take-at, drop-at, length-take-le}
+use lib.Seq.{take-take, take-at, drop-at, drop-drop, length-take-le}
 use Rattle.tree.specs.NodeKind
 use Rattle.tree.specs.Tree.{Tree, Forest, node, one, two, count, records}
 use Rattle.tree.specs.Rows.{end, on, rows, push, Starts, rows-push}
@@ -17,7 +17,7 @@ use Rattle.tree.specs.Written.{drop-take}
 use Rattle.grammar.specs.Reading.Pattern.{pattern, receiver, conv, to-pattern}
 use Rattle.grammar.specs.Laws.Facts.{by-test}
 use Rattle.pattern.specs.Word
-use Rattle.pattern.specs.Contract.{Is, Put, Right, Left, Fit, Stands, Access, Placed, Over, over-as, over-words, has-members}
+use Rattle.pattern.specs.Contract.{Is, Put, Right, Left, Fit, Stands, Access, Moved, Over, over-as, over-words, has-members}
 use Rattle.pattern.proofs.Lists.{keep}
 use Rattle.pattern.proofs.Conv.{wordsM}
 use Rattle.pattern.proofs.Steps.{Ahead, View, all-read, no-pattern, some-members, unpack-room, unpack-absent, unpack-other, tuple-room, tuple-step, tuple-none}
@@ -78,10 +78,10 @@ module _ {B : List ℕ} {p : Tree} {S : List ℕ} {i w : ℕ} (a : Access B p S 
       let l = sure-shape a .list-word in
       omega arith
 
-  pub attribute-placed : {S₁ S₂ S₃ S₄ : List ℕ} {r : ℕ} → getD S (i - 6) 0 ≡ Word.Attribute → Starts B S r
+  pub attribute-moved : {S₁ S₂ S₃ S₄ : List ℕ} {r : ℕ} → getD S (i - 6) 0 ≡ Word.Attribute → Starts B S r
       → Put (w - 2) Word.AttributePattern (getD S (i - 5) 0) S S₁ → Put (w - 4) Word.Primary (getD S (i - 1) 0) S₁ S₂ → Put (w - 6) (getD S (i - 4) 0 - 256) (getD S (i - 3) 0) S₂ S₃ → Right r (i - 6) (w - i) S₃ S₄
-      → Placed B p S i w r S₄
-  attribute-placed {S₁ = S₁} {S₂ = S₂} {S₃ = S₃} {S₄ = S₄} {r = r} e s p₁ p₂ p₃ m =
+      → Moved B p S i w r S₄
+  attribute-moved {S₁ = S₁} {S₂ = S₂} {S₃ = S₃} {S₄ = S₄} {r = r} e s p₁ p₂ p₃ m =
       let sh = sure-shape a in
       let at = s .at in
       let same : take (i - 6) S₃ ≡ take (i - 6) S = before-put p₃ (i - 6) (omega arith) ∙ before-put p₂ (i - 6) (omega arith) ∙ before-put p₁ (i - 6) (omega arith) in
@@ -102,12 +102,12 @@ module _ {B : List ℕ} {p : Tree} {S : List ℕ} {i w : ℕ} (a : Access B p S 
             ∙ ap (λ (t : Tree). records t ++ drop w S) (same-pat (conv (a .tree) pattern) (a .same) (attribute-pat sh e));
       }
 
-  pub index-placed : {S₁ S₂ S₃ S₄ S₅ : List ℕ} {r q : ℕ} → (e : getD S (i - 6) 0 ≡ Word.Index) → Starts B S r → Starts (B ++ rows (before-last (sure-shape a))) S q
+  pub index-moved : {S₁ S₂ S₃ S₄ S₅ : List ℕ} {r q : ℕ} → (e : getD S (i - 6) 0 ≡ Word.Index) → Starts B S r → Starts (B ++ rows (before-last (sure-shape a))) S q
       → Put (w - 2) Word.IndexPattern 0 S S₁ → Right q (i - 6) (w - i + 4) S₁ S₂ → Put (q + (w - i) + 2) Word.Primary (getD S (i - 1) 0) S₂ S₃ → Put (q + (w - i)) (getD S (i - 4) 0 - 256) (getD S (i - 3) 0) S₃ S₄ → Right r q (w - i) S₄ S₅
       → q ≤ i - 6
-      → Placed B p S i w r S₅
+      → Moved B p S i w r S₅
   unfolding rows
-  index-placed {S₁ = S₁} {S₂ = S₂} {S₃ = S₃} {S₄ = S₄} {S₅ = S₅} {r = r} {q = q} e s t p₁ m₁ p₂ p₃ m₂ le₆ =
+  index-moved {S₁ = S₁} {S₂ = S₂} {S₃ = S₃} {S₄ = S₄} {S₅ = S₅} {r = r} {q = q} e s t p₁ m₁ p₂ p₃ m₂ le₆ =
       let sh = sure-shape a in
       let X = rows (before-last sh) in
       let u = index-of sh e .expr in
@@ -151,7 +151,7 @@ pub go-put : {m : Maybe Tree} {B S S′ Y : List ℕ} (Z : List ℕ) {word value
 go-put {Y = Y} Z {word = word} {value = value} n w a d p h e =
     record { ahead = word ∷ value ∷ Y; left = rw (before-put p n h) a; done = put-then p w e ∙ ap (λ (l : List ℕ). word ∷ value ∷ l) d }
 
-pub go-access : {m : Maybe Tree} {B S S′ Y : List ℕ} (Z : List ℕ) {i w r : ℕ} {p : Tree} → (x : View m B S i Y) → conv (x .tree) pattern ≡ just p → drop w S ≡ Y ++ Z → Placed (B ++ rows (x .under)) p S i w r S′ → Going m B Z S′ r (r + (w - i))
+pub go-access : {m : Maybe Tree} {B S S′ Y : List ℕ} (Z : List ℕ) {i w r : ℕ} {p : Tree} → (x : View m B S i Y) → conv (x .tree) pattern ≡ just p → drop w S ≡ Y ++ Z → Moved (B ++ rows (x .under)) p S i w r S′ → Going m B Z S′ r (r + (w - i))
 go-access {S′ = S′} {Y = Y} Z {r = r} {p = p} x e d q =
     record {
       ahead = records p ++ Y;
@@ -212,7 +212,7 @@ go-over {S = S} {S′ = S′} {Y = Y} Z {i = i} {w = w} {r = r} a d h o =
       done = o .tail ∙ ap (λ (l : List ℕ). X ++ l) d ∙ sym (append-assoc X Y Z);
     }
 
--- the words that `place_over` has put
+-- the words that `put_over` has put
 pub over-one : {S S₁ X : List ℕ} {w c : ℕ} → 2 ≤ w → Put (w - 2) c 0 S S₁ → X ≡ c ∷ 0 ∷ [] → Over X w S 2 S₁
 over-one {S = S} {w = w} h p e = record { many = ap length (sym e); head = p .head; tail = put-then p w (omega arith) ∙ ap (λ (l : List ℕ). l ++ drop w S) (sym e) }
 
@@ -241,9 +241,9 @@ base-text {B = B} S i h a =
     let l = not-below S i h a in
     sym (take-take (length B) i S l) ∙ ap (take (length B)) (a .text) ∙ take-at B (rows (a .row)) (length B) refl
 
-pub all-placed : {t p : Tree} {S₀ S S′ : List ℕ} {from to i w r : ℕ} → Fit t p S₀ from to → length S ≡ length S₀ → i ≤ w → w ≤ to → Going (to-pattern t) (take from S₀) (drop to S₀) S i w → i ≤ from
+pub all-moved : {t p : Tree} {S₀ S S′ : List ℕ} {from to i w r : ℕ} → Fit t p S₀ from to → length S ≡ length S₀ → i ≤ w → w ≤ to → Going (to-pattern t) (take from S₀) (drop to S₀) S i w → i ≤ from
     → Left w to (w - from) S S′ → r ≡ to - (w - from) → Stands p S₀ from to r S′
-all-placed {t = t} {p = p} {S₀ = S₀} {S = S} {S′ = S′} {from = from} {to = to} {i = i} {w = w} {r = r} g kept a b q c l e =
+all-moved {t = t} {p = p} {S₀ = S₀} {S = S} {S′ = S′} {from = from} {to = to} {i = i} {w = w} {r = r} g kept a b q c l e =
     let h : i ≤ length S = omega arith in
     let n : length (take from S₀) ≡ from = length-take-le from S₀ (omega arith) in
     let low = not-below S i h (q .left) in
@@ -252,7 +252,9 @@ all-placed {t = t} {p = p} {S₀ = S₀} {S = S} {S′ = S′} {from = from} {to
     let long : length (q .ahead) ≡ to - w = omega arith in
     let tail : drop w (take to S) ≡ records p = drop-take S w to b (omega arith) ∙ ap (take (to - w)) (q .done) ∙ take-at (q .ahead) (drop to S₀) (to - w) long ∙ words in
     let head : take (w - (w - from)) S ≡ take from S₀ = ap (λ (n : ℕ). take n S) (let z : w - (w - from) ≡ length (take from S₀) = omega arith in z) ∙ base-text S i h (q .left) in
+    let after : drop to S ≡ drop to S₀ = ap (λ (n : ℕ). drop n S) (let z : to ≡ w + (to - w) = omega arith in z) ∙ sym (drop-drop (to - w) w S) ∙ ap (drop (to - w)) (q .done) ∙ drop-at (q .ahead) (drop to S₀) (to - w) long in
     record {
       text = ap (λ (n : ℕ). take n S′) e ∙ l .text ∙ rw (head, tail);
       short = omega arith;
+      rest = l .rest ∙ after;
     }

@@ -1,4 +1,4 @@
--- `pattern::move_left` meets its contract: the words are moved one by one, the first one first. Assumes nothing.
+-- `pattern::moving::move_left` meets its contract: the words are moved one by one, the first one first. Assumes nothing.
 use mathlib.Core.Path.{_≡_, refl, sym, ap, _∙_}
 use mathlib.Core.List.{List, [], _∷_, _++_, append-nil, append-assoc}
 use Prim.Native.Nat.{ℕ, suc, _+_, _-_, _≤_, _<_}
@@ -9,8 +9,8 @@ use borrow.Author.Needs.{needs}
 use lib.ListN.{length, take, drop, set, getD, length-set, length-take}
 use lib.Seq.{drop-set-lt, drop-drop, getD-drop, take-suc, take-suc-set, drop-append-le, slice-empty}
 use Rattle.tree.proofs.Known.{known}
-use Rattle.pattern.proofs.move_left.Statement.{statement}
-use Rattle.pattern.proofs.move_left.Tie as tie
+use Rattle.pattern.proofs.moving.move_left.Statement.{statement}
+use Rattle.pattern.proofs.moving.move_left.Tie as tie
 
 record Moving (S₀ : List ℕ) (from to by : ℕ) (S : List ℕ) (k : ℕ) : Type 0 where
   low : from ≤ k
@@ -87,7 +87,7 @@ returns c =
     let l = known (tie.At-loop Inv-loop μ-loop) (search) .loop in
     let i = l .inv in
     let e : l .k ≡ known (tie.Start Inv-loop μ-loop) (search) .args .to = omega arith in
-    rw (← e) (record { text = i .head })
+    rw (← e) (record { text = i .head; rest = i .tail })
 
 pub move-left-spec : {M : Type 1} → statement M
 move-left-spec =

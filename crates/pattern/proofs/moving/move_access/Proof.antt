@@ -1,4 +1,4 @@
--- `pattern::place_access` meets its contract: the records of an attribute or an index pattern are put and moved from the right. Assumes nothing.
+-- `pattern::moving::move_access` meets its contract: the records of an attribute or an index pattern are put and moved from the right. Assumes nothing.
 use mathlib.Core.Path.{_≡_}
 use mathlib.Core.List.{List, _++_}
 use Prim.Native.Nat.{ℕ, _+_, _*_, _-_, _≤_}
@@ -11,9 +11,9 @@ use Rattle.pattern.specs.Word
 use Rattle.pattern.specs.Contract.{Access}
 use Rattle.tree.proofs.Known.{known}
 use Rattle.pattern.proofs.Access.{before-last, front-trees, attribute-trees, index-first}
-use Rattle.pattern.proofs.Places.{reach, sure-shape, sure-index, attribute-placed, index-placed}
-use Rattle.pattern.proofs.place_access.Statement.{statement}
-use Rattle.pattern.proofs.place_access.Tie as tie
+use Rattle.pattern.proofs.Moved.{reach, sure-shape, sure-index, attribute-moved, index-moved}
+use Rattle.pattern.proofs.moving.move_access.Statement.{statement}
+use Rattle.pattern.proofs.moving.move_access.Tie as tie
 
 -- the store, the places, and any access that the store may hold there
 module _ (c : tie.Start) where
@@ -272,7 +272,7 @@ returns c =
     let p₂ = after-put2 p₃ in
     let p₁ = after-put p₂ in
     let k = after-skip p₁ in
-    λ B p a. attribute-placed a (known tie.Then1 (search) .if1 .taken) (attribute-starts k a) (p₁ .put .ensures) (p₂ .put2 .ensures) (p₃ .put3 .ensures) (known tie.After-move-right (search) .move-right .ensures)
+    λ B p a. attribute-moved a (known tie.Then1 (search) .if1 .taken) (attribute-starts k a) (p₁ .put .ensures) (p₂ .put2 .ensures) (p₃ .put3 .ensures) (known tie.After-move-right (search) .move-right .ensures)
 
 same-length-2 : tie.Need-same-length-2
 same-length-2 c = omega arith
@@ -285,10 +285,10 @@ returns-2 c =
     let p₄ = after-put4 m₂ in
     let k = after-skip3 p₄ in
     let l = middle-room (after-skip2 k) in
-    λ B p a. index-placed a (index (at-index (after-skip2 k)) a) (index-starts k a) (middle (after-skip2 k) a) (p₄ .put4 .ensures) (m₂ .move-right2 .ensures) (p₅ .put5 .ensures) (p₆ .put6 .ensures) (known tie.After-move-right3 (search) .move-right3 .ensures) (omega arith)
+    λ B p a. index-moved a (index (at-index (after-skip2 k)) a) (index-starts k a) (middle (after-skip2 k) a) (p₄ .put4 .ensures) (m₂ .move-right2 .ensures) (p₅ .put5 .ensures) (p₆ .put6 .ensures) (known tie.After-move-right3 (search) .move-right3 .ensures) (omega arith)
 
-pub place-access-spec : {M : Type 1} → statement M
-place-access-spec =
+pub move-access-spec : {M : Type 1} → statement M
+move-access-spec =
     tie.close
     (tie.spec
     sub-by

@@ -1,4 +1,4 @@
--- `pattern::move_right` meets its contract: the words are moved one by one, the last one first. Assumes nothing.
+-- `pattern::moving::move_right` meets its contract: the words are moved one by one, the last one first. Assumes nothing.
 use mathlib.Core.Path.{_≡_, refl, sym, ap, _∙_}
 use mathlib.Core.List.{List, [], _∷_, _++_}
 use Prim.Native.Nat.{ℕ, suc, _+_, _-_, _≤_, _<_}
@@ -8,8 +8,8 @@ use lib.ListN.{length, take, drop, set, getD, length-set}
 use lib.Seq.{take-set-le, getD-take, slice, slice-empty, slice-cons}
 use Rattle.tree.proofs.Known.{known}
 use Rattle.pattern.proofs.Lists.{keep, stored}
-use Rattle.pattern.proofs.move_right.Statement.{statement}
-use Rattle.pattern.proofs.move_right.Tie as tie
+use Rattle.pattern.proofs.moving.move_right.Statement.{statement}
+use Rattle.pattern.proofs.moving.move_right.Tie as tie
 
 record Moving (S₀ : List ℕ) (from to by : ℕ) (S : List ℕ) (k : ℕ) : Type 0 where
   low : from ≤ k
