@@ -6,6 +6,7 @@ pub mod Levels
 pub mod Sheets
 pub mod Looks
 pub mod Depths
+pub mod Patterns
 pub mod Laws
 pub mod Promise
 pub mod Locality

@@ -96,7 +96,7 @@ s k r = k ∷ 0 ∷ r
 abbrev pub name : ℕ → List ℕ → List ℕ
 name n r = Kind.Identifier ∷ n ∷ r
 
-abbrev int : ℕ → List ℕ → List ℕ
+abbrev pub int : ℕ → List ℕ → List ℕ
 int v r = Kind.IntegerLiteral ∷ v ∷ r
 
 abbrev pub eof : List ℕ
@@ -112,13 +112,13 @@ abbrev newline : List ℕ → List ℕ
 newline [] = []
 newline (w ∷ r) = (w + 256) ∷ r
 
-abbrev a : ℕ
+abbrev pub a : ℕ
 a = 0
 
-abbrev b : ℕ
+abbrev pub b : ℕ
 b = 1
 
-abbrev c : ℕ
+abbrev pub c : ℕ
 c = 2
 
 abbrev just-name : ℕ → Tree
