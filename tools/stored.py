@@ -160,6 +160,29 @@ LABELS = [
     "loop continue end ; begin continue ::0 end , ) EOF",
 ]
 
+# request P4: expressions that can be a pattern, and such as come near and cannot; each stands in each of the places where one is asked for, but a function's
+# target, which is an atom and a path without calls
+CAN_BE_PATTERN = [
+    "a", "( a )", "( ( a ) )", "( let a )", "( var ( local a ) )", "( nonlocal ( a ) )",
+    "...", "a ...", "( a ... ) ...", "( let a ) ...", "( ... )",
+    "a , b", "( a , )", "( a , b )", "( a , ( b , c ) , ( let d , ) ) , f ...", "( let a , b ) , c",
+    "a . b", "a [ b ]", "a . b . c", "a [ b ] [ c ]", "a . b [ c ]", "a [ b ] . c", "a ( ) . b", "a ( b , c ) [ d ]", "a { b = c } . d",
+    "1 . a", "nil [ a ]", "( a + b ) . c", "( a , b ) [ c ]", "( a = b ) . c", "( ) . a", "a [ b = c ]", "a [ b , c ]", "a [ fun ( ) end ]", "a [ - b . c ]",
+    "( a ) , b . c [ 1 ] , ( let d ) , f [ g . h ] ...",
+]
+CANNOT_BE_PATTERN = [
+    "1", "nil", "( )", "( 1 )", "( let 1 )", "1 ...", "- a", "not a . b", "a + b", "( a and b )", "( ( a ) + b )",
+    "a ( )", "a . b ( )", "a [ b ] ( c )", "a { }", "a . b { c = d }", "( a ( ) )", "( let a . b ( ) ) ...",
+    "1 , a", "a , 1", "a , ( ) , b", "( 1 , )", "( a , - b )", "( a , ( b , c ( ) ) , d )", "( let a , 1 ) , b", "( a . b , c [ d ] , f ( ) )", "( a + b , c . d )",
+    "( a = b )", "( let a = b )", "( a += b )", "{ }", "{ a = b }", "begin a end", "if a then b end", "fun ( ) end", "fun a ( ) end", "a , fun b . c ( ) end",
+    "- a . b", "a . b + c . d", "( - a ) ...", "begin a end ...",
+]
+PATTERN_PLACES = ["%s = z EOF", "let %s = y = z EOF", "%s += z ; y EOF", "for %s in z do end EOF", "for var %s in z do y end EOF", "begin %s = z ; y end EOF"]
+TARGETS = [
+    "a", "a . b", "a [ b ]", "a . b [ c ] . d", "1 . a", "nil [ a ]", "s1 . a", "true [ a ] [ b ]", "a [ b , ( ) ] . c", "a [ fun b ( ) end ]",
+    "1", "nil", "true", "false", "s1", "f0", "a ...", "a . 1", "a [ b", "- a", "a { }", "...", "a , b", "a = b",
+]
+
 # the binary operators by their levels, 1 to 10
 LEVELS = [row.split() for row in ("* / %", "+ -", "<< >>", "&", "^^", "|", "< > <= >=", "== !=", "and", "or")]
 
@@ -210,6 +233,12 @@ PLACES = [
     "fun ( a = begin let b ; c - d * e end ) f end EOF",
     "{ a = begin ] ; b - c * d end , [ e * f + g ] = h } EOF",
 ]
+
+
+def patterns():
+    """Each of these expressions in each of the places where a pattern is asked for, and functions with these targets."""
+    sheets = [place % expr for expr in CAN_BE_PATTERN + CANNOT_BE_PATTERN for place in PATTERN_PLACES]
+    return sheets + ["fun %s ( ) end ; z EOF" % target for target in TARGETS]
 
 
 def mixed():
