@@ -95,20 +95,20 @@ ends = s Kind.Semicolon eof
 
 pub places : List Row
 places =
-    -- (a), (let b), c.a[1], b... = c: one of each
+    -- plan.fees[1], (let years), (rate), rest... = terms: one of each, the names by their numbers in sheets/patterns.sphinx
     record {
       sheet =
-          s Kind.OpenParen (name a (s Kind.CloseParen (s Kind.Comma (s Kind.OpenParen (s Kind.Let (name b (s Kind.CloseParen (s Kind.Comma
-          (name c (s Kind.OpAccess (name a (s Kind.OpenSquare (int 1 (s Kind.CloseSquare (s Kind.Comma (name b (s Kind.Ellipsis (s Kind.OpAssign (name c eof)))))))))))))))))));
+          name 0 (s Kind.OpAccess (name 1 (s Kind.OpenSquare (int 1 (s Kind.CloseSquare (s Kind.Comma (s Kind.OpenParen (s Kind.Let (name 2 (s Kind.CloseParen (s Kind.Comma
+          (s Kind.OpenParen (name 3 (s Kind.CloseParen (s Kind.Comma (name 4 (s Kind.Ellipsis (s Kind.OpAssign (name 5 eof)))))))))))))))))));
       says =
           tree (Node.expression (Node.assignment 0 0 (Node.tuple-pattern
-          (more (Node.identifier-pattern a) (more (let-pattern (Node.identifier-pattern b))
-          (two (Node.index-pattern (Node.primary (Node.identifier c) (one (Node.attribute a))) (Node.integer-literal 1)) (Node.pack (Node.identifier-pattern b))))))
-          (Node.identifier c))) 20 []
+          (more (Node.index-pattern (Node.primary (Node.identifier 0) (one (Node.attribute 1))) (Node.integer-literal 1))
+          (more (let-pattern (Node.identifier-pattern 2)) (two (Node.identifier-pattern 3) (Node.pack (Node.identifier-pattern 4))))))
+          (Node.identifier 5))) 20 []
           ∷ end 20 ∷ [];
       tokens = just
-          (s Kind.OpenParen (name a (s Kind.Comma (s Kind.OpenParen (s Kind.Let (name b (s Kind.CloseParen (s Kind.Comma
-          (name c (s Kind.OpAccess (name a (s Kind.OpenSquare (int 1 (s Kind.CloseSquare (s Kind.Comma (name b (s Kind.Ellipsis (s Kind.CloseParen (s Kind.OpAssign (name c ends))))))))))))))))))));
+          (s Kind.OpenParen (name 0 (s Kind.OpAccess (name 1 (s Kind.OpenSquare (int 1 (s Kind.CloseSquare (s Kind.Comma (s Kind.OpenParen (s Kind.Let (name 2 (s Kind.CloseParen (s Kind.Comma
+          (name 3 (s Kind.Comma (name 4 (s Kind.Ellipsis (s Kind.CloseParen (s Kind.OpAssign (name 5 ends))))))))))))))))))));
     } ∷
     -- 1, a = b: the part that is met first can be a pattern, the whole cannot
     record { sheet = int 1 (s Kind.Comma (name a (s Kind.OpAssign (name b eof)))); says = error Number.cannot-assign 5 [] ∷ end 5 ∷ []; tokens = nothing } ∷
