@@ -175,7 +175,7 @@ CANNOT_BE_PATTERN = [
     "a ( )", "a . b ( )", "a [ b ] ( c )", "a { }", "a . b { c = d }", "( a ( ) )", "( let a . b ( ) ) ...",
     "1 , a", "a , 1", "a , ( ) , b", "( 1 , )", "( a , - b )", "( a , ( b , c ( ) ) , d )", "( let a , 1 ) , b", "( a . b , c [ d ] , f ( ) )", "( a + b , c . d )",
     "( a = b )", "( let a = b )", "( a += b )", "{ }", "{ a = b }", "begin a end", "if a then b end", "fun ( ) end", "fun a ( ) end", "a , fun b . c ( ) end",
-    "- a . b", "a . b + c . d", "( - a ) ...", "begin a end ...",
+    "- a . b", "a . b + c . d", "( - a ) ...", "( begin a end ) ...",
 ]
 PATTERN_PLACES = ["%s = z EOF", "let %s = y = z EOF", "%s += z ; y EOF", "for %s in z do end EOF", "for var %s in z do y end EOF", "begin %s = z ; y end EOF"]
 TARGETS = [

@@ -1,12 +1,12 @@
--- What can be a pattern and what cannot (document 02, P4), as two tables. `patterns-tried`: expressions, in pairs that come near one another, each with the pattern that is made
--- of it or none; some are trees that no reading gives. `places-tried`: sheets with such expressions in the three places where a pattern is asked for, left of an assignment, in a
+-- What can be a pattern and what cannot (document 02, P4), as two tables. `patterns-tried`: expressions, in groups, those that can and such as come near and cannot, each with the
+-- pattern that is made of it or none; the last groups are trees that no reading gives. `places-tried`: sheets with such expressions in the three places where a pattern is asked for, left of an assignment, in a
 -- for's pattern and as a function's target; the first is the one whose records docs/PATTERNS.md follows. Assumes nothing.
 use mathlib.Core.Path.{_≡_, refl}
 use mathlib.Core.List.{List, [], _∷_}
 use Prim.Native.Nat.{ℕ, suc}
 use Rattle.token.specs.Kind
 use Rattle.tree.specs.NodeKind
-use Rattle.tree.specs.Tree.{Tree, node, none, more, one, two}
+use Rattle.tree.specs.Tree.{Tree, node, none, more, one, two, three}
 use Rattle.tree.specs.Node
 use Rattle.tree.specs.Maybe.{Maybe, nothing, just}
 use Rattle.grammar.specs.Reading.Pattern.{conv, all-conv, last-of, front-of, to-pattern}
@@ -50,28 +50,42 @@ table =
     -- a group vanishes, one with a modifier stays; what is inside decides
     record { expr = Node.group 0 (Node.group 0 x); pattern = just x-pattern } ∷
     record { expr = let-group (Node.group 0 x); pattern = just (let-pattern x-pattern) } ∷
+    record { expr = Node.group 0 sum; pattern = nothing } ∷
     record { expr = let-group sum; pattern = nothing } ∷
     -- `...` with something and alone; `Absent` is no pattern by itself
     record { expr = Node.unpack (let-group x); pattern = just (Node.pack (let-pattern x-pattern)) } ∷
     record { expr = Node.unpack Node.absent; pattern = just (Node.pack Node.absent) } ∷
+    record { expr = Node.unpack sum; pattern = nothing } ∷
     record { expr = Node.absent; pattern = nothing } ∷
-    -- a tuple of one; none of none; one member that is no pattern, the last or the first
+    -- a tuple of one; one without members is none; a member that can be none, the last, the first or further in
     record { expr = Node.tuple (one x); pattern = just (Node.tuple-pattern (one x-pattern)) } ∷
     record { expr = Node.tuple none; pattern = nothing } ∷
     record { expr = Node.empty-tuple; pattern = nothing } ∷
     record { expr = Node.tuple (two x sum); pattern = nothing } ∷
     record { expr = Node.tuple (two sum x); pattern = nothing } ∷
+    record { expr = Node.tuple (one (Node.group 0 (Node.tuple (two x sum)))); pattern = nothing } ∷
     -- an access by its last item; what stands before it may be anything
     record { expr = Node.primary x (one (Node.attribute b)); pattern = just (Node.attribute-pattern (alone x) b) } ∷
     record { expr = Node.primary sum (one (Node.index sum)); pattern = just (Node.index-pattern (alone sum) sum) } ∷
     record { expr = Node.primary x (two (Node.invoke none) (Node.attribute b)); pattern = just (Node.attribute-pattern (Node.primary x (one (Node.invoke none))) b) } ∷
     record { expr = Node.primary x (two (Node.attribute b) (Node.invoke none)); pattern = nothing } ∷
+    record { expr = Node.primary x (one (Node.invoke-table none)); pattern = nothing } ∷
     record { expr = alone x; pattern = nothing } ∷
-    -- children that no reading gives
+    -- values that no reading gives: a list's stays, a tuple's does not
+    record { expr = node NodeKind.Tuple 7 (one (node NodeKind.List 9 (one x))); pattern = just (node NodeKind.TuplePattern 0 (one (node NodeKind.List 9 (one x-pattern)))) } ∷
+    -- children that no reading gives: other kinds, too few, too many
     record { expr = node NodeKind.Identifier a (one x); pattern = nothing } ∷
     record { expr = node NodeKind.Group 0 (two x x); pattern = nothing } ∷
+    record { expr = node NodeKind.Unpack 0 none; pattern = nothing } ∷
+    record { expr = Node.unpack (node NodeKind.Absent 0 (one x)); pattern = nothing } ∷
     record { expr = node NodeKind.Tuple 0 (one x); pattern = nothing } ∷
+    record { expr = node NodeKind.Tuple 0 (two (Node.list (one x)) x); pattern = nothing } ∷
     record { expr = node NodeKind.Primary 0 (two x x); pattern = nothing } ∷
+    record { expr = node NodeKind.Primary 0 (one x); pattern = nothing } ∷
+    record { expr = node NodeKind.Primary 0 (three x (Node.list (one (Node.attribute b))) x); pattern = nothing } ∷
+    record { expr = Node.primary x (one (node NodeKind.Attribute b (one x))); pattern = nothing } ∷
+    record { expr = Node.primary x (one (node NodeKind.Index 0 none)); pattern = nothing } ∷
+    record { expr = Node.primary x (one (node NodeKind.Index 0 (two x x))); pattern = nothing } ∷
     []
 
 abbrev all-made : List Made → List (Maybe Tree)
@@ -86,9 +100,9 @@ pub patterns-tried : all-made table ≡ answers table
 unfolding conv all-conv last-of front-of table
 patterns-tried = refl
 
--- a function without parameters, and its empty body; n is its name's, 0 or 1 + it
-abbrev bare-function : ℕ → Tree
-bare-function n = Node.function-def (Node.signature-def n none none Node.absent) (Node.expr-block (Node.stmt-list none Node.absent) Node.absent)
+-- a function without name and parameters, and its empty body
+abbrev bare-function : Tree
+bare-function = Node.function-def (Node.signature-def 0 none none Node.absent) (Node.expr-block (Node.stmt-list none Node.absent) Node.absent)
 
 abbrev ends : List ℕ
 ends = s Kind.Semicolon eof
@@ -139,7 +153,7 @@ places =
     -- fun a.b() end and fun 1() end
     record {
       sheet = s Kind.Fun (name a (s Kind.OpAccess (name b (s Kind.OpenParen (s Kind.CloseParen (s Kind.End eof))))));
-      says = tree (Node.expression (Node.assignment Node.decl-immutable 0 (Node.attribute-pattern (alone x) b) (bare-function 0))) 7 [] ∷ end 7 ∷ [];
+      says = tree (Node.expression (Node.assignment Node.decl-immutable 0 (Node.attribute-pattern (alone x) b) bare-function)) 7 [] ∷ end 7 ∷ [];
       tokens = just (s Kind.Fun (name a (s Kind.OpAccess (name b (s Kind.OpenParen (s Kind.CloseParen (s Kind.End ends)))))));
     } ∷
     record {

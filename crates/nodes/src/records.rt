@@ -175,7 +175,7 @@ pub fn path_end(store: &mut [u64], a: usize, n: u64) -> usize
     emit(store, b, word::PRIMARY, 0)
 }
 
-// The expression from `from` to a becomes a pattern: the whole is settled first, with the store only read, and then moved; else the error e.
+// The expression from `from` to a becomes a pattern: it is decided over the whole first, with the store only read, and then moved. Where it cannot be one: the error e, and the store as it was.
 pub fn expect_pattern(
     store: &mut [u64],
     from: usize,

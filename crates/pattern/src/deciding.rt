@@ -18,7 +18,7 @@ fn has_members(word: u64) -> bool
 }
 
 // Whether the expression from `from` to `to` can be a pattern: exactly if the definition makes one of it.
-// The whole is settled: each part that is to be a pattern is met, the last one first, and the first that cannot be one ends it.
+// It is decided over the whole: each part that is to be a pattern is met, the last one first, and the first that cannot be one ends it.
 pub fn can_be_pattern(store: &[u64], from: usize, to: usize) -> bool
     requires { ⌜ A-tree (now store) from to ⌝ }
     ensures { λ r. ⌜ ((t : Tree) → Whole t (now (store .entry)) from to → r ≡ can-be-pattern-def t) ⌝ }

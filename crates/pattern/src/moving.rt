@@ -1,5 +1,5 @@
 // The second step: the records of an expression that can be a pattern become the pattern's. No function here has a failing answer: what a record becomes is
-// told by its own first word and by that of its child or last item; whether it may stand there was settled before.
+// told by the record itself and by the first word of its child or last item; whether it may stand there was decided before.
 ghost use mathlib.Core.List.{List};
 ghost use Prim.Native.Nat.{ℕ, _+_, _≤_};
 ghost use lib.ListN.{length};

@@ -1,4 +1,4 @@
--- `nodes::records::expect_pattern` meets its contract: what the first step settles is what the second asks for. Assumes nothing.
+-- `nodes::records::expect_pattern` meets its contract: what the first step answers is what the second asks for. Assumes nothing.
 use mathlib.Core.Path.{_≡_, refl, sym, ap, _∙_}
 use mathlib.Core.Bool.{Bool, true}
 use mathlib.Core.List.{List}
@@ -30,8 +30,8 @@ module _ (c : tie.After-can-be-pattern) where
   abbrev answer : Bool
   answer = c .can-be-pattern .result
 
-  settled : {b : Bool} (t : Tree) → Holds t → answer ≡ b → can-be-pattern t ≡ b
-  settled t g e = sym (c .can-be-pattern .ensures t g) ∙ e
+  decided : {b : Bool} (t : Tree) → Holds t → answer ≡ b → can-be-pattern t ≡ b
+  decided t g e = sym (c .can-be-pattern .ensures t g) ∙ e
 
   -- the reading that the definition goes on with
   same : {m : Maybe Tree} (t : Tree) → to-pattern t ≡ m → (q : List Error) (x : List ℕ) → expect-pattern (start .args .e) (to-pattern t) q x ≡ expect-pattern (start .args .e) m q x
@@ -43,7 +43,7 @@ module _ (c : tie.Else1) where
   asked = search
 
   yes : (t : Tree) → Holds asked t → can-be-pattern t ≡ true
-  yes t g = settled asked t g (not-false (answer asked) (c .if1 .left))
+  yes t g = decided asked t g (not-false (answer asked) (c .if1 .left))
 
   fit : A-fit (start asked .args .store .now) (start asked .args .from) (start asked .args .a)
   fit = let g = start asked .pre .whole in record { tree = _; whole = g; can = yes _ g }
@@ -62,7 +62,7 @@ unfolding expect-pattern
 returns c =
     let k : tie.After-can-be-pattern = search in
     λ t T g h.
-    refused (λ q. same k t (cannot (to-pattern t) (settled k t g (not-true (answer k) (c .if1 .taken)))) q (drop (start k .args .pos) T)) h refl
+    refused (λ q. same k t (cannot (to-pattern t) (decided k t g (not-true (answer k) (c .if1 .taken)))) q (drop (start k .args .pos) T)) h refl
 
 move-to-pattern-requires : tie.Need-move-to-pattern-requires
 move-to-pattern-requires c κs = fit (search)

@@ -21,7 +21,7 @@ use Rattle.pattern.proofs.Access.{Receives, top-primary, primary-room, 
 use Rattle.pattern.proofs.deciding.can_be_pattern.Statement.{statement}
 use Rattle.pattern.proofs.deciding.can_be_pattern.Tie as tie
 
--- up to i stands what is still to be settled
+-- up to i stands what is still to be decided
 record Seeing (m : Maybe Tree) (S : List ℕ) (from i : ℕ) : Type 0 where
   ahead : List ℕ
   left : Ahead m (take from S) (take i S) ahead
