@@ -7,28 +7,42 @@ use native.Mathlib.Omega.{arith}
 use native.Mathlib.Nat.{le-trans}
 use borrow.Author.Tests.{eqb-true, eqb-false}
 use lib.Dec.{eqb}
-use lib.ListN.{length, take, drop, getD, length-append, length-drop}
+use lib.ListN.{length, take, drop, getD, length-append, length-take, length-drop, take-append-drop}
 use lib.Seq.{take-take, take-at, drop-at, drop-drop, length-take-le}
 use Rattle.tree.specs.NodeKind
 use Rattle.tree.specs.Tree.{Tree, Forest, node, one, two, count, records}
 use Rattle.tree.specs.Rows.{end, on, rows, push, Starts, rows-push}
 use Rattle.tree.specs.Maybe.{Maybe, nothing, just}
+use Rattle.tree.specs.Store.{Emitted}
 use Rattle.tree.specs.Written.{drop-take}
 use Rattle.grammar.specs.Reading.Pattern.{pattern, receiver, conv, to-pattern}
 use Rattle.grammar.specs.Laws.Facts.{by-test}
 use Rattle.pattern.specs.Word
-use Rattle.pattern.specs.Contract.{Is, Put, Right, Left, Fit, Stands, Access, Moved, Over, over-as, over-words, has-members}
+use Rattle.pattern.specs.Contract.{Is, Right, Left, Fit, Stands, Access, Moved, Over, over-as, over-words, has-members}
 use Rattle.pattern.proofs.Lists.{keep}
 use Rattle.pattern.proofs.Conv.{wordsM}
 use Rattle.pattern.proofs.Steps.{Ahead, View, all-read, no-pattern, some-members, unpack-room, unpack-absent, unpack-other, tuple-room, tuple-step, tuple-none}
 use Rattle.pattern.proofs.Access.{top-text, top-pat, top-passed, Receives, primary-at, Shape, shape-of, path-none, before-last, no-item-step, attribute-pat, attribute-text, index-of, index-pat, index-text}
 
-module _ {at word value : ℕ} {S S′ : List ℕ} (p : Put at word value S S′) where
-  before-put : (n : ℕ) → n ≤ at → take n S′ ≡ take n S
-  before-put n h = keep n at S S′ h (p .head)
+-- a record was written at a place: there was room for it, and what stands before it and from it on
+module _ {at word value r : ℕ} {S S′ : List ℕ} (p : Emitted at word value r S S′) where
+  record-room : at + 2 ≤ length S
+  record-room =
+      let e = ap length (p .text) ∙ length-append (take at S) (word ∷ value ∷ []) in
+      omega (arith, e, length-take r S′, length-take at S, p .whole, p .next)
 
-  put-then : (n : ℕ) → at + 2 ≡ n → drop at S′ ≡ word ∷ value ∷ drop n S
-  put-then n e = p .tail ∙ ap (λ (k : ℕ). word ∷ value ∷ drop k S) e
+  taken : length (take at S) ≡ at
+  taken = length-take-le at S (omega (arith, record-room))
+
+  before-record : (n : ℕ) → n ≤ at → take n S′ ≡ take n S
+  before-record n h =
+      keep n at S S′ h (sym (take-take at r S′ (omega (arith, p .next))) ∙ ap (take at) (p .text) ∙ take-at (take at S) (word ∷ value ∷ []) at taken)
+
+  record-then : (n : ℕ) → at + 2 ≡ n → drop at S′ ≡ word ∷ value ∷ drop n S
+  record-then n e =
+      ap (λ (l : List ℕ). drop at l) (sym (take-append-drop r S′) ∙ ap (λ (l : List ℕ). l ++ drop r S′) (p .text) ∙ append-assoc (take at S) (word ∷ value ∷ []) (drop r S′))
+      ∙ drop-at (take at S) (word ∷ value ∷ drop r S′) at taken
+      ∙ ap (λ (l : List ℕ). word ∷ value ∷ l) (p .rest ∙ ap (λ (k : ℕ). drop k S) (p .next ∙ e))
 
 module _ {from to by : ℕ} {S S′ : List ℕ} (p : Right from to by S S′) where
   before-right : (n : ℕ) → n ≤ from + by → take n S′ ≡ take n S
@@ -78,32 +92,32 @@ module _ {B : List ℕ} {p : Tree} {S : List ℕ} {i w : ℕ} (a : Access B p S 
       let l = sure-shape a .list-word in
       omega arith
 
-  pub attribute-moved : {S₁ S₂ S₃ S₄ : List ℕ} {r : ℕ} → getD S (i - 6) 0 ≡ Word.Attribute → Starts B S r
-      → Put (w - 2) Word.AttributePattern (getD S (i - 5) 0) S S₁ → Put (w - 4) Word.Primary (getD S (i - 1) 0) S₁ S₂ → Put (w - 6) (getD S (i - 4) 0 - 256) (getD S (i - 3) 0) S₂ S₃ → Right r (i - 6) (w - i) S₃ S₄
+  pub attribute-moved : {S₁ S₂ S₃ S₄ : List ℕ} {r r₁ r₂ r₃ : ℕ} → getD S (i - 6) 0 ≡ Word.Attribute → Starts B S r
+      → Emitted (w - 2) Word.AttributePattern (getD S (i - 5) 0) r₁ S S₁ → Emitted (w - 4) Word.Primary (getD S (i - 1) 0) r₂ S₁ S₂ → Emitted (w - 6) (getD S (i - 4) 0 - 256) (getD S (i - 3) 0) r₃ S₂ S₃ → Right r (i - 6) (w - i) S₃ S₄
       → Moved B p S i w r S₄
   attribute-moved {S₁ = S₁} {S₂ = S₂} {S₃ = S₃} {S₄ = S₄} {r = r} e s p₁ p₂ p₃ m =
       let sh = sure-shape a in
       let at = s .at in
-      let same : take (i - 6) S₃ ≡ take (i - 6) S = before-put p₃ (i - 6) (omega arith) ∙ before-put p₂ (i - 6) (omega arith) ∙ before-put p₁ (i - 6) (omega arith) in
+      let same : take (i - 6) S₃ ≡ take (i - 6) S = before-record p₃ (i - 6) (omega arith) ∙ before-record p₂ (i - 6) (omega arith) ∙ before-record p₁ (i - 6) (omega arith) in
       let text : drop r (take (i - 6) S₃) ≡ rows (before-last sh) = ap (drop r) (same ∙ attribute-text sh e) ∙ drop-at B (rows (before-last sh)) r (sym at) in
       let words : drop (r + (w - i)) S₄ ≡ rows (before-last sh) ++ (NodeKind.List + 256 * count (sh .front)) ∷ sh .w ∷ Word.Primary ∷ sh .v ∷ Word.AttributePattern ∷ getD S (i - 5) 0 ∷ drop w S
       = right-then m (r + (w - i)) (w - 6) refl (omega arith)
       ∙ ap (λ (l : List ℕ). l ++ drop (w - 6) S₃) text
       ∙ ap (λ (l : List ℕ). rows (before-last sh) ++ l)
-      (put-then p₃ (w - 4) (omega arith)
+      (record-then p₃ (w - 4) (omega arith)
       ∙ ap (λ (l : List ℕ). (getD S (i - 4) 0 - 256) ∷ getD S (i - 3) 0 ∷ l)
-      (put-then p₂ (w - 2) (omega arith) ∙ ap (λ (l : List ℕ). Word.Primary ∷ getD S (i - 1) 0 ∷ l) (put-then p₁ w (omega arith)))
+      (record-then p₂ (w - 2) (omega arith) ∙ ap (λ (l : List ℕ). Word.Primary ∷ getD S (i - 1) 0 ∷ l) (record-then p₁ w (omega arith)))
       ∙ rw (shorter-list, sh .list-value, sh .prim-value)) in
       record {
         at = at;
         on = omega arith;
-        head = before-right m r (omega arith) ∙ before-put p₃ r (omega arith) ∙ before-put p₂ r (omega arith) ∙ before-put p₁ r (omega arith) ∙ s .text;
+        head = before-right m r (omega arith) ∙ before-record p₃ r (omega arith) ∙ before-record p₂ r (omega arith) ∙ before-record p₁ r (omega arith) ∙ s .text;
         tail = words ∙ attribute-records (sh .v) (sh .atom) (sh .w) (sh .front) (getD S (i - 5) 0) (drop w S)
             ∙ ap (λ (t : Tree). records t ++ drop w S) (same-pat (conv (a .tree) pattern) (a .same) (attribute-pat sh e));
       }
 
-  pub index-moved : {S₁ S₂ S₃ S₄ S₅ : List ℕ} {r q : ℕ} → (e : getD S (i - 6) 0 ≡ Word.Index) → Starts B S r → Starts (B ++ rows (before-last (sure-shape a))) S q
-      → Put (w - 2) Word.IndexPattern 0 S S₁ → Right q (i - 6) (w - i + 4) S₁ S₂ → Put (q + (w - i) + 2) Word.Primary (getD S (i - 1) 0) S₂ S₃ → Put (q + (w - i)) (getD S (i - 4) 0 - 256) (getD S (i - 3) 0) S₃ S₄ → Right r q (w - i) S₄ S₅
+  pub index-moved : {S₁ S₂ S₃ S₄ S₅ : List ℕ} {r q r₁ r₂ r₃ : ℕ} → (e : getD S (i - 6) 0 ≡ Word.Index) → Starts B S r → Starts (B ++ rows (before-last (sure-shape a))) S q
+      → Emitted (w - 2) Word.IndexPattern 0 r₁ S S₁ → Right q (i - 6) (w - i + 4) S₁ S₂ → Emitted (q + (w - i) + 2) Word.Primary (getD S (i - 1) 0) r₂ S₂ S₃ → Emitted (q + (w - i)) (getD S (i - 4) 0 - 256) (getD S (i - 3) 0) r₃ S₃ S₄ → Right r q (w - i) S₄ S₅
       → q ≤ i - 6
       → Moved B p S i w r S₅
   unfolding rows
@@ -114,26 +128,26 @@ module _ {B : List ℕ} {p : Tree} {S : List ℕ} {i w : ℕ} (a : Access B p S 
       let at = s .at in
       let at′ = t .at in
       let more-than : r ≤ q = omega (arith, length-append B X) in
-      let first : take (i - 6) S₁ ≡ take (i - 6) S = before-put p₁ (i - 6) (omega arith) in
-      let low : take q S₄ ≡ B ++ X = before-put p₃ q (omega arith) ∙ before-put p₂ q (omega arith) ∙ before-right m₁ q (omega arith) ∙ before-put p₁ q (omega arith) ∙ t .text in
+      let first : take (i - 6) S₁ ≡ take (i - 6) S = before-record p₁ (i - 6) (omega arith) in
+      let low : take q S₄ ≡ B ++ X = before-record p₃ q (omega arith) ∙ before-record p₂ q (omega arith) ∙ before-right m₁ q (omega arith) ∙ before-record p₁ q (omega arith) ∙ t .text in
       let expr : drop q (take (i - 6) S₁) ≡ records u = ap (drop q) (first ∙ index-text sh e ∙ sym (append-assoc B X (records u))) ∙ drop-at (B ++ X) (records u) q (sym at′) in
       let text : drop r (take q S₄) ≡ X = ap (drop r) low ∙ drop-at B X r (sym at) in
       let words : drop (r + (w - i)) S₅ ≡ X ++ (NodeKind.List + 256 * count (sh .front)) ∷ sh .w ∷ Word.Primary ∷ sh .v ∷ (records u ++ Word.IndexPattern ∷ 0 ∷ drop w S)
       = right-then m₂ (r + (w - i)) (q + (w - i)) refl refl
       ∙ ap (λ (l : List ℕ). l ++ drop (q + (w - i)) S₄) text
       ∙ ap (λ (l : List ℕ). X ++ l)
-      (put-then p₃ (q + (w - i) + 2) refl
+      (record-then p₃ (q + (w - i) + 2) refl
       ∙ ap (λ (l : List ℕ). (getD S (i - 4) 0 - 256) ∷ getD S (i - 3) 0 ∷ l)
-      (put-then p₂ (q + (w - i + 4)) (omega arith)
+      (record-then p₂ (q + (w - i + 4)) (omega arith)
       ∙ ap (λ (l : List ℕ). Word.Primary ∷ getD S (i - 1) 0 ∷ l)
       (right-then m₁ (q + (w - i + 4)) (w - 2) refl (omega arith)
       ∙ ap (λ (l : List ℕ). l ++ drop (w - 2) S₁) expr
-      ∙ ap (λ (l : List ℕ). records u ++ l) (put-then p₁ w (omega arith))))
+      ∙ ap (λ (l : List ℕ). records u ++ l) (record-then p₁ w (omega arith))))
       ∙ rw (shorter-list, sh .list-value, sh .prim-value)) in
       record {
         at = at;
         on = omega arith;
-        head = before-right m₂ r (omega arith) ∙ before-put p₃ r (omega arith) ∙ before-put p₂ r (omega arith) ∙ before-right m₁ r (omega arith) ∙ before-put p₁ r (omega arith) ∙ s .text;
+        head = before-right m₂ r (omega arith) ∙ before-record p₃ r (omega arith) ∙ before-record p₂ r (omega arith) ∙ before-right m₁ r (omega arith) ∙ before-record p₁ r (omega arith) ∙ s .text;
         tail = words ∙ index-records (sh .v) (sh .atom) (sh .w) (sh .front) u (drop w S)
             ∙ ap (λ (t : Tree). records t ++ drop w S) (same-pat (conv (a .tree) pattern) (a .same) (index-pat sh e));
       }
@@ -147,9 +161,9 @@ pub record Going (m : Maybe Tree) (B Z S : List ℕ) (i w : ℕ) : Type 0 where
 pub go-same : {m : Maybe Tree} {B S Y : List ℕ} (Z : List ℕ) {i w : ℕ} → Ahead m B (take i S) Y → drop w S ≡ Y ++ Z → Going m B Z S i w
 go-same {Y = Y} Z a d = record { ahead = Y; left = a; done = d }
 
-pub go-put : {m : Maybe Tree} {B S S′ Y : List ℕ} (Z : List ℕ) {word value at : ℕ} (n w : ℕ) → Ahead m B (take n S) (word ∷ value ∷ Y) → drop w S ≡ Y ++ Z → Put at word value S S′ → n ≤ at → at + 2 ≡ w → Going m B Z S′ n at
-go-put {Y = Y} Z {word = word} {value = value} n w a d p h e =
-    record { ahead = word ∷ value ∷ Y; left = rw (before-put p n h) a; done = put-then p w e ∙ ap (λ (l : List ℕ). word ∷ value ∷ l) d }
+pub go-emit : {m : Maybe Tree} {B S S′ Y : List ℕ} (Z : List ℕ) {word value at r : ℕ} (n w : ℕ) → Ahead m B (take n S) (word ∷ value ∷ Y) → drop w S ≡ Y ++ Z → Emitted at word value r S S′ → n ≤ at → at + 2 ≡ w → Going m B Z S′ n at
+go-emit {Y = Y} Z {word = word} {value = value} n w a d p h e =
+    record { ahead = word ∷ value ∷ Y; left = rw (before-record p n h) a; done = record-then p w e ∙ ap (λ (l : List ℕ). word ∷ value ∷ l) d }
 
 pub go-access : {m : Maybe Tree} {B S S′ Y : List ℕ} (Z : List ℕ) {i w r : ℕ} {p : Tree} → (x : View m B S i Y) → conv (x .tree) pattern ≡ just p → drop w S ≡ Y ++ Z → Moved (B ++ rows (x .under)) p S i w r S′ → Going m B Z S′ r (r + (w - i))
 go-access {S′ = S′} {Y = Y} Z {r = r} {p = p} x e d q =
@@ -213,15 +227,15 @@ go-over {S = S} {S′ = S′} {Y = Y} Z {i = i} {w = w} {r = r} a d h o =
     }
 
 -- the words that `put_over` has put
-pub over-one : {S S₁ X : List ℕ} {w c : ℕ} → 2 ≤ w → Put (w - 2) c 0 S S₁ → X ≡ c ∷ 0 ∷ [] → Over X w S 2 S₁
-over-one {S = S} {w = w} h p e = record { many = ap length (sym e); head = p .head; tail = put-then p w (omega arith) ∙ ap (λ (l : List ℕ). l ++ drop w S) (sym e) }
+pub over-one : {S S₁ X : List ℕ} {w c r : ℕ} → 2 ≤ w → Emitted (w - 2) c 0 r S S₁ → X ≡ c ∷ 0 ∷ [] → Over X w S 2 S₁
+over-one {S = S} {w = w} h p e = record { many = ap length (sym e); head = before-record p (w - 2) (omega arith); tail = record-then p w (omega arith) ∙ ap (λ (l : List ℕ). l ++ drop w S) (sym e) }
 
-pub over-two : {S S₁ S₂ X : List ℕ} {w a b c : ℕ} → 4 ≤ w → Put (w - 2) c 0 S S₁ → Put (w - 4) a b S₁ S₂ → X ≡ a ∷ b ∷ c ∷ 0 ∷ [] → Over X w S 4 S₂
+pub over-two : {S S₁ S₂ X : List ℕ} {w a b c r r₂ : ℕ} → 4 ≤ w → Emitted (w - 2) c 0 r S S₁ → Emitted (w - 4) a b r₂ S₁ S₂ → X ≡ a ∷ b ∷ c ∷ 0 ∷ [] → Over X w S 4 S₂
 over-two {S = S} {w = w} {a = a} {b = b} h p q e =
     record {
       many = ap length (sym e);
-      head = q .head ∙ before-put p (w - 4) (omega arith);
-      tail = put-then q (w - 2) (omega arith) ∙ ap (λ (l : List ℕ). a ∷ b ∷ l) (put-then p w (omega arith)) ∙ ap (λ (l : List ℕ). l ++ drop w S) (sym e);
+      head = before-record q (w - 4) (omega arith) ∙ before-record p (w - 4) (omega arith);
+      tail = record-then q (w - 2) (omega arith) ∙ ap (λ (l : List ℕ). a ∷ b ∷ l) (record-then p w (omega arith)) ∙ ap (λ (l : List ℕ). l ++ drop w S) (sym e);
     }
 
 pub sure-pat : {m : Maybe Tree} {B S Y : List ℕ} {i : ℕ} {p : Tree} → (x : View m B S i Y) → m ≡ just p → Is (conv (x .tree) pattern)

@@ -13,11 +13,6 @@ use Rattle.tree.specs.Maybe.{Maybe, just}
 use Rattle.grammar.specs.Reading.Pattern.{to-pattern, can-be-pattern}
 use Rattle.pattern.specs.Word
 
--- a record was put at a place
-pub record Put (at word value : ℕ) (S S′ : List ℕ) : Type 0 where
-  pub head : take at S′ ≡ take at S
-  pub tail : drop at S′ ≡ word ∷ value ∷ drop (at + 2) S
-
 -- the words from «from» to «to» moved right: what stood before their new place is as it was, and so is what stands after it
 pub record Right (from to by : ℕ) (S S′ : List ℕ) : Type 0 where
   pub head : take (from + by) S′ ≡ take (from + by) S

@@ -4,18 +4,10 @@ ghost use mathlib.Core.List.{List};
 ghost use Prim.Native.Nat.{ℕ, _+_, _≤_};
 ghost use lib.ListN.{length};
 ghost use Rattle.tree.specs.Tree.{Tree};
-ghost use Rattle.pattern.specs.Contract.{Put, Right, Left, Access, An-access, Moved, Over, over-words, Fit, A-fit, Stands};
+ghost use Rattle.pattern.specs.Contract.{Right, Left, Access, An-access, Moved, Over, over-words, Fit, A-fit, Stands};
 use crate::rows::skip;
+use tree::emit;
 use tree::word;
-
-// Writes a record.
-fn put(store: &mut [u64], at: usize, word: u64, value: u64)
-    requires { ⌜ at + 2 ≤ length (now store) ⌝ }
-    ensures { λ _. ⌜ Put at word value (now (store .entry)) (now (store .exit)) ⌝ }
-{
-    store[at] = word;
-    store[at + 1] = value;
-}
 
 // Moves the words from `from` to `to` right by `by`.
 fn move_right(store: &mut [u64], from: usize, to: usize, by: usize)
@@ -55,18 +47,18 @@ fn move_access(store: &mut [u64], i: usize, w: usize) -> usize
     if store[i - 6] == word::ATTRIBUTE {
         let name = store[i - 5];
         let start = skip(store, i - 6, n);
-        put(store, w - 2, word::ATTRIBUTE_PATTERN, name);
-        put(store, w - 4, word::PRIMARY, primary);
-        put(store, w - 6, list - word::CHILD, path);
+        emit(store, w - 2, word::ATTRIBUTE_PATTERN, name);
+        emit(store, w - 4, word::PRIMARY, primary);
+        emit(store, w - 6, list - word::CHILD, path);
         move_right(store, start, i - 6, by);
         start
     } else {
         let middle = skip(store, i - 6, 1);
         let start = skip(store, middle, n);
-        put(store, w - 2, word::INDEX_PATTERN, 0);
+        emit(store, w - 2, word::INDEX_PATTERN, 0);
         move_right(store, middle, i - 6, by + 4);
-        put(store, middle + by + 2, word::PRIMARY, primary);
-        put(store, middle + by, list - word::CHILD, path);
+        emit(store, middle + by + 2, word::PRIMARY, primary);
+        emit(store, middle + by, list - word::CHILD, path);
         move_right(store, start, middle, by);
         start
     }
@@ -82,13 +74,13 @@ fn put_over(store: &mut [u64], i: usize, w: usize) -> usize
     let inner = store[i - 4];
     let value = store[i - 3];
     if word != word::UNPACK {
-        put(store, w - 2, word::TUPLE_PATTERN, 0);
-        put(store, w - 4, inner, value);
+        emit(store, w - 2, word::TUPLE_PATTERN, 0);
+        emit(store, w - 4, inner, value);
         return 4;
     }
-    put(store, w - 2, word::PACK, 0);
+    emit(store, w - 2, word::PACK, 0);
     if inner == word::ABSENT {
-        put(store, w - 4, word::ABSENT, value);
+        emit(store, w - 4, word::ABSENT, value);
         return 4;
     }
     2
@@ -109,13 +101,13 @@ pub fn move_to_pattern(store: &mut [u64], from: usize, to: usize) -> usize
             word::IDENTIFIER => {
                 w -= 2;
                 i -= 2;
-                put(store, w, word::IDENTIFIER_PATTERN, value);
+                emit(store, w, word::IDENTIFIER_PATTERN, value);
             }
             word::GROUP => {
                 i -= 2;
                 if value != 0 {
                     w -= 2;
-                    put(store, w, word::MODIFIER, value - 1);
+                    emit(store, w, word::MODIFIER, value - 1);
                 }
             }
             word::PRIMARY => {

@@ -59,14 +59,14 @@ module _ (c : tie.After-skip) where
   start-room = omega (arith, attribute-starts (held attribute-start) .at, sure-shape (held attribute-start) .room)
 
 -- the calls after that, each found from the next one
-abbrev after-skip : tie.After-put → tie.After-skip
+abbrev after-skip : tie.After-emit → tie.After-skip
 after-skip c = search
 
-abbrev after-put : tie.After-put2 → tie.After-put
-after-put c = search
+abbrev after-emit : tie.After-emit2 → tie.After-emit
+after-emit c = search
 
-abbrev after-put2 : tie.After-put3 → tie.After-put2
-after-put2 c = search
+abbrev after-emit2 : tie.After-emit3 → tie.After-emit2
+after-emit2 c = search
 
 -- an index: where its expression starts, and where the access does
 module _ (c : tie.Else1) where
@@ -109,17 +109,17 @@ module _ (c : tie.After-skip3) where
   fit = (middle-room after-skip2, behind whole-start, within whole-start)
 
 -- the calls after that, each found from the next one
-abbrev after-skip3 : tie.After-put4 → tie.After-skip3
+abbrev after-skip3 : tie.After-emit4 → tie.After-skip3
 after-skip3 c = search
 
-abbrev after-put4 : tie.After-move-right2 → tie.After-put4
-after-put4 c = search
+abbrev after-emit4 : tie.After-move-right2 → tie.After-emit4
+after-emit4 c = search
 
-abbrev after-move-right2 : tie.After-put5 → tie.After-move-right2
+abbrev after-move-right2 : tie.After-emit5 → tie.After-move-right2
 after-move-right2 c = search
 
-abbrev after-put5 : tie.After-put6 → tie.After-put5
-after-put5 c = search
+abbrev after-emit5 : tie.After-emit6 → tie.After-emit5
+after-emit5 c = search
 
 sub-by : tie.Need-sub-by
 sub-by c = behind (search)
@@ -178,33 +178,33 @@ skip-requires c κs =
     let h = reach a in
     (omega arith, record { base = _; trees = attribute-trees (sure-shape a) (known tie.Then1 (search) .if1 .taken) })
 
-sub-put : tie.Need-sub-put
-sub-put c = omega (arith, room (attribute-start (search)))
+sub-emit : tie.Need-sub-emit
+sub-emit c = omega (arith, room (attribute-start (search)))
 
-put-requires : tie.Need-put-requires
-put-requires c κs = omega (arith, room (attribute-start (search)))
+emit-requires : tie.Need-emit-requires
+emit-requires c κs = omega (arith, room (attribute-start (search)))
 
-sub-put-2 : tie.Need-sub-put-2
-sub-put-2 c = omega (arith, room (attribute-start (search)))
+sub-emit-2 : tie.Need-sub-emit-2
+sub-emit-2 c = omega (arith, room (attribute-start (search)))
 
-put-requires-2 : tie.Need-put-requires-2
-put-requires-2 c κs = omega (arith, room (attribute-start (search)))
+emit-requires-2 : tie.Need-emit-requires-2
+emit-requires-2 c κs = omega (arith, room (attribute-start (search)))
 
-sub-put-3 : tie.Need-sub-put-3
-sub-put-3 c = omega (arith, room (attribute-start (after-skip (search))))
+sub-emit-3 : tie.Need-sub-emit-3
+sub-emit-3 c = omega (arith, room (attribute-start (after-skip (search))))
 
-sub-put-4 : tie.Need-sub-put-4
-sub-put-4 c = one-more (attribute-start (after-skip (search)))
+sub-emit-4 : tie.Need-sub-emit-4
+sub-emit-4 c = one-more (attribute-start (after-skip (search)))
 
-put-requires-3 : tie.Need-put-requires-3
-put-requires-3 c κs = omega (arith, room (attribute-start (after-skip (search))))
+emit-requires-3 : tie.Need-emit-requires-3
+emit-requires-3 c κs = omega (arith, room (attribute-start (after-skip (search))))
 
 sub-move-right : tie.Need-sub-move-right
-sub-move-right c = omega (arith, room (attribute-start (after-skip (after-put (search)))))
+sub-move-right c = omega (arith, room (attribute-start (after-skip (after-emit (search)))))
 
 move-right-requires : tie.Need-move-right-requires
 move-right-requires c κs =
-    let k = after-skip (after-put (search)) in
+    let k = after-skip (after-emit (search)) in
     omega (arith, start-room k, behind (attribute-start k), within (attribute-start k))
 
 sub-skip-2 : tie.Need-sub-skip-2
@@ -223,11 +223,11 @@ skip-requires-3 c κs =
     let h = reach a in
     (omega (arith, middle-room k), record { base = _; trees = front-trees (sure-shape a) (k .skip2 .result) (middle k a .text) })
 
-sub-put-5 : tie.Need-sub-put-5
-sub-put-5 c = omega (arith, fit (search))
+sub-emit-5 : tie.Need-sub-emit-5
+sub-emit-5 c = omega (arith, fit (search))
 
-put-requires-4 : tie.Need-put-requires-4
-put-requires-4 c κs = omega (arith, fit (search))
+emit-requires-4 : tie.Need-emit-requires-4
+emit-requires-4 c κs = omega (arith, fit (search))
 
 sub-move-right-2 : tie.Need-sub-move-right-2
 sub-move-right-2 c = omega (arith, fit (search))
@@ -238,29 +238,29 @@ add-move-right c = omega arith
 move-right-requires-2 : tie.Need-move-right-requires-2
 move-right-requires-2 c κs = omega (arith, fit (search))
 
-add-put : tie.Need-add-put
-add-put c = omega (arith, fit (after-skip3 (search)))
+add-emit : tie.Need-add-emit
+add-emit c = omega (arith, fit (after-skip3 (search)))
 
-add-put-2 : tie.Need-add-put-2
-add-put-2 c = omega (arith, fit (after-skip3 (search)))
+add-emit-2 : tie.Need-add-emit-2
+add-emit-2 c = omega (arith, fit (after-skip3 (search)))
 
-put-requires-5 : tie.Need-put-requires-5
-put-requires-5 c κs = omega (arith, fit (after-skip3 (search)))
+emit-requires-5 : tie.Need-emit-requires-5
+emit-requires-5 c κs = omega (arith, fit (after-skip3 (search)))
 
-add-put-3 : tie.Need-add-put-3
-add-put-3 c =
-    let k = after-skip3 (after-put4 (search)) in
+add-emit-3 : tie.Need-add-emit-3
+add-emit-3 c =
+    let k = after-skip3 (after-emit4 (search)) in
     omega (arith, fit k, fits (whole-start k))
 
-sub-put-6 : tie.Need-sub-put-6
-sub-put-6 c = one-more (whole-start (after-skip3 (after-put4 (search))))
+sub-emit-6 : tie.Need-sub-emit-6
+sub-emit-6 c = one-more (whole-start (after-skip3 (after-emit4 (search))))
 
-put-requires-6 : tie.Need-put-requires-6
-put-requires-6 c κs = omega (arith, fit (after-skip3 (after-put4 (search))))
+emit-requires-6 : tie.Need-emit-requires-6
+emit-requires-6 c κs = omega (arith, fit (after-skip3 (after-emit4 (search))))
 
 move-right-requires-3 : tie.Need-move-right-requires-3
 move-right-requires-3 c κs =
-    let k = after-skip3 (after-put4 (after-move-right2 (search))) in
+    let k = after-skip3 (after-emit4 (after-move-right2 (search))) in
     omega (arith, ordered k, fit k)
 
 same-length : tie.Need-same-length
@@ -268,24 +268,24 @@ same-length c = omega arith
 
 returns : tie.Need-returns
 returns c =
-    let p₃ = known tie.After-put3 (search) in
-    let p₂ = after-put2 p₃ in
-    let p₁ = after-put p₂ in
+    let p₃ = known tie.After-emit3 (search) in
+    let p₂ = after-emit2 p₃ in
+    let p₁ = after-emit p₂ in
     let k = after-skip p₁ in
-    λ B p a. attribute-moved a (known tie.Then1 (search) .if1 .taken) (attribute-starts k a) (p₁ .put .ensures) (p₂ .put2 .ensures) (p₃ .put3 .ensures) (known tie.After-move-right (search) .move-right .ensures)
+    λ B p a. attribute-moved a (known tie.Then1 (search) .if1 .taken) (attribute-starts k a) (p₁ .emit .ensures) (p₂ .emit2 .ensures) (p₃ .emit3 .ensures) (known tie.After-move-right (search) .move-right .ensures)
 
 same-length-2 : tie.Need-same-length-2
 same-length-2 c = omega arith
 
 returns-2 : tie.Need-returns-2
 returns-2 c =
-    let p₆ = known tie.After-put6 (search) in
-    let p₅ = after-put5 p₆ in
+    let p₆ = known tie.After-emit6 (search) in
+    let p₅ = after-emit5 p₆ in
     let m₂ = after-move-right2 p₅ in
-    let p₄ = after-put4 m₂ in
+    let p₄ = after-emit4 m₂ in
     let k = after-skip3 p₄ in
     let l = middle-room (after-skip2 k) in
-    λ B p a. index-moved a (index (at-index (after-skip2 k)) a) (index-starts k a) (middle (after-skip2 k) a) (p₄ .put4 .ensures) (m₂ .move-right2 .ensures) (p₅ .put5 .ensures) (p₆ .put6 .ensures) (known tie.After-move-right3 (search) .move-right3 .ensures) (omega arith)
+    λ B p a. index-moved a (index (at-index (after-skip2 k)) a) (index-starts k a) (middle (after-skip2 k) a) (p₄ .emit4 .ensures) (m₂ .move-right2 .ensures) (p₅ .emit5 .ensures) (p₆ .emit6 .ensures) (known tie.After-move-right3 (search) .move-right3 .ensures) (omega arith)
 
 pub move-access-spec : {M : Type 1} → statement M
 move-access-spec =
@@ -309,29 +309,29 @@ move-access-spec =
     slice-read-name
     sub-skip
     skip-requires
-    sub-put
-    put-requires
-    sub-put-2
-    put-requires-2
-    sub-put-3
-    sub-put-4
-    put-requires-3
+    sub-emit
+    emit-requires
+    sub-emit-2
+    emit-requires-2
+    sub-emit-3
+    sub-emit-4
+    emit-requires-3
     sub-move-right
     move-right-requires
     sub-skip-2
     skip-requires-2
     skip-requires-3
-    sub-put-5
-    put-requires-4
+    sub-emit-5
+    emit-requires-4
     sub-move-right-2
     add-move-right
     move-right-requires-2
-    add-put
-    add-put-2
-    put-requires-5
-    add-put-3
-    sub-put-6
-    put-requires-6
+    add-emit
+    add-emit-2
+    emit-requires-5
+    add-emit-3
+    sub-emit-6
+    emit-requires-6
     move-right-requires-3
     same-length
     returns

@@ -8,12 +8,13 @@ use lib.ListN.{length, take, drop, length-append}
 use lib.Seq.{length-take-le}
 use Rattle.tree.specs.Tree.{Tree}
 use Rattle.tree.specs.Rows.{rows}
+use Rattle.tree.specs.Store.{Emitted}
 use Rattle.grammar.specs.Reading.Pattern.{to-pattern, conv, pattern}
-use Rattle.pattern.specs.Contract.{Is, Put, Fit, Access}
+use Rattle.pattern.specs.Contract.{Is, Fit, Access}
 use Rattle.tree.proofs.Known.{known}
 use Rattle.pattern.proofs.Decided.{can}
 use Rattle.pattern.proofs.Steps.{Ahead, View, view, shorter, whole-ahead, ident-step, group-bare, group-modified}
-use Rattle.pattern.proofs.Moved.{Going, go-same, go-put, go-access, an-access, Above, sure-above, go-over, sure-pat, not-below, all-moved}
+use Rattle.pattern.proofs.Moved.{Going, go-same, go-emit, go-access, an-access, Above, sure-above, go-over, sure-pat, not-below, all-moved}
 use Rattle.pattern.proofs.moving.move_to_pattern.Statement.{statement}
 use Rattle.pattern.proofs.moving.move_to_pattern.Tie as tie
 
@@ -84,17 +85,17 @@ module _ (c : Turn) where
   room : (2 ≤ i at) × (i at ≤ w at)
   room = (omega (arith, seen (held at) .here .room), behind at)
 
-  -- a record is put for the top's own
-  one-put : {word value : ℕ} {S′ : List ℕ} → ((t p : Tree) (g : Holds at t p) → Ahead (to-pattern t) (take (from at) (S₀ at)) (take (i at - 2) (S at)) (word ∷ value ∷ going at g .ahead))
-      → length S′ ≡ length (S at) → Put (w at - 2) word value (S at) S′
+  -- a record is written for the top's own
+  one-record : {word value r : ℕ} {S′ : List ℕ} → ((t p : Tree) (g : Holds at t p) → Ahead (to-pattern t) (take (from at) (S₀ at)) (take (i at - 2) (S at)) (word ∷ value ∷ going at g .ahead))
+      → length S′ ≡ length (S at) → Emitted (w at - 2) word value r (S at) S′
       → Inv-loop (S₀ at) (from at) (to at) (to at) (to at) S′ (i at - 2) (w at - 2)
-  one-put next e p =
+  one-record next e p =
       let r = room in (
         omega arith,
         omega arith,
         e ∙ kept at,
         λ t u g.
-            go-put _ (i at - 2) (w at) (next t u g) (going at g .done) p (omega arith) (omega arith),
+            go-emit _ (i at - 2) (w at) (next t u g) (going at g .done) p (omega arith) (omega arith),
       )
 
 -- an access, and the pattern that it is
@@ -145,8 +146,8 @@ sub-w c = omega (arith, room (search))
 sub-i : tie.Need-sub-i Inv-loop μ-loop
 sub-i c = room (search) .0
 
-put-requires : tie.Need-put-requires Inv-loop μ-loop
-put-requires c κs = omega (arith, room (search))
+emit-requires : tie.Need-emit-requires Inv-loop μ-loop
+emit-requires c κs = omega (arith, room (search))
 
 loop-less : tie.Need-loop-less Inv-loop μ-loop
 loop-less c = omega arith
@@ -154,8 +155,8 @@ loop-less c = omega arith
 loop-again : tie.Need-loop-again Inv-loop μ-loop
 loop-again c =
     let e : Turn = search in
-    let p = known (tie.After-put Inv-loop μ-loop) (search) .put in
-    one-put e (λ t u g. ident-step (seen e g) (known (tie.At-match-keys1 Inv-loop μ-loop) (search) .match .keys1)) (p .kept .0) (p .ensures)
+    let p = known (tie.After-emit Inv-loop μ-loop) (search) .emit in
+    one-record e (λ t u g. ident-step (seen e g) (known (tie.At-match-keys1 Inv-loop μ-loop) (search) .match .keys1)) (p .kept .0) (p .ensures)
 
 sub-i-2 : tie.Need-sub-i-2 Inv-loop μ-loop
 sub-i-2 c = room (search) .0
@@ -163,11 +164,11 @@ sub-i-2 c = room (search) .0
 sub-w-2 : tie.Need-sub-w-2 Inv-loop μ-loop
 sub-w-2 c = omega (arith, room (search))
 
-sub-put : tie.Need-sub-put Inv-loop μ-loop
-sub-put c = omega arith
+sub-emit : tie.Need-sub-emit Inv-loop μ-loop
+sub-emit c = omega arith
 
-put-requires-2 : tie.Need-put-requires-2 Inv-loop μ-loop
-put-requires-2 c κs = omega (arith, room (search))
+emit-requires-2 : tie.Need-emit-requires-2 Inv-loop μ-loop
+emit-requires-2 c κs = omega (arith, room (search))
 
 loop-less-2 : tie.Need-loop-less-2 Inv-loop μ-loop
 loop-less-2 c = omega arith
@@ -175,8 +176,8 @@ loop-less-2 c = omega arith
 loop-again-2 : tie.Need-loop-again-2 Inv-loop μ-loop
 loop-again-2 c =
     let e : Turn = search in
-    let p = known (tie.After-put2 Inv-loop μ-loop) (search) .put2 in
-    one-put e (λ t u g. group-modified (seen e g) (known (tie.At-match-keys2 Inv-loop μ-loop) (search) .match .keys2) (known (tie.Then1 Inv-loop μ-loop) (search) .if1 .taken)) (p .kept .0) (p .ensures)
+    let p = known (tie.After-emit2 Inv-loop μ-loop) (search) .emit2 in
+    one-record e (λ t u g. group-modified (seen e g) (known (tie.At-match-keys2 Inv-loop μ-loop) (search) .match .keys2) (known (tie.Then1 Inv-loop μ-loop) (search) .if1 .taken)) (p .kept .0) (p .ensures)
 
 loop-less-3 : tie.Need-loop-less-3 Inv-loop μ-loop
 loop-less-3 c = omega arith
@@ -302,13 +303,13 @@ move-to-pattern-spec =
     slice-read-value
     sub-w
     sub-i
-    put-requires
+    emit-requires
     loop-less
     loop-again
     sub-i-2
     sub-w-2
-    sub-put
-    put-requires-2
+    sub-emit
+    emit-requires-2
     loop-less-2
     loop-again-2
     loop-less-3

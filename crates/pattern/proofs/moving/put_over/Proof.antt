@@ -33,43 +33,43 @@ mul-value c = omega arith
 slice-read-value : tie.Need-slice-read-value
 slice-read-value c = omega arith
 
-sub-put : tie.Need-sub-put
-sub-put c = omega arith
+sub-emit : tie.Need-sub-emit
+sub-emit c = omega arith
 
-put-requires : tie.Need-put-requires
-put-requires c κs = omega arith
+emit-requires : tie.Need-emit-requires
+emit-requires c κs = omega arith
 
-sub-put-2 : tie.Need-sub-put-2
-sub-put-2 c = omega arith
+sub-emit-2 : tie.Need-sub-emit-2
+sub-emit-2 c = omega arith
 
-put-requires-2 : tie.Need-put-requires-2
-put-requires-2 c κs = omega arith
+emit-requires-2 : tie.Need-emit-requires-2
+emit-requires-2 c κs = omega arith
 
 same-length : tie.Need-same-length
 same-length c = omega arith
 
 returns : tie.Need-returns
 returns c =
-    over-two (omega arith) (known tie.After-put (search) .put .ensures) (known tie.After-put2 (search) .put2 .ensures) (rw (ne-eqb _ _ (known tie.Then1 (search) .if1 .taken)))
+    over-two (omega arith) (known tie.After-emit (search) .emit .ensures) (known tie.After-emit2 (search) .emit2 .ensures) (rw (ne-eqb _ _ (known tie.Then1 (search) .if1 .taken)))
 
-sub-put-3 : tie.Need-sub-put-3
-sub-put-3 c = omega arith
+sub-emit-3 : tie.Need-sub-emit-3
+sub-emit-3 c = omega arith
 
-put-requires-3 : tie.Need-put-requires-3
-put-requires-3 c κs = omega arith
+emit-requires-3 : tie.Need-emit-requires-3
+emit-requires-3 c κs = omega arith
 
-sub-put-4 : tie.Need-sub-put-4
-sub-put-4 c = omega arith
+sub-emit-4 : tie.Need-sub-emit-4
+sub-emit-4 c = omega arith
 
-put-requires-4 : tie.Need-put-requires-4
-put-requires-4 c κs = omega arith
+emit-requires-4 : tie.Need-emit-requires-4
+emit-requires-4 c κs = omega arith
 
 same-length-2 : tie.Need-same-length-2
 same-length-2 c = omega arith
 
 returns-2 : tie.Need-returns-2
 returns-2 c =
-    over-two (omega arith) (known tie.After-put3 (search) .put3 .ensures) (known tie.After-put4 (search) .put4 .ensures)
+    over-two (omega arith) (known tie.After-emit3 (search) .emit3 .ensures) (known tie.After-emit4 (search) .emit4 .ensures)
     (rw (eq-eqb _ _ (known tie.Else1 (search) .if1 .left), eq-eqb _ _ (known tie.Then2 (search) .if2 .taken)))
 
 same-length-3 : tie.Need-same-length-3
@@ -77,7 +77,7 @@ same-length-3 c = omega arith
 
 returns-3 : tie.Need-returns-3
 returns-3 c =
-    over-one (omega arith) (known tie.After-put3 (search) .put3 .ensures) (rw (eq-eqb _ _ (known tie.Else1 (search) .if1 .left), ne-eqb _ _ (c .if2 .left)))
+    over-one (omega arith) (known tie.After-emit3 (search) .emit3 .ensures) (rw (eq-eqb _ _ (known tie.Else1 (search) .if1 .left), ne-eqb _ _ (c .if2 .left)))
 
 pub put-over-spec : {M : Type 1} → statement M
 put-over-spec =
@@ -92,16 +92,16 @@ put-over-spec =
     sub-value
     mul-value
     slice-read-value
-    sub-put
-    put-requires
-    sub-put-2
-    put-requires-2
+    sub-emit
+    emit-requires
+    sub-emit-2
+    emit-requires-2
     same-length
     returns
-    sub-put-3
-    put-requires-3
-    sub-put-4
-    put-requires-4
+    sub-emit-3
+    emit-requires-3
+    sub-emit-4
+    emit-requires-4
     same-length-2
     returns-2
     same-length-3
