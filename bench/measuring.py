@@ -1,4 +1,4 @@
-"""What bench/write and bench/labels share: the programs in C, statements such as readings give, and the table of their times. README.md says what is measured."""
+"""What bench/write and bench/labels share: the programs in C (bench/patterns takes these too), statements such as readings give, and the table of their times. README.md says what is measured."""
 import argparse
 import itertools
 import os
