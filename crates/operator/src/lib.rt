@@ -1,4 +1,6 @@
 // The operators: which one a token is, its precedence level, and its number in a tree's record.
+#![tactic(auto)]
+
 ghost use Rattle.std.specs.Prelude.{◌≡◌, ◌≤◌, ◌<◌};
 ghost use Rattle.operator.specs.Operator.{which_unary_op as which_unary_op_def, which_binary_op as which_binary_op_def, which_assignment_op as which_assignment_op_def, precedence_level as precedence_level_def, unary_number as unary_number_def, binary_number as binary_number_def, unary_code as unary_code_def, op_level as op_level_def, op_number as op_number_def, assign_code as assign_code_def};
 ghost use Rattle.operator.specs.Table.{column_count, decision, faults};
@@ -63,6 +65,7 @@ pub enum WhichAssignment {
     NotAssignment,
 }
 
+#[tactic(auto, unfolding(crate::specs::Operator::which_unary_op))]
 pub fn which_unary_op(kind: u64) -> WhichUnary
     ensures { result ≡ which_unary_op_def kind }
 {
@@ -75,6 +78,7 @@ pub fn which_unary_op(kind: u64) -> WhichUnary
     }
 }
 
+#[tactic(auto, unfolding(crate::specs::Operator::which_binary_op))]
 pub fn which_binary_op(kind: u64) -> WhichBinary
     ensures { result ≡ which_binary_op_def kind }
 {
@@ -101,6 +105,7 @@ pub fn which_binary_op(kind: u64) -> WhichBinary
     }
 }
 
+#[tactic(auto, unfolding(crate::specs::Operator::which_assignment_op))]
 pub fn which_assignment_op(kind: u64) -> WhichAssignment
     ensures { result ≡ which_assignment_op_def kind }
 {

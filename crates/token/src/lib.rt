@@ -1,4 +1,6 @@
 // A token as two words of a lent run, and the one function that looks at it.
+#![tactic(auto)]
+
 ghost use Rattle.std.specs.Prelude.{◌≡◌, drop};
 ghost use Rattle.token.specs.Look.{value_fits as value_fits_def, seen};
 

@@ -1,4 +1,6 @@
 // A tree's records in a lent store: writing one, clearing what is behind them, and making room for a block's result; and the numbers that records have.
+#![tactic(auto)]
+
 ghost use Rattle.std.specs.Prelude.{◌≡◌, ◌++◌, ◌+◌, ◌-◌, ◌≤◌, length, take, replicate};
 ghost use Rattle.tree.specs.Store.{Emitted, Led, Result};
 

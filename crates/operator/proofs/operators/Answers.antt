@@ -2,12 +2,8 @@
 use mathlib.Core.Path.{refl}
 use Rattle.operator.specs.Operator.{which_unary_op, which_binary_op, which_assignment_op, unary_code, binary_code, op_level, assign_code}
 use Rattle.operator.specs.Table.{decision, faults}
-use Rattle.operator.proofs.operators.Statement.{statement}
-use Rattle.operator.proofs.operators.Tie as tie
+use Rattle.operator.proofs.operators.Goals as goal
 
-returns : tie.Need-returns
+pub returns : goal.returns
 unfolding faults decision unary_code binary_code op_level assign_code which_unary_op which_binary_op which_assignment_op
 returns c = refl
-
-pub operators_spec : {M : Type 1} → statement M
-operators_spec = tie.close (tie.spec returns)
