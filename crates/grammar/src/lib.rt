@@ -1,5 +1,7 @@
 // The types of the calls: the reader that goes in and out, what a reading call answers, what the writer answers, and both as two numbers for C
 // (their variants in variant.rt); and the limits.
+#![tactic(auto)]
+
 ghost use Rattle.std.specs.Prelude.{◌≡◌};
 ghost use Rattle.grammar.specs.Reading.Next.{kind_number as kind_number_def};
 

@@ -74,7 +74,7 @@ clean_leads v_none d (suc n) l c here = unfold next start look looked either the
 clean_leads v_none d (suc n) l c behind = unfold next start look looked either then ifb in refl
 clean_leads (v_more {t = t} {f = f} h hs) d (suc n) l c g =
     let e = most_more t f in
-    rw (enough (next_reads h d [] (run f) g) (omega arith), clean_leads hs d n (omega arith) (omega arith) behind)
+    rw (enough (next_reads h d [] (run f) g) (omega arith), clean_leads {f = f} hs d n (omega arith) (omega arith) behind)
 
 pub run_back : {f : Forest} → Valids stmt f → (d n : ℕ) → need (Node.list f) own ≤ d → count f < n → clean_from d n (run f) ≡ just f
 unfolding need

@@ -20,7 +20,7 @@ use Rattle.grammar.specs.Reading.Primary.{with_action}
 use Rattle.grammar.specs.Reading.Depth.{at_depth}
 use Rattle.grammar.specs.Canonical.Write.{own, modified, after_commas, as_suite, write, writes, fun_gives}
 use Rattle.grammar.specs.Canonical.Need.{most, need, needs}
-use Rattle.grammar.specs.Canonical.Valid.{Valid, Valids, Pattern, unary, binop, plain, ex, given, control, stmt, v_target, v_unary, v_up, v_binary_op, v_assign, v_inner, v_single, v_tuple, v_local, v_plain, v_keyword, v_given, v_given_assign, v_given_target, v_none, v_more}
+use Rattle.grammar.specs.Canonical.Valid.{Valid, Valids, Pattern, unary, binop, assign, plain, ex, given, control, stmt, v_target, v_unary, v_up, v_binary_op, v_assign, v_inner, v_single, v_tuple, v_local, v_plain, v_keyword, v_given, v_given_assign, v_given_target, v_none, v_more}
 use borrow.Author.Tests.{eq-eqb, le-leb}
 use Rattle.grammar.specs.Laws.Roles.{as_inner, same_action, has_target}
 use Rattle.grammar.specs.Laws.Back.Steps.{Needs, both, done, weigh, then_ok, then_on, then_is, if_yes, if_no, sees, converts, symbol, fits}
@@ -176,12 +176,17 @@ module _ (d : ℕ) (R : Reads d) where
       rw (assign_own p t k (omega arith) c e r, e)
       (assignment_back k 0 q _ c h g a (no_keyword q (up (omega arith) (pattern_starts h _))))
 
+  -- an assignment with a keyword, the m-th
+  keyword_back : {c : Bool} (m : ℕ) {t : Tree} → m < 3 → Valid (assign own c (suc m)) t → (q r : List ℕ) → After c r → Needs (need t own) d (expr (at_depth d) q (write t own r)) (ok t r)
+  unfolding need
+  keyword_back m l (v_assign {lhs = p} {rhs = t} k c h g e) q r a =
+      rw (assign_own p t k (omega arith) c e r, e)
+      (assignment_back k (suc (suc m)) q _ c h g a (keyword_seen (suc m) (omega arith) q _))
+
   pub ex_back : {b c : Bool} {t : Tree} → Valid (ex b c) t → (q r : List ℕ) → After c r → Needs (need t own) d (expr (at_depth d) q (write t own r)) (ok t r)
   unfolding need
   ex_back (v_plain h) q r a = plain_back h q r a
-  ex_back (v_keyword {a = m} l (v_assign {lhs = p} {rhs = t} k c h g e)) q r a =
-      rw (assign_own p t k (omega arith) c e r, e)
-      (assignment_back k (suc (suc m)) q _ c h g a (keyword_seen (suc m) (omega arith) q _))
+  ex_back (v_keyword {a = m} l h) q r a = keyword_back m l h q r a
 
   -- under a modifier, which is an assignment's action
   pub given_back : {a : ℕ} {t : Tree} → a < 4 → Valid (given a) t → (q s : List ℕ)

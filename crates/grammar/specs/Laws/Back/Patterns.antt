@@ -1,5 +1,5 @@
 -- A pattern's words are those of an operand, which converts back to the pattern and needs the same depth. Assumes nothing.
-use Rattle.std.specs.Prelude.{◌≡◌, refl, Bool, true, false, ◌∷◌, ℕ, suc, ◌<◌, max, eqb}
+use Rattle.std.specs.Prelude.{◌≡◌, refl, Bool, true, false, List, ◌∷◌, ℕ, suc, ◌<◌, max, eqb}
 use Rattle.std.proofs.Common.{ap, ◌∙◌, sym, true≢false, arith}
 use Rattle.std.proofs.Math.Path.{fun_ext}
 use Rattle.token.specs.Kind
@@ -10,7 +10,7 @@ use Rattle.tree.specs.Node
 use Rattle.tree.specs.Maybe.{just}
 use Rattle.grammar.specs.Reading.Pattern.{pattern, maybe, conv, all_conv, last_of, front_of, receiver, by_item, by_last}
 use Rattle.grammar.specs.Canonical.Write.{own, modified, keyword_of, as_row, write, writes}
-use Rattle.grammar.specs.Canonical.Need.{most, need, needs}
+use Rattle.grammar.specs.Canonical.Need.{Depths, most, need, needs}
 use Rattle.grammar.specs.Canonical.Valid.{Valid, Valids, Pattern, Patterns, IsName, atom, prim, tight, binop, plain, ex, item, v_identifier, v_group, v_modified, v_atom, v_primary, v_prim, v_unpack, v_ellipsis, v_inner, v_single, v_tuple, v_given, v_attribute, v_index, v_none, v_more, p_identifier, p_attribute, p_index, p_tuple, p_pack, p_ellipsis, p_modifier, p_none, p_more}
 use Rattle.grammar.specs.Laws.Roles.{as_inner}
 use Rattle.grammar.specs.Laws.Roles.{valids_snoc}
@@ -104,12 +104,12 @@ tuple_valid h (v_more g gs) = v_tuple h g gs
 
 tuple_as : {p : Tree} {f : Forest} → AsExpr p → AsExprs f → AsExpr (Node.tuple_pattern (more p f))
 unfolding write need conv
-tuple_as x y =
+tuple_as {p} {f} x y =
     let v = v_atom (v_group (tuple_valid (as_inner (x.valid true)) y.valid)) in
     record {
       expr = Node.group 0 (Node.tuple (more x.expr y.exprs));
       words = rw (x.words, y.words);
-      depth = fun_ext λ p. rw (x.depth, y.depth) (omega arith);
+      depth = fun_ext λ l. ap (λ (d : Depths). suc (most (d ∷ needs y.exprs))) x.depth ∙ ap (λ (ds : List Depths). suc (most (need p ∷ ds))) y.depth;
       back = rw (x.back, y.back);
       back_packed = rw (x.back, y.back);
       valid = λ b. v_prim v;

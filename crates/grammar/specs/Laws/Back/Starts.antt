@@ -14,7 +14,7 @@ use Rattle.grammar.specs.Reading.Result.{Error, Res, ok, then, ifb}
 use Rattle.grammar.specs.Reading.Look.{looked, look, try_assign_keyword}
 use Rattle.grammar.specs.Canonical.Write.{Place, own, modified, targeted, label, keyword, keyword_of, has_function, fun_gives, write}
 use Rattle.grammar.specs.Canonical.Need.{need}
-use Rattle.grammar.specs.Canonical.Valid.{Valid, Pattern, atom, prim, tight, unary, binop, plain, ex, stmt, IsLabel, no_label, a_label, v_nil, v_empty_tuple, v_identifier, v_true, v_false, v_integer, v_float, v_string, v_group, v_modified, v_atom, v_primary, v_prim, v_unpack, v_ellipsis, v_table, v_function, v_target, v_if, v_block, v_labelled, v_tight, v_unary_op, v_unary, v_up, v_binary_op, v_assign, v_inner, v_single, v_tuple, v_local, v_plain, v_keyword, v_function_def, v_function_default, v_function_variadic, v_expression, v_loop, v_while, v_for, v_assert, p_identifier, p_attribute, p_index, p_tuple, p_pack, p_ellipsis, p_modifier}
+use Rattle.grammar.specs.Canonical.Valid.{Valid, Pattern, atom, prim, tight, unary, binop, assign, plain, ex, stmt, IsLabel, no_label, a_label, v_nil, v_empty_tuple, v_identifier, v_true, v_false, v_integer, v_float, v_string, v_group, v_modified, v_atom, v_primary, v_prim, v_unpack, v_ellipsis, v_table, v_function, v_target, v_if, v_block, v_labelled, v_tight, v_unary_op, v_unary, v_up, v_binary_op, v_assign, v_inner, v_single, v_tuple, v_local, v_plain, v_keyword, v_function_def, v_function_default, v_function_variadic, v_expression, v_loop, v_while, v_for, v_assert, p_identifier, p_attribute, p_index, p_tuple, p_pack, p_ellipsis, p_modifier}
 use Rattle.grammar.specs.Laws.Facts.{apart}
 use Rattle.grammar.specs.Laws.Roles.{has_target}
 use Rattle.grammar.specs.Laws.Back.Steps.{Needs, Fits, fits, symbol, word, sees, if_yes, done, enough}
@@ -195,10 +195,15 @@ plain_starts (v_single h) r = binop_starts h _
 plain_starts (v_tuple h g i) r = binop_starts h _
 plain_starts (v_local (v_assign {lhs = p} {rhs = t} k c h g e)) r = rw (assign_own p t k (omega arith) c e r) (any (omega arith) (pattern_starts h _))
 
+-- an assignment with a keyword, the a-th, begins with it
+assign_starts : {b c : Bool} (a : ℕ) {t : Tree} → a < 3 → Valid (assign own c (suc a)) t → (r : List ℕ) → Starts b 4 (write t own r)
+unfolding write
+assign_starts a l (v_assign {lhs = p} {rhs = t} k c h g e) r = rw (assign_own p t k (omega arith) c e r) (keyword_starts (suc a) (omega arith))
+
 pub ex_starts : {b c : Bool} {t : Tree} → Valid (ex b c) t → (r : List ℕ) → Starts b 4 (write t own r)
 unfolding write
 ex_starts (v_plain h) r = up (omega arith) (plain_starts h r)
-ex_starts (v_keyword {a = a} l (v_assign {lhs = p} {rhs = t} k c h g e)) r = rw (assign_own p t k (omega arith) c e r) (keyword_starts (suc a) (omega arith))
+ex_starts (v_keyword {a = a} l h) r = assign_starts a l h r
 
 label_starts : {l k : ℕ} (s : List ℕ) → IsLabel l → k < 76 → Begins false 5 k → Starts false 5 (label l (k ∷ 0 ∷ s))
 label_starts s no_label h g = starts (symbol _ h) g

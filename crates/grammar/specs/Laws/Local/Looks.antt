@@ -1,9 +1,9 @@
 -- What `looks` says of a local reading. It comes to the same over any two runs of words that are alike in the tokens that it looks at, and looks at the same: `kept`.
 -- It goes back behind no token but the last that it looked at, and takes none that it did not look at: `next_ends`. It looks at a token exactly if it would meet a bad record
 -- there: `looks_exact`. Assumes nothing.
-use Rattle.std.specs.Prelude.{◌≡◌, false, ℕ, zero, suc, ◌+◌, ◌*◌, ◌≤◌, ◌<◌, ltb, length}
+use Rattle.std.specs.Prelude.{◌≡◌, false, ℕ, zero, suc, ◌+◌, ◌*◌, ◌≤◌, ◌<◌, ltb, length, drop, get_or}
 use Rattle.std.proofs.Math.Path.{refl, ap}
-use Rattle.std.proofs.Common.{sym, ◌∙◌, arith, eqb-true, lt-ltb}
+use Rattle.std.proofs.Common.{sym, subst, ◌∙◌, arith, eqb-true, lt-ltb}
 use Rattle.std.proofs.Math.Bool.{true}
 use mathlib.Core.List.{List, [], ◌∷◌, ◌++◌}
 use Rattle.std.proofs.Math.Dec.{leb-suc-zero, leb-suc-suc}
@@ -53,11 +53,17 @@ long : {b : BadRecord} {X r s : List ℕ} → Alike b X true r s → suc (suc (l
 long a_place = omega arith
 long (a_more t) = omega (arith, long t)
 
+rests_same : {b : BadRecord} {Z X r r' s u : List ℕ} → Alike b Z true r s → Alike b X true r' u → r ≡ r' → Rests Z X s u
+rests_same a_place a_place e = r_end
+rests_same a_place (a_more u) e = absurd (omega (arith, ap length e, long u))
+rests_same (a_more t) a_place e = absurd (omega (arith, ap length e, long t))
+rests_same {Z = Z} {X = X} (a_more {w = w} {v = v} {s = s} t) (a_more {w = w'} {v = v'} {s = s'} u) e =
+    let m : w ≡ w' = ap (λ (r : List ℕ). get_or r 0 0) e in
+    let n : v ≡ v' = ap (λ (r : List ℕ). get_or r 1 0) e in
+    subst (λ (x : ℕ). Rests Z X (w ∷ v ∷ s) (x ∷ v' ∷ s')) m (subst (λ (y : ℕ). Rests Z X (w ∷ v ∷ s) (w ∷ y ∷ s')) n (r_more (rests_same t u (ap (drop 2) e))))
+
 rests : {b : BadRecord} {Z X r s u : List ℕ} → Alike b Z true r s → Alike b X true r u → Rests Z X s u
-rests a_place a_place = r_end
-rests a_place (a_more u) = absurd (omega (arith, long u))
-rests (a_more t) a_place = absurd (omega (arith, long t))
-rests (a_more t) (a_more u) = r_more (rests t u)
+rests t u = rests_same t u refl
 
 agree : {b : BadRecord} {Z X : List ℕ} {A : Type 0} {x y z : Res A} → Local b Z true x y → Local b X true x z → meets x ≡ false → Same Z X y z
 unfolding meets
