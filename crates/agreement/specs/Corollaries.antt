@@ -11,8 +11,8 @@ use Rattle.grammar.specs.Reading.Next.{number, Accepted, Called, bare, next_stmt
 use Rattle.grammar.specs.Canonical.Writing.{write_stmt}
 use Rattle.grammar.specs.Flat.{flat_answer, flat_written}
 use Rattle.grammar.specs.Contract.{Leaves, Exports, Writes, ExportsWriting}
-use Rattle.grammar.specs.Laws.Returned.{returned_accepted}
-use Rattle.grammar.specs.Promise.{Sheet, Outcome, no_sheet, no_reader, stopped, waited, short, reads, outcome, sole}
+use Rattle.grammar.proofs.Laws.Returned.{returned_accepted}
+use Rattle.grammar.proofs.Promise.{Sheet, Outcome, no_sheet, no_reader, stopped, waited, short, reads, outcome, sole}
 use Rattle.grammar.specs.declared.Answer.{Answer}
 use Rattle.grammar.specs.declared.Answer.TheVariants.{Stopped, Refused}
 use Rattle.grammar.specs.declared.Flat.{Flat}

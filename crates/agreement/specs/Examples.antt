@@ -17,10 +17,10 @@ use Rattle.grammar.specs.Reading.Next.{queue_fits, reader_at, fresh, Accepted, C
 use Rattle.grammar.specs.Canonical.Write.{own, run}
 use Rattle.grammar.specs.Canonical.Need.{need}
 use Rattle.grammar.specs.Canonical.Writing.{clean_from, clean_reading}
-use Rattle.grammar.specs.Laws.Back.Depths.{run_length}
-use Rattle.grammar.specs.Laws.Returned.{fresh_accepted}
-use Rattle.grammar.specs.Sheets as Sheets
-use Rattle.grammar.specs.Theorems.{sound}
+use Rattle.grammar.proofs.Laws.Back.Depths.{run_length}
+use Rattle.grammar.proofs.Laws.Returned.{fresh_accepted}
+use Rattle.grammar.proofs.Sheets as Sheets
+use Rattle.grammar.proofs.Theorems.{sound}
 use Rattle.grammar.specs.declared.Answer.{Answer}
 use Rattle.grammar.specs.declared.Reader.{Reader}
 use Rattle.agreement.specs.Calls.{Entry, by_value, kept, Call, Gives, Run, no_call, a_call, defined, NonePending, unread}

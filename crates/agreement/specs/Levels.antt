@@ -8,9 +8,9 @@ use Rattle.tree.specs.Decode.{decode}
 use Rattle.tree.specs.Records.{records_length, decode_records, decode_text}
 use Rattle.grammar.specs.Levels.{in_order}
 use Rattle.grammar.specs.Reading.Next.{Called}
-use Rattle.grammar.specs.Laws.Levels.Leveled.{Leveled}
-use Rattle.grammar.specs.Laws.Levels.Records.{leveled_in_order, in_order_leveled}
-use Rattle.grammar.specs.Promise.{outcome}
+use Rattle.grammar.proofs.Laws.Levels.Leveled.{Leveled}
+use Rattle.grammar.proofs.Laws.Levels.Records.{leveled_in_order, in_order_leveled}
+use Rattle.grammar.proofs.Promise.{outcome}
 use Rattle.grammar.specs.declared.Reader.{Reader}
 use Rattle.agreement.specs.Calls.{Entry, Gives}
 use Rattle.agreement.specs.Ordered.{Ordered}

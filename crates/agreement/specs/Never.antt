@@ -6,9 +6,9 @@ use mathlib.Core.List.{List, Memᴰ}
 use Rattle.grammar.specs.Reading.Number
 use Rattle.grammar.specs.Reading.Result.{Error}
 use Rattle.grammar.specs.Reading.Next.{number, fresh, waiting_in, Called}
-use Rattle.grammar.specs.Laws.Facts.{clash}
-use Rattle.grammar.specs.Laws.Waits.{is_error_but, ErrorBut, two_never, three_never, IsError}
-use Rattle.grammar.specs.Laws.Top.{Covers, covers_but_two, covers_but_three}
+use Rattle.grammar.proofs.Laws.Facts.{clash}
+use Rattle.grammar.proofs.Laws.Waits.{is_error_but, ErrorBut, two_never, three_never, IsError}
+use Rattle.grammar.proofs.Laws.Top.{Covers, covers_but_two, covers_but_three}
 use Rattle.grammar.specs.declared.Reader.{Reader}
 use Rattle.agreement.specs.Calls.{Call, Run}
 use Rattle.agreement.specs.Laws.Met.{only_fresh, run_only, run_met, one_of}

@@ -11,9 +11,9 @@ use Rattle.grammar.specs.Canonical.Write.{own, run}
 use Rattle.grammar.specs.Canonical.Need.{need}
 use Rattle.grammar.specs.Canonical.Valid.{stmt, Valids, v_none, v_more}
 use Rattle.grammar.specs.Canonical.Writing.{clean_reading}
-use Rattle.grammar.specs.Laws.Back.Depths.{run_length}
-use Rattle.grammar.specs.Laws.Small.{valid_small}
-use Rattle.grammar.specs.Theorems.{sound, same_trees}
+use Rattle.grammar.proofs.Laws.Back.Depths.{run_length}
+use Rattle.grammar.proofs.Laws.Small.{valid_small}
+use Rattle.grammar.proofs.Theorems.{sound, same_trees}
 use Rattle.grammar.specs.declared.Reader.{Reader}
 use Rattle.agreement.specs.Calls.{defined, unread}
 use Rattle.agreement.specs.Answers.{Seen, Reads, Afresh, Remaining, answers_of, trees_of, canonical}

@@ -20,10 +20,10 @@ use Rattle.grammar.specs.Reading.Result.{Res, ok, bad, fail, stop, then, ifb, Er
 use Rattle.grammar.specs.Reading.Look.{looked, look}
 use Rattle.grammar.specs.Reading.Expr.{Depth, operators, binop_expr}
 use Rattle.grammar.specs.Reading.Depth.{at_depth}
-use Rattle.grammar.specs.Laws.Keep.{Keep, k_ok, k_fail, k_stop, k_weaken, k_all, k_both, k_on, Keeps, here}
-use Rattle.grammar.specs.Laws.Progress.{binop_keeps, depth_keeps}
-use Rattle.grammar.specs.Laws.Taken.{Left, left_step}
-use Rattle.grammar.specs.Laws.Count.{same_then}
+use Rattle.grammar.proofs.Laws.Keep.{Keep, k_ok, k_fail, k_stop, k_weaken, k_all, k_both, k_on, Keeps, here}
+use Rattle.grammar.proofs.Laws.Progress.{binop_keeps, depth_keeps}
+use Rattle.grammar.proofs.Laws.Taken.{Left, left_step}
+use Rattle.grammar.proofs.Laws.Count.{same_then}
 use Rattle.scan.specs.Post.{Taken}
 use Rattle.nodes.proofs.Algebra.{then_fail, then_ok, then_then, then_same}
 use Rattle.scan.proofs.Laws.{Looks}

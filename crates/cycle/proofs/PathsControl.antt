@@ -19,7 +19,7 @@ use Rattle.grammar.specs.Reading.Look.{look, try_label}
 use Rattle.grammar.specs.Reading.Expr.{Depth, expr}
 use Rattle.grammar.specs.Reading.Block.{whole}
 use Rattle.grammar.specs.Reading.Stmt.{ends, control_value, is_control, control_flow, starts_stmt, synchronize, synchronized, caught}
-use Rattle.grammar.specs.Laws.Keep.{Holds, k_ok, k_any, k_if}
+use Rattle.grammar.proofs.Laws.Keep.{Holds, k_ok, k_any, k_if}
 use Rattle.scan.specs.Post.{As, no_words, Agrees, Taken, Missed, Resumes, waiting_errors}
 use Rattle.scan.specs.declared.Failure.{Failure}
 use Rattle.scan.specs.declared.Step.{Step}

@@ -20,7 +20,7 @@ use Rattle.grammar.specs.Reading.Look.{look, expect_pattern, try_assign_keyword,
 use Rattle.grammar.specs.Reading.Expr.{Depth, binop_expr, inner_expr, members, tuple_expr, keyword_alone, expr}
 use Rattle.grammar.specs.Reading.Stmt.{stmts}
 use Rattle.grammar.specs.Reading.Depth.{primary_expr, unary_expr, at_depth}
-use Rattle.grammar.specs.Laws.Facts.{if_same}
+use Rattle.grammar.proofs.Laws.Facts.{if_same}
 use Rattle.cycle.specs.Parts.{tail}
 use Rattle.scan.specs.Post.{Taken}
 use Rattle.nodes.proofs.Algebra.{then_fail, then_ok, then_then, then_if, then_same, look_then}

@@ -13,9 +13,9 @@ use Rattle.tree.specs.NodeKind
 use Rattle.tree.specs.Maybe.{Maybe, nothing, just}
 use Rattle.tree.specs.Tree.{Tree, Forest, node, none, more, count, records, kind_of}
 use Rattle.tree.specs.Node
-use Rattle.grammar.specs.Laws.Keep.{Holds, k_ok, k_failed, k_on, k_any, k_if, k_tested}
-use Rattle.grammar.specs.Laws.Levels.Leveled.{p_none}
-use Rattle.grammar.specs.Laws.Levels.Nonterminals.{depth_levels, atom_leveled, path_leveled}
+use Rattle.grammar.proofs.Laws.Keep.{Holds, k_ok, k_failed, k_on, k_any, k_if, k_tested}
+use Rattle.grammar.proofs.Laws.Levels.Leveled.{p_none}
+use Rattle.grammar.proofs.Laws.Levels.Nonterminals.{depth_levels, atom_leveled, path_leveled}
 use Rattle.grammar.specs.Reading.Number
 use Rattle.grammar.specs.Reading.Result.{Res, ok, then, ifb, Error}
 use Rattle.grammar.specs.Reading.Look.{expect, expect_pattern}
@@ -26,7 +26,7 @@ use Rattle.grammar.specs.Reading.Primary.{atom, path, with_path, literal}
 use Rattle.grammar.specs.Reading.Block.{body, block_of}
 use Rattle.grammar.specs.Reading.Function.{Params, function_param_list, function_def, function_assignment_target, target_name, function_decl_expr}
 use Rattle.grammar.specs.Reading.Depth.{at_depth}
-use Rattle.grammar.specs.Laws.Levels.Parts.{with_path_leveled}
+use Rattle.grammar.proofs.Laws.Levels.Parts.{with_path_leveled}
 use Rattle.pattern.specs.Contract.{Whole}
 use Rattle.nodes.specs.Parts.{signature_words, path_words}
 use Rattle.scan.specs.Post.{clean, Wrote, Taken, waiting_errors}

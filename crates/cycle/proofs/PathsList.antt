@@ -19,8 +19,8 @@ use Rattle.grammar.specs.Reading.Expr.{Depth, Stmts}
 use Rattle.grammar.specs.Reading.Block.{whole, split_before, split_last, split}
 use Rattle.grammar.specs.Reading.Stmt.{ends, is_control, control_flow, control_last, synchronized, stmt, caught, stmts}
 use Rattle.grammar.specs.Reading.Depth.{at_depth}
-use Rattle.grammar.specs.Laws.Levels.Nonterminals.{stmt_leveled, depth_levels}
-use Rattle.grammar.specs.Laws.Keep.{Holds, Keep, k_ok, k_fail, k_stop, k_all, k_unclean, k_on, k_any, k_or, k_if}
+use Rattle.grammar.proofs.Laws.Levels.Nonterminals.{stmt_leveled, depth_levels}
+use Rattle.grammar.proofs.Laws.Keep.{Holds, Keep, k_ok, k_fail, k_stop, k_all, k_unclean, k_on, k_any, k_or, k_if}
 use Rattle.scan.specs.Post.{As, no_words, Failed, Wrote, Agrees, Taken, Queues, waiting_errors}
 use Rattle.cycle.specs.Parts.{Place, a_stmt, a_control, a_caught, resume, turn, control_words}
 use Rattle.scan.specs.Parts.{closed_step, resumed_step}
@@ -31,7 +31,7 @@ use Rattle.scan.specs.declared.Step.{Step}
 use Rattle.scan.specs.declared.Step.TheVariants.{Done, Fail, Stop}
 use Rattle.scan.specs.declared.Entry.{Entry}
 use Rattle.scan.specs.declared.Entry.TheVariants.{Stmt as EStmt, Control as EControl, Caught as ECaught, Not as ENot}
-use Rattle.grammar.specs.Laws.Facts.{if_same}
+use Rattle.grammar.proofs.Laws.Facts.{if_same}
 use Rattle.nodes.proofs.Algebra.{then_ok, then_then, then_either, then_if, then_same, either_same}
 use Rattle.scan.proofs.Laws.{kept_won, Looks, goes, fails, elsewhere, prefix}
 use Rattle.scan.proofs.Looking.{counted}

@@ -12,7 +12,7 @@ use Rattle.token.specs.declared.Token.{Token}
 use Rattle.tree.specs.Tree.{Tree, Forest, none, more, one, snoc, count, records}
 use Rattle.tree.specs.Node
 use Rattle.tree.specs.Store.{Emitted}
-use Rattle.grammar.specs.Laws.Keep.{Holds, k_ok, k_failed, k_on, k_any, k_if}
+use Rattle.grammar.proofs.Laws.Keep.{Holds, k_ok, k_failed, k_on, k_any, k_if}
 use Rattle.grammar.specs.Reading.Result.{Res, ok, then, ifb, Error}
 use Rattle.grammar.specs.Reading.Look.{look}
 use Rattle.grammar.specs.Reading.Expr.{Depth, expr}
@@ -27,7 +27,7 @@ use Rattle.nodes.specs.declared.Parameter.{Parameter}
 use Rattle.nodes.specs.declared.Parameter.TheVariants.{Required as PRequired, Variadic as PVariadic, Default as PDefault, Not as PNot}
 use Rattle.nodes.specs.declared.Joined.{Joined}
 use Rattle.nodes.specs.declared.Joined.TheVariants.{To, Not as JNot}
-use Rattle.grammar.specs.Laws.Facts.{if_same}
+use Rattle.grammar.proofs.Laws.Facts.{if_same}
 use Rattle.nodes.proofs.Algebra.{then_ok, then_then, then_if, then_same, look_then, look_known, Plain, an_ok, a_fail, look_plain, plain_then}
 use Rattle.scan.proofs.Laws.{way, goes, fails, Looks, gets, lacks, prefix}
 use Rattle.nodes.proofs.Made.{put, all_one, all_snoc}

@@ -21,7 +21,7 @@ use Rattle.grammar.specs.Reading.Primary.{with_action, group_expr, literal, atom
 use Rattle.grammar.specs.Reading.Block.{block_expr, expr_label, if_expr}
 use Rattle.grammar.specs.Reading.Function.{function_decl_expr}
 use Rattle.grammar.specs.Reading.Depth.{primary_expr}
-use Rattle.grammar.specs.Laws.Facts.{if_same}
+use Rattle.grammar.proofs.Laws.Facts.{if_same}
 use Rattle.scan.specs.Post.{Taken}
 use Rattle.scan.specs.Parts.{goes_on}
 use Rattle.cycle.specs.Parts.{part}

@@ -20,9 +20,9 @@ use Rattle.grammar.specs.Reading.Primary.{group_expr, literal, atom, path, table
 use Rattle.grammar.specs.Reading.Block.{body, block_expr, expr_label, branches}
 use Rattle.grammar.specs.Reading.Function.{params, function_def, function_assignment_target, function_decl_expr}
 use Rattle.grammar.specs.Reading.Depth.{primary_expr, unary_expr, at_depth}
-use Rattle.grammar.specs.Laws.Keep.{Holds, k_ok, k_bad, k_fail, k_failed, k_stop, k_weaken, k_both, k_on, k_any, k_if}
-use Rattle.grammar.specs.Laws.Levels.Leveled.{Leveled}
-use Rattle.grammar.specs.Laws.Levels.Nonterminals.{depth_levels, tuple_leveled, expr_leveled}
+use Rattle.grammar.proofs.Laws.Keep.{Holds, k_ok, k_bad, k_fail, k_failed, k_stop, k_weaken, k_both, k_on, k_any, k_if}
+use Rattle.grammar.proofs.Laws.Levels.Leveled.{Leveled}
+use Rattle.grammar.proofs.Laws.Levels.Nonterminals.{depth_levels, tuple_leveled, expr_leveled}
 use Rattle.scan.specs.Post.{As}
 use Rattle.nodes.specs.Ends.{Shape, other, a_tuple, lone, unpacked}
 

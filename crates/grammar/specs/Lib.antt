@@ -3,11 +3,3 @@ pub mod Canonical
 pub mod Flat
 pub mod Contract
 pub mod Levels
-pub mod Sheets
-pub mod Looks
-pub mod Depths
-pub mod Patterns
-pub mod Laws
-pub mod Promise
-pub mod Locality
-pub mod Theorems

@@ -10,7 +10,7 @@ use lib.ListN.{length, get_or, set, length-set}
 use lib.Seq.{get_or-set_same, get_or-set_other}
 use borrow.Author.Tests.{lt-ltb, le-ltb, ltb-true, ltb-false, ne_eqb, eqb-false}
 use Rattle.tree.specs.NodeKind
-use Rattle.grammar.specs.Laws.Facts.{by_test}
+use Rattle.grammar.proofs.Laws.Facts.{by_test}
 use Rattle.labels.specs.Offences.{Enclosing, any_serves, inside}
 use Rattle.labels.specs.Entries.{Entry, held, around, standing, encloses, node_serves, Full, entered}
 

@@ -10,7 +10,7 @@ use borrow.Author.Tests.{ltb-true, ltb-false, eqb-true, eqb-false}
 use Rattle.tree.specs.Tree.{Tree, records}
 use Rattle.tree.specs.Records.{stack_records, StackSmall}
 use Rattle.tree.specs.Rows.{end, on, rows, width, SmallRow, Trees, scan_step, enough, ended}
-use Rattle.grammar.specs.Laws.Facts.{by_test}
+use Rattle.grammar.proofs.Laws.Facts.{by_test}
 use Rattle.writer.specs.Stack.{At}
 use Rattle.writer.specs.Verdict.{Whole}
 use Rattle.writer.proofs.Entry.{at_small}

@@ -9,7 +9,7 @@ use Rattle.tree.specs.Decode.{gather, stacked, decode}
 use Rattle.grammar.specs.Reading.Limit.{depth_limit}
 use Rattle.grammar.specs.Canonical.Need.{need}
 use Rattle.grammar.specs.Canonical.Writing.{readable, clean_reading}
-use Rattle.grammar.specs.Sheets.{canonical, s, name, eof, times}
+use Rattle.grammar.proofs.Sheets.{canonical, s, name, eof, times}
 use Rattle.labels.specs.declared.Labels.{Labels}
 use Rattle.labels.specs.declared.Labels.TheVariants.{Fine, Refused}
 use Rattle.labels.specs.Offences.{offence, inside, offences, first, check_labels}

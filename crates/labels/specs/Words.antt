@@ -5,7 +5,7 @@ use borrow.Author.Tests.{lt-ltb, le-ltb, ltb-true, ne_eqb, eqb-true}
 use Rattle.tree.specs.Tree.{Tree, Forest, node, none, more, count, records, all_records}
 use Rattle.tree.specs.Records.{Small, Smalls}
 use Rattle.grammar.specs.Reading.Result.{ifb}
-use Rattle.grammar.specs.Laws.Facts.{by_test}
+use Rattle.grammar.proofs.Laws.Facts.{by_test}
 use Rattle.labels.specs.Offences.{Enclosing, inside, offences, all_offences}
 use Rattle.labels.specs.Behind.{further, is_last, enclosing, behind}
 

@@ -13,8 +13,8 @@ use Rattle.tree.specs.Tree.{Tree, records}
 use Rattle.grammar.specs.Reading.Limit.{depth_limit, length_limit, queue_limit, store_share, malformed, bad_reader, short_store}
 use Rattle.grammar.specs.Reading.Result.{Res, ok, bad, fail, stop, ifb, Error}
 use Rattle.grammar.specs.Reading.Next.{is_stop, queue_fits, pad, reader_at, Called, bare, halted, error_kind, error_answer, tree_called, called, answered, next_stmt, next}
-use Rattle.grammar.specs.Laws.Progress.{next_keeps}
-use Rattle.grammar.specs.Laws.Keep.{Keep}
+use Rattle.grammar.proofs.Laws.Progress.{next_keeps}
+use Rattle.grammar.proofs.Laws.Keep.{Keep}
 use Rattle.grammar.specs.declared.ErrorKind.{ErrorKind}
 use Rattle.grammar.specs.declared.Answer.{Answer}
 use Rattle.grammar.specs.declared.Answer.TheVariants.{Tree as ATree, Error as AError, Refused, Stopped}

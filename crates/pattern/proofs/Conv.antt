@@ -11,7 +11,7 @@ use Rattle.tree.specs.Records.{Small, Smalls}
 use Rattle.tree.specs.Rows.{Row, end, on, rows, push, rows_push}
 use Rattle.tree.specs.Maybe.{Maybe, nothing, just, bindM, both}
 use Rattle.grammar.specs.Reading.Pattern.{Role, pattern, members, maybe, over, grouped, listed, last_of, front_of, receiver, by_item, by_path, conv, all_conv}
-use Rattle.grammar.specs.Laws.Facts.{by_test}
+use Rattle.grammar.proofs.Laws.Facts.{by_test}
 use Rattle.pattern.specs.Word
 
 -- the children that are patterns are as many as the children

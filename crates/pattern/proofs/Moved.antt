@@ -16,7 +16,7 @@ use Rattle.tree.specs.Maybe.{Maybe, nothing, just}
 use Rattle.tree.specs.Store.{Emitted}
 use Rattle.tree.specs.Written.{drop_take}
 use Rattle.grammar.specs.Reading.Pattern.{pattern, receiver, conv, to_pattern}
-use Rattle.grammar.specs.Laws.Facts.{by_test}
+use Rattle.grammar.proofs.Laws.Facts.{by_test}
 use Rattle.pattern.specs.Word
 use Rattle.pattern.specs.Contract.{Is, Right, Left, Fit, Stands, Access, Moved, Over, over_as, over_words, has_members}
 use Rattle.pattern.proofs.Lists.{keep}

@@ -14,7 +14,7 @@ use Rattle.tree.specs.Records.{Small, Smalls}
 use Rattle.tree.specs.Rows.{Row, end, on, rows, width, SmallRow, push, rows_push, small_push, rows_long, top}
 use Rattle.tree.specs.Maybe.{Maybe, nothing, just, is_just, bindM, both}
 use Rattle.grammar.specs.Reading.Pattern.{pattern, maybe, members, over, modified, grouped, listed, conv, all_conv, to_pattern}
-use Rattle.grammar.specs.Laws.Facts.{by_test}
+use Rattle.grammar.proofs.Laws.Facts.{by_test}
 use Rattle.pattern.specs.Word
 use Rattle.pattern.specs.Contract.{Whole, has_members}
 use Rattle.pattern.proofs.Conv.{ident, Over, group, unpack, absent, present, tuple, list_is, not_list, no_members, other, convR, wordsR, wordsM, pattern_on_top, none_on_top, same_as, wrapped, tupled}

@@ -12,7 +12,7 @@ use Rattle.token.specs.declared.Token.{Token}
 use Rattle.grammar.specs.Reading.Limit.{queue_limit}
 use Rattle.grammar.specs.Reading.Result.{Res, ok, bad, fail, stop, unclean, either, then, Error}
 use Rattle.grammar.specs.Reading.Look.{look}
-use Rattle.grammar.specs.Laws.Keep.{Keep, k_ok, k_bad, k_fail, k_stop}
+use Rattle.grammar.proofs.Laws.Keep.{Keep, k_ok, k_bad, k_fail, k_stop}
 use Rattle.scan.specs.Post.{Out, won, lost, halt, out, As, clean, Moved, Room, Lost, FailedAs, Failed, Wrote, Agrees, Unread, Taken, Missed, Saw, Got, Passed, Reads, NumberAt, Finds, waiting_errors}
 use Rattle.scan.specs.declared.Failure.{Failure}
 use Rattle.scan.specs.declared.Step.{Step}

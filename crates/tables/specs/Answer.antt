@@ -10,8 +10,8 @@ use Rattle.grammar.specs.Reading.Result.{ifb}
 use Rattle.grammar.specs.Canonical.Need.{need}
 use Rattle.grammar.specs.Canonical.Write.{own}
 use Rattle.grammar.specs.Canonical.Writing.{readable, statement_words, Wrote, bare, written}
-use Rattle.grammar.specs.Laws.Facts.{not_true, by_test}
-use Rattle.grammar.specs.Theorems.{readable_valid, limit_exact}
+use Rattle.grammar.proofs.Laws.Facts.{not_true, by_test}
+use Rattle.grammar.proofs.Theorems.{readable_valid, limit_exact}
 use Rattle.grammar.specs.declared.Written.{Written}
 use Rattle.grammar.specs.declared.Written.TheVariants.{Tokens, Stopped, Refused}
 use Rattle.tables.specs.Form.{Own}

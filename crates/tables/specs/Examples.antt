@@ -6,7 +6,7 @@ use Rattle.grammar.specs.Canonical.Write.{own, write}
 use Rattle.grammar.specs.Canonical.Need.{need}
 use Rattle.grammar.specs.Reading.Limit.{too_deep, short_output}
 use Rattle.grammar.specs.Reading.Result.{ifb}
-use Rattle.grammar.specs.Sheets.{times}
+use Rattle.grammar.proofs.Sheets.{times}
 use Rattle.grammar.specs.declared.Written.TheVariants.{Stopped, Refused}
 use Rattle.operator.specs.Operator.{op_token, unary_token, assign_token}
 use Rattle.tables.specs.Choice as Choice

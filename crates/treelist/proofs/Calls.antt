@@ -10,8 +10,8 @@ use lib.ListN.{length, replicate, length-append}
 use Rattle.tree.specs.Tree.{records}
 use Rattle.grammar.specs.Reading.Next.{Accepted, Called, next_stmt}
 use Rattle.grammar.specs.Reading.Kept.{goes_on}
-use Rattle.grammar.specs.Laws.Returned.{returned_accepted}
-use Rattle.grammar.specs.Promise.{outcome}
+use Rattle.grammar.proofs.Laws.Returned.{returned_accepted}
+use Rattle.grammar.proofs.Promise.{outcome}
 use Rattle.grammar.specs.declared.Answer.{Answer}
 use Rattle.grammar.specs.declared.Answer.TheVariants.{Tree as ATree, Error as AError, End, Stopped, Refused}
 use Rattle.grammar.specs.declared.Reader.{Reader}

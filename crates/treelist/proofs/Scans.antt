@@ -9,7 +9,7 @@ use borrow.Author.Tests.{leb-true, ltb-true, eqb-false, eq-eqb, ne_eqb, lt-ltb}
 use lib.Dec.{leb, eqb}
 use lib.ListN.{length, get_or, take, drop, set, length-set, length-append, drop_of_length-le}
 use lib.Seq.{sets-eq, take_at, length-take-le, drop-cons}
-use Rattle.grammar.specs.Laws.Facts.{and_l, and_r}
+use Rattle.grammar.proofs.Laws.Facts.{and_l, and_r}
 use Rattle.treelist.specs.declared.lines.Scan.{Scan}
 use Rattle.treelist.specs.Lines.{text, kind_at, newline_at, value_at, most_lines, most_kind, most_newline, is_due, is_digit, at_line, bad, digit, past, number_end, letter, Progress, progress, line_end, step, read, closed, start, Sound, Ready, Comes}
 

@@ -13,7 +13,7 @@ use Rattle.tree.specs.NodeKind
 use Rattle.tree.specs.Tree.{Tree, Forest, node, none, more, count, records}
 use Rattle.tree.specs.Maybe.{Maybe, nothing, just}
 use Rattle.tree.specs.Records.{stack_records, StackSmall, back, stack_same}
-use Rattle.grammar.specs.Laws.Facts.{clash}
+use Rattle.grammar.proofs.Laws.Facts.{clash}
 use Rattle.tables.specs.Kinds.{gives_name}
 use Rattle.tables.specs.Sound.{exceeds, arity, sound}
 use Rattle.tables.specs.Check.{class_of, begins_labelled, first_labelled}

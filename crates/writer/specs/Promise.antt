@@ -23,11 +23,11 @@ use Rattle.grammar.specs.Canonical.Need.{need}
 use Rattle.grammar.specs.Canonical.Valid.{stmt, Valid}
 use Rattle.grammar.specs.Canonical.Write.{own, run}
 use Rattle.grammar.specs.Canonical.Writing.{readable, is_too_deep, exceeds_depth, statement_words, number, Wrote, bare, write_stmt}
-use Rattle.grammar.specs.Laws.Back.Depths.{next_back}
-use Rattle.grammar.specs.Laws.Back.Steps.{reach}
-use Rattle.grammar.specs.Laws.Facts.{not_true, by_test}
-use Rattle.grammar.specs.Laws.Small.{valid_small}
-use Rattle.grammar.specs.Theorems.{Given, valid_given, readable_valid, limit_exact, token_count, decoded, refused_65}
+use Rattle.grammar.proofs.Laws.Back.Depths.{next_back}
+use Rattle.grammar.proofs.Laws.Back.Steps.{reach}
+use Rattle.grammar.proofs.Laws.Facts.{not_true, by_test}
+use Rattle.grammar.proofs.Laws.Small.{valid_small}
+use Rattle.grammar.proofs.Theorems.{Given, valid_given, readable_valid, limit_exact, token_count, decoded, refused_65}
 use Rattle.grammar.specs.declared.Written.TheVariants.{Tokens, Stopped, Refused}
 
 -- reading the statement's run at the limit stops with 62

@@ -8,7 +8,7 @@ use Rattle.tree.specs.Tree.{Forest, records}
 use Rattle.grammar.specs.Reading.Limit.{store_share}
 use Rattle.grammar.specs.Reading.Result.{ifb}
 use Rattle.grammar.specs.Reading.Next.{error_answer, Accepted, Called, bare, next_stmt}
-use Rattle.grammar.specs.Laws.Returned.{returned_accepted}
+use Rattle.grammar.proofs.Laws.Returned.{returned_accepted}
 use Rattle.grammar.specs.declared.Answer.{Answer}
 use Rattle.grammar.specs.declared.Answer.TheVariants.{Tree as ATree, Error as AError, End, Stopped, Refused}
 use Rattle.grammar.specs.declared.Reader.{Reader}

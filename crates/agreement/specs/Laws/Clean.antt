@@ -14,8 +14,8 @@ use Rattle.tree.specs.Records.{records_length}
 use Rattle.grammar.specs.Reading.Limit.{depth_limit, store_share}
 use Rattle.grammar.specs.Reading.Result.{Error, Res, ok, bad, fail, stop, ifb}
 use Rattle.grammar.specs.Reading.Next.{error_answer, error_kind, reader_at, Called, called, next_stmt, next}
-use Rattle.grammar.specs.Laws.Top.{bad_waits}
-use Rattle.grammar.specs.Promise.{Outcome, no_sheet, no_reader, stopped as was_stopped, waited, short, reads, outcome}
+use Rattle.grammar.proofs.Laws.Top.{bad_waits}
+use Rattle.grammar.proofs.Promise.{Outcome, no_sheet, no_reader, stopped as was_stopped, waited, short, reads, outcome}
 use Rattle.grammar.specs.declared.Answer.TheVariants.{Error as AError, End}
 use Rattle.grammar.specs.declared.Reader.{Reader}
 use Rattle.agreement.specs.Calls.{unread}

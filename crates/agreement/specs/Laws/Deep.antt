@@ -12,9 +12,9 @@ use Rattle.grammar.specs.Reading.Next.{called, next_stmt, next}
 use Rattle.grammar.specs.Canonical.Write.{own, run}
 use Rattle.grammar.specs.Canonical.Need.{need}
 use Rattle.grammar.specs.Canonical.Valid.{stmt, Valids, v_none, v_more}
-use Rattle.grammar.specs.Laws.Back.Steps.{reach}
-use Rattle.grammar.specs.Laws.Back.Snoc.{most_more}
-use Rattle.grammar.specs.Laws.Back.Depths.{Leads, here, behind, next_reads, run_length}
+use Rattle.grammar.proofs.Laws.Back.Steps.{reach}
+use Rattle.grammar.proofs.Laws.Back.Snoc.{most_more}
+use Rattle.grammar.proofs.Laws.Back.Depths.{Leads, here, behind, next_reads, run_length}
 use Rattle.grammar.specs.declared.Reader.{Reader}
 use Rattle.agreement.specs.Answers.{Seen, stopped, seen_of, Reads, last, then, Lacks62, lacks_more, Keeps}
 use Rattle.agreement.specs.Laws.Step.{Before, before_fresh, call_is, before_next}

@@ -10,9 +10,9 @@ use Rattle.tree.specs.Tree.{Tree}
 use Rattle.grammar.specs.Reading.Limit.{depth_limit}
 use Rattle.grammar.specs.Reading.Result.{Error, Res, ok, bad, fail, stop, ifb}
 use Rattle.grammar.specs.Reading.Next.{error_kind, error_answer, reader_at, Called, bare, called, answered, next_stmt}
-use Rattle.grammar.specs.Laws.Keep.{Keep, k_ok, k_bad, k_fail}
-use Rattle.grammar.specs.Laws.Taken.{Taken, Ended, next_takes}
-use Rattle.grammar.specs.Promise.{Going, Outcome, no_sheet, no_reader, stopped, waited, short, reads, outcome}
+use Rattle.grammar.proofs.Laws.Keep.{Keep, k_ok, k_bad, k_fail}
+use Rattle.grammar.proofs.Laws.Taken.{Taken, Ended, next_takes}
+use Rattle.grammar.proofs.Promise.{Going, Outcome, no_sheet, no_reader, stopped, waited, short, reads, outcome}
 use Rattle.grammar.specs.declared.Answer.TheVariants.{Error as AError, End}
 use Rattle.grammar.specs.declared.Reader.{Reader}
 use Rattle.agreement.specs.Calls.{unread, Does, takes_tree, takes_error, hands_over, ends, stops, refuses_reader, refuses_store}

@@ -8,10 +8,10 @@ use Rattle.tree.specs.Tree.{Tree}
 use Rattle.grammar.specs.Reading.Limit.{depth_limit, queue_limit}
 use Rattle.grammar.specs.Reading.Result.{Error, fail}
 use Rattle.grammar.specs.Reading.Next.{fresh, waiting_in, Accepted, Called, next_stmt}
-use Rattle.grammar.specs.Laws.Waits.{IsError, All, a_cons, Waits, waits_none, waits_front, n_fail}
-use Rattle.grammar.specs.Laws.Top.{Covers, Top, t_end, t_num, next_numbers}
-use Rattle.grammar.specs.Laws.Returned.{fresh_accepted, returned_accepted, returned_whole, returned_waits}
-use Rattle.grammar.specs.Promise.{ErrorCause, front_waits, reading_fails, said, answers_error}
+use Rattle.grammar.proofs.Laws.Waits.{IsError, All, a_cons, Waits, waits_none, waits_front, n_fail}
+use Rattle.grammar.proofs.Laws.Top.{Covers, Top, t_end, t_num, next_numbers}
+use Rattle.grammar.proofs.Laws.Returned.{fresh_accepted, returned_accepted, returned_whole, returned_waits}
+use Rattle.grammar.proofs.Promise.{ErrorCause, front_waits, reading_fails, said, answers_error}
 use Rattle.grammar.specs.declared.Reader.{Reader}
 use Rattle.agreement.specs.Calls.{Call, Gives, Run, no_call, a_call, unread}
 use Rattle.agreement.specs.Laws.Calls.{given_is}

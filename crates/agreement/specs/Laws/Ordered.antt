@@ -4,8 +4,8 @@ use Rattle.std.proofs.Common.{arith, eqb-true, leb-true, ltb-true}
 use Rattle.operator.specs.Operator.{number_level}
 use Rattle.tree.specs.Tree.{Tree, Forest}
 use Rattle.tree.specs.Node
-use Rattle.grammar.specs.Laws.Facts.{and_l, and_r}
-use Rattle.grammar.specs.Laws.Levels.Leveled.{tree_level, Leveled, AllLeveled, p_children, p_first, p_later, node_fits}
+use Rattle.grammar.proofs.Laws.Facts.{and_l, and_r}
+use Rattle.grammar.proofs.Laws.Levels.Leveled.{tree_level, Leveled, AllLeveled, p_children, p_first, p_later, node_fits}
 use Rattle.agreement.specs.Ordered.{In, InAny, itself, under, in_first, in_later, Ordered}
 
 -- each node of a leveled tree is leveled, with what stands under it

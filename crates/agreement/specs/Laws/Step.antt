@@ -6,10 +6,10 @@ use Rattle.tree.specs.Tree.{Tree}
 use Rattle.grammar.specs.Reading.Limit.{depth_limit, length_limit, store_share}
 use Rattle.grammar.specs.Reading.Result.{ok}
 use Rattle.grammar.specs.Reading.Next.{reader_at, fresh, Accepted, called, next_stmt, next}
-use Rattle.grammar.specs.Laws.Keep.{Keep, k_ok}
-use Rattle.grammar.specs.Laws.Progress.{next_keeps}
-use Rattle.grammar.specs.Laws.Returned.{fresh_accepted, returned_accepted}
-use Rattle.grammar.specs.Promise.{Going, reads, sole}
+use Rattle.grammar.proofs.Laws.Keep.{Keep, k_ok}
+use Rattle.grammar.proofs.Laws.Progress.{next_keeps}
+use Rattle.grammar.proofs.Laws.Returned.{fresh_accepted, returned_accepted}
+use Rattle.grammar.proofs.Promise.{Going, reads, sole}
 use Rattle.grammar.specs.declared.Reader.{Reader}
 use Rattle.agreement.specs.Calls.{unread}
 use Rattle.agreement.specs.Answers.{Roomy}

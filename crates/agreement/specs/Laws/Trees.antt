@@ -6,10 +6,10 @@ use Rattle.grammar.specs.Reading.Limit.{depth_limit}
 use Rattle.grammar.specs.Reading.Number
 use Rattle.grammar.specs.Reading.Result.{Error, Res, ifb}
 use Rattle.grammar.specs.Reading.Next.{waiting_in, error_kind, error_answer, Called, called, answered}
-use Rattle.grammar.specs.Laws.Keep.{Holds, k_ok, k_bad, k_fail, k_stop}
-use Rattle.grammar.specs.Laws.Levels.Leveled.{Leveled}
-use Rattle.grammar.specs.Laws.Levels.Nonterminals.{next_levels}
-use Rattle.grammar.specs.Promise.{Outcome, no_sheet, no_reader, stopped, waited, short, reads}
+use Rattle.grammar.proofs.Laws.Keep.{Holds, k_ok, k_bad, k_fail, k_stop}
+use Rattle.grammar.proofs.Laws.Levels.Leveled.{Leveled}
+use Rattle.grammar.proofs.Laws.Levels.Nonterminals.{next_levels}
+use Rattle.grammar.proofs.Promise.{Outcome, no_sheet, no_reader, stopped, waited, short, reads}
 use Rattle.grammar.specs.declared.Answer.TheVariants.{Error as AError, End}
 use Rattle.grammar.specs.declared.Reader.{Reader}
 use Rattle.agreement.specs.Calls.{unread}

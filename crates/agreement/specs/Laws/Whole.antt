@@ -13,9 +13,9 @@ use Rattle.grammar.specs.Canonical.Write.{own, run}
 use Rattle.grammar.specs.Canonical.Need.{need}
 use Rattle.grammar.specs.Canonical.Valid.{stmt, Valids}
 use Rattle.grammar.specs.Canonical.Writing.{clean_then, clean_from, clean_reading}
-use Rattle.grammar.specs.Laws.Keep.{Keep, k_ok}
-use Rattle.grammar.specs.Laws.Taken.{Taken, Ended, next_takes}
-use Rattle.grammar.specs.Theorems.{run_reads_back}
+use Rattle.grammar.proofs.Laws.Keep.{Keep, k_ok}
+use Rattle.grammar.proofs.Laws.Taken.{Taken, Ended, next_takes}
+use Rattle.grammar.proofs.Theorems.{run_reads_back}
 use Rattle.agreement.specs.Answers.{Seen, Afresh, NoFault, answers_of, trees_of}
 use Rattle.agreement.specs.Laws.Clean.{Clean, c_end, c_tree, faultless_before, faultless}
 

@@ -5,7 +5,7 @@ use Rattle.std.proofs.lemmas.Bool.{lt-leb}
 use Rattle.operator.specs.Below.{most_below}
 use Rattle.tree.specs.NodeKind
 use Rattle.tree.specs.Tree.{Tree, Forest, node, none, more}
-use Rattle.grammar.specs.Laws.Facts.{by_test, same_test, leb_max}
+use Rattle.grammar.proofs.Laws.Facts.{by_test, same_test, leb_max}
 use Rattle.tables.specs.Choice.{where_is}
 use Rattle.tables.specs.Form.{Own, place_of, base, first_deeper, second_deeper, deeper}
 use Rattle.tables.specs.Layout.{form_of, within, withins}

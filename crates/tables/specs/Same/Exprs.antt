@@ -9,7 +9,7 @@ use Rattle.tree.specs.Tree.{Tree, Forest, node, one, two, kind_of}
 use Rattle.tree.specs.Node
 use Rattle.grammar.specs.Canonical.Write.{Place, group_place, own, modified, targeted, commas, members, suite, branches, row, fun_gives, has_function, assignment_keyword}
 use Rattle.grammar.specs.Canonical.Need.{need}
-use Rattle.grammar.specs.Laws.Facts.{by_test, clash}
+use Rattle.grammar.proofs.Laws.Facts.{by_test, clash}
 use Rattle.tables.specs.Operators.{NoToken}
 use Rattle.tables.specs.Form as Form
 use Rattle.tables.specs.Form.{Fun}

@@ -9,8 +9,8 @@ use Rattle.tree.specs.Tree.{Tree, Forest, none, more, one, empty, count}
 use Rattle.tree.specs.Node
 use Rattle.grammar.specs.Canonical.Write.{Place, own, commas, members, suite, branches, row, W, Words, token, tokens_if, head_empty, after_commas, with_commas, as_suite, after_elif, as_row, write, writes}
 use Rattle.grammar.specs.Canonical.Need.{most, need, needs}
-use Rattle.grammar.specs.Laws.Facts.{by_test}
-use Rattle.grammar.specs.Laws.Back.Snoc.{most_more}
+use Rattle.grammar.proofs.Laws.Facts.{by_test}
+use Rattle.grammar.proofs.Laws.Back.Snoc.{most_more}
 use Rattle.tables.specs.Choice.{where_is}
 use Rattle.tables.specs.Operators.{NoToken}
 use Rattle.tables.specs.Form.{Own, Commas, Members, Suite, Branches, Row, Leading, first_place, second_place, place_of, first_deeper, second_deeper, deeper}

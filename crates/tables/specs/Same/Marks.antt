@@ -7,7 +7,7 @@ use native.Mathlib.Omega.{arith}
 use Rattle.std.proofs.Math.Dec.{eqb-suc-zero}
 use Rattle.operator.specs.Operator.{unary_token}
 use Rattle.grammar.specs.Canonical.Write.{token, name, label, keyword_of, keyword, named}
-use Rattle.grammar.specs.Laws.Facts.{by_test}
+use Rattle.grammar.proofs.Laws.Facts.{by_test}
 use Rattle.tables.specs.Choice.{where_zero}
 use Rattle.tables.specs.Operators.{NoToken}
 use Rattle.tables.specs.Layout.{emit}

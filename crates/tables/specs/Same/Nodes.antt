@@ -8,7 +8,7 @@ use Rattle.tree.specs.Tree.{Tree, node, none, one, two, three, kind_of}
 use Rattle.tree.specs.Maybe.{just}
 use Rattle.tree.specs.Node
 use Rattle.grammar.specs.Canonical.Write.{own, commas, members, suite, head_empty}
-use Rattle.grammar.specs.Laws.Facts.{by_test}
+use Rattle.grammar.proofs.Laws.Facts.{by_test}
 use Rattle.tables.specs.Children.{kind_in, count_in}
 use Rattle.tables.specs.Check.{signature_mode}
 use Rattle.tables.specs.Same.Agree.{Same, tables}

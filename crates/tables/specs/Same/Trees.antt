@@ -7,9 +7,9 @@ use Rattle.tree.specs.NodeKind
 use Rattle.grammar.specs.Canonical.Write.{Place, own, modified, write}
 use Rattle.grammar.specs.Canonical.Need.{need}
 use Rattle.grammar.specs.Canonical.Valid.{Role, atom, prim, tight, unary, binop, assign, plain, ex, given, function, item, field, table_item, param, branch, else_clause, jump, control, body, block, stmt, Valid, v_nil, v_empty_tuple, v_identifier, v_true, v_false, v_integer, v_float, v_string, v_group, v_modified, v_atom, v_primary, v_prim, v_unpack, v_ellipsis, v_table, v_function, v_target, v_if, v_block, v_labelled, v_tight, v_unary_op, v_unary, v_up, v_binary_op, v_assign, v_inner, v_single, v_tuple, v_local, v_plain, v_keyword, v_given, v_given_assign, v_given_target, v_function_def, v_function_default, v_function_variadic, v_attribute, v_index, v_invoke, v_invoke_table, v_field, v_field_index, v_table_item, v_param, v_branch, v_no_else, v_else, v_continue, v_break, v_break_value, v_break_label, v_return, v_return_value, v_no_control, v_control, v_body, v_block_plain, v_block_control, v_block_result, v_expression, v_loop, v_while, v_for, v_assert, v_none, v_more, no_argument, one_argument, arguments, p_identifier, p_attribute, p_index, p_tuple, p_pack, p_ellipsis, p_modifier, p_none, p_more, t_name, t_attribute, t_index}
-use Rattle.grammar.specs.Laws.Facts.{clash}
-use Rattle.grammar.specs.Laws.Back.Follow.{op_kind, unary_kind, assign_kind}
-use Rattle.grammar.specs.Laws.Roles.{has_target}
+use Rattle.grammar.proofs.Laws.Facts.{clash}
+use Rattle.grammar.proofs.Laws.Back.Follow.{op_kind, unary_kind, assign_kind}
+use Rattle.grammar.proofs.Laws.Roles.{has_target}
 use Rattle.tables.specs.Form.{Own}
 use Rattle.tables.specs.Operators.{NoToken}
 use Rattle.tables.specs.Layout.{text, within}

@@ -15,7 +15,7 @@ use Rattle.std.proofs.lemmas.Bool.{eqb-false}
 use Rattle.tree.specs.NodeKind
 use Rattle.tree.specs.Tree.{Tree, Forest, node, none, more, one, two, three, count}
 use Rattle.grammar.specs.Canonical.Valid.{stmt, Valid}
-use Rattle.grammar.specs.Laws.Facts.{clash, by_test, and_l, and_r}
+use Rattle.grammar.proofs.Laws.Facts.{clash, by_test, and_l, and_r}
 use Rattle.tables.specs.Class as Class
 use Rattle.tables.specs.Class.{class}
 use Rattle.tables.specs.Demand.{demand, fits, of_members}

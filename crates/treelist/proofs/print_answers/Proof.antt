@@ -4,7 +4,7 @@ use borrow.Author.Tests.{not-false}
 use mathlib.Core.Path.{◌≡◌, sym, ◌∙◌}
 use lib.ListN.{length}
 use Rattle.grammar.specs.Reading.Next.{Accepted}
-use Rattle.grammar.specs.Laws.Returned.{fresh_accepted}
+use Rattle.grammar.proofs.Laws.Returned.{fresh_accepted}
 use Rattle.agreement.specs.Corollaries.{left_over}
 use Rattle.tree.proofs.Known.{known}
 use Rattle.treelist.proofs.Calls.{held, nearer, accepted}

@@ -11,7 +11,7 @@ use Rattle.scan.proofs.Laws.{way, here, link, goes, done, undone, did_not, taken
 use Rattle.cycle.proofs.PathsPrimary.{unpack_looks, dots_looks, unpack_lone, unpack_some, dots_more, dots_none}
 use Rattle.cycle.proofs.Shapes.{given}
 use Rattle.cycle.proofs.Writing.{written, taller}
-use Rattle.grammar.specs.Laws.Levels.Nonterminals.{depth_levels, primary_leveled}
+use Rattle.grammar.proofs.Laws.Levels.Nonterminals.{depth_levels, primary_leveled}
 use Rattle.cycle.proofs.dots.Kinds as kinds
 use Rattle.cycle.proofs.dots.Reads as reads
 use Rattle.cycle.proofs.+arm_atom_begin_binop_block_body_call_catch_cond_def_dest_dots_each_expr_fun_group_index_item_jump_key_label_lhs_list_loops_param_part_path_prim_rhs_sig_stmt_sync_table_tail_term_tuple_turn_unop_val_whiles.Lts-dots as lts

@@ -5,7 +5,7 @@ use borrow.Fn.Kinds.{In, Out}
 use borrow.Author.Rules.{rules}
 use native.Mathlib.Omega.{arith}
 use lib.ListN.{take}
-use Rattle.grammar.specs.Laws.Levels.Nonterminals.{target_leveled, depth_levels}
+use Rattle.grammar.proofs.Laws.Levels.Nonterminals.{target_leveled, depth_levels}
 use Rattle.scan.proofs.Laws.{way, here, link, goes, done, undone, did_not, taken, not_taken, fails, fails_unseen, prefix, later}
 use Rattle.scan.proofs.Looking.{name_small}
 use Rattle.nodes.proofs.Made.{made_two}

@@ -10,7 +10,7 @@ use Rattle.cycle.proofs.PathsStmt.{ended_text, modified_text, lvalue_step}
 use Rattle.cycle.proofs.Shapes.{given}
 use Rattle.cycle.proofs.Writing.{stored, unstored, stored_up, stands}
 use Rattle.grammar.specs.Reading.Pattern.{modified}
-use Rattle.grammar.specs.Laws.Levels.Nonterminals.{tuple_leveled, depth_levels}
+use Rattle.grammar.proofs.Laws.Levels.Nonterminals.{tuple_leveled, depth_levels}
 use Rattle.cycle.proofs.lhs.Kinds as kinds
 use Rattle.cycle.proofs.lhs.Reads as reads
 use Rattle.cycle.proofs.+arm_atom_begin_binop_block_body_call_catch_cond_def_dest_dots_each_expr_fun_group_index_item_jump_key_label_lhs_list_loops_param_part_path_prim_rhs_sig_stmt_sync_table_tail_term_tuple_turn_unop_val_whiles.Lts-lhs as lts

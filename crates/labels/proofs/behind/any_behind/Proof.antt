@@ -8,7 +8,7 @@ use lib.Dec.{eqb}
 use lib.ListN.{length, get_or, drop}
 use borrow.Author.Rules.{rules}
 use borrow.Author.Tests.{ne_eqb, eqb-false}
-use Rattle.grammar.specs.Laws.Facts.{by_test}
+use Rattle.grammar.proofs.Laws.Facts.{by_test}
 use Rattle.tables.specs.Choice.{if◌then◌else◌}
 use Rattle.labels.specs.Offences.{any_serves, inside}
 use Rattle.labels.specs.Behind.{enclosing, Next}

@@ -12,7 +12,7 @@ use Rattle.tree.specs.Tree.{Tree}
 use Rattle.tree.specs.Rows.{rows, Trees, Starts}
 use Rattle.tree.specs.Maybe.{Maybe}
 use Rattle.grammar.specs.Reading.Pattern.{to_pattern, conv, pattern}
-use Rattle.grammar.specs.Laws.Facts.{by_test}
+use Rattle.grammar.proofs.Laws.Facts.{by_test}
 use Rattle.pattern.specs.Contract.{Is, Whole}
 use Rattle.tree.proofs.Known.{known}
 use Rattle.pattern.proofs.Decided.{decided_no}

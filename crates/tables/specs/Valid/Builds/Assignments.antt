@@ -15,8 +15,8 @@ use Rattle.tree.specs.Maybe.{just}
 use Rattle.grammar.specs.Reading.Function.{target_name}
 use Rattle.grammar.specs.Canonical.Write.{Place, own, modified, is_target, function_named, has_function, fun_gives}
 use Rattle.grammar.specs.Canonical.Valid.{assign, ex, given, function, Valid, Pattern, Target, v_function, v_target, v_assign, v_local, v_keyword, v_given, v_given_assign, v_given_target, v_group, v_modified}
-use Rattle.grammar.specs.Laws.Facts.{clash, by_test, and_l, and_r}
-use Rattle.grammar.specs.Laws.Views.{target_of, Fun, fun_of}
+use Rattle.grammar.proofs.Laws.Facts.{clash, by_test, and_l, and_r}
+use Rattle.grammar.proofs.Laws.Views.{target_of, Fun, fun_of}
 use Rattle.tables.specs.Choice.{where_zero, where_is}
 use Rattle.tables.specs.Class as Class
 use Rattle.tables.specs.Class.{keyword_class, named_class, assignment_class}

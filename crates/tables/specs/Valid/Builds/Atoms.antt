@@ -6,8 +6,8 @@ use Rattle.tree.specs.NodeKind
 use Rattle.tree.specs.Tree.{Tree, Forest, node, none, more, one}
 use Rattle.tree.specs.Node
 use Rattle.grammar.specs.Canonical.Valid.{item, table_item, Valid, Pattern, Patterns, v_nil, v_empty_tuple, v_identifier, v_true, v_false, v_integer, v_float, v_string, v_single, v_plain, v_attribute, v_index, v_invoke, v_invoke_table, no_argument, one_argument, arguments, p_identifier, p_attribute, p_index, p_tuple, p_pack, p_ellipsis, p_modifier, p_none, p_more}
-use Rattle.grammar.specs.Laws.Facts.{clash, by_test}
-use Rattle.grammar.specs.Laws.Views.{arguments_sound}
+use Rattle.grammar.proofs.Laws.Facts.{clash, by_test}
+use Rattle.grammar.proofs.Laws.Views.{arguments_sound}
 use Rattle.tables.specs.Class as Class
 use Rattle.tables.specs.Demand as Demand
 use Rattle.tables.specs.Check.{class_of}

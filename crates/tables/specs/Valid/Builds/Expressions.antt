@@ -10,7 +10,7 @@ use Rattle.tree.specs.Tree.{Tree, node, none, more, one, two, count}
 use Rattle.tree.specs.Node
 use Rattle.tree.specs.Maybe.{just}
 use Rattle.grammar.specs.Canonical.Valid.{atom, tight, unary, binop, plain, function, item, table_item, branch, block, Valid, v_unpack, v_table, v_function, v_if, v_block, v_labelled, v_unary_op, v_binary_op, v_single, v_tuple, v_none, v_more}
-use Rattle.grammar.specs.Laws.Facts.{clash, by_test}
+use Rattle.grammar.proofs.Laws.Facts.{clash, by_test}
 use Rattle.tables.specs.Choice.{where_zero}
 use Rattle.tables.specs.Operators.{Levels, LastBinary, level, binary_of, level_range}
 use Rattle.tables.specs.Class as Class

@@ -4,7 +4,7 @@ use Rattle.std.proofs.Common.{arith, eqb-true, ne_eqb, leb-true, leb-false, le-l
 use Rattle.std.proofs.lemmas.Bool.{eqb-false, lt-leb}
 use Rattle.tree.specs.Tree.{Tree, Forest, none, more, count}
 use Rattle.tree.specs.Node
-use Rattle.grammar.specs.Laws.Facts.{by_test}
+use Rattle.grammar.proofs.Laws.Facts.{by_test}
 use Rattle.tables.specs.Operators.{Levels}
 use Rattle.tables.specs.Class as Class
 use Rattle.tables.specs.Class.{list_class, plain_list, default_list, argument_list}

@@ -7,7 +7,7 @@ use Rattle.tree.specs.Tree.{Tree, node, three, count}
 use Rattle.tree.specs.Node
 use Rattle.tree.specs.Maybe.{just}
 use Rattle.grammar.specs.Canonical.Valid.{param, block, stmt, Valid, IsNamed, read_only, read_write, v_function_def, v_function_default, v_function_variadic, v_field, v_field_index, v_table_item, v_param, v_branch, v_block_plain, v_block_control, v_block_result}
-use Rattle.grammar.specs.Laws.Facts.{clash, by_test}
+use Rattle.grammar.proofs.Laws.Facts.{clash, by_test}
 use Rattle.tables.specs.Choice.{where_zero}
 use Rattle.tables.specs.Operators.{Levels}
 use Rattle.tables.specs.Class as Class

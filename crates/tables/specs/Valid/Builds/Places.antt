@@ -8,7 +8,7 @@ use Rattle.tree.specs.Node
 use Rattle.tree.specs.Maybe.{just}
 use Rattle.grammar.specs.Reading.Stmt.{lone_ellipsis}
 use Rattle.grammar.specs.Canonical.Valid.{Role, atom, unary, binop, plain, ex, item, table_item, param, else_clause, control, body, stmt, Valid, Valids, IsName, v_none, v_more, v_no_else, v_else, v_no_control, v_control, v_body, v_expression}
-use Rattle.grammar.specs.Laws.Facts.{clash, by_test, not_true}
+use Rattle.grammar.proofs.Laws.Facts.{clash, by_test, not_true}
 use Rattle.tables.specs.Operators.{Levels}
 use Rattle.tables.specs.Class as Class
 use Rattle.tables.specs.Class.{class}

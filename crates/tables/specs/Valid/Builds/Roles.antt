@@ -4,7 +4,7 @@ use Rattle.std.proofs.Common.{subst, arith, eqb-true}
 use Rattle.std.proofs.lemmas.Bool.{eqb-false}
 use Rattle.tree.specs.Tree.{Tree}
 use Rattle.grammar.specs.Canonical.Valid.{atom, prim, tight, unary, binop, plain, ex, Valid, v_atom, v_primary, v_prim, v_ellipsis, v_tight, v_unary, v_up, v_inner, v_plain, v_more}
-use Rattle.grammar.specs.Laws.Facts.{by_test}
+use Rattle.grammar.proofs.Laws.Facts.{by_test}
 use Rattle.tables.specs.Operators.{Levels}
 use Rattle.tables.specs.Class as Class
 use Rattle.tables.specs.Valid.Builds.Classes.{Begins, Ends, Tight, as_lone, as_path, as_atom, as_tight, Expression, bound, as_unary, as_binary, as_plain, as_any, Receiver, receiver}

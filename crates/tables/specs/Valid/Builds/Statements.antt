@@ -8,7 +8,7 @@ use Rattle.tree.specs.Maybe.{just}
 use Rattle.grammar.specs.Reading.Result.{ifb}
 use Rattle.grammar.specs.Reading.Block.{whole, split, split_before, split_last, split_kids}
 use Rattle.grammar.specs.Canonical.Valid.{jump, control, stmt, Valid, IsLabel, no_label, a_label, v_continue, v_break, v_break_value, v_break_label, v_return, v_return_value, v_no_control, v_control, v_loop, v_while, v_for, v_assert}
-use Rattle.grammar.specs.Laws.Facts.{clash, by_test}
+use Rattle.grammar.proofs.Laws.Facts.{clash, by_test}
 use Rattle.tables.specs.Class as Class
 use Rattle.tables.specs.Class.{body_class}
 use Rattle.tables.specs.Demand as Demand

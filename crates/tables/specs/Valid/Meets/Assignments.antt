@@ -11,7 +11,7 @@ use Rattle.operator.specs.Operator.{assign_code}
 use Rattle.grammar.specs.Reading.Function.{target_name}
 use Rattle.grammar.specs.Canonical.Write.{Place, is_target, function_named, has_function}
 use Rattle.grammar.specs.Canonical.Valid.{Valid, assign, v_assign}
-use Rattle.grammar.specs.Laws.Facts.{clash, and_l, and_r, by_test}
+use Rattle.grammar.proofs.Laws.Facts.{clash, and_l, and_r, by_test}
 use Rattle.tables.specs.Choice.{where_zero, where_is}
 use Rattle.tables.specs.Class as Class
 use Rattle.tables.specs.Class.{keyword_class, named_class, assignment_class, class}

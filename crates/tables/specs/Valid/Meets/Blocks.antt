@@ -7,7 +7,7 @@ use Rattle.std.proofs.lemmas.Bool.{not-true}
 use Rattle.tree.specs.NodeKind
 use Rattle.tree.specs.Tree.{Tree, Forest, more, two, count, kind_of}
 use Rattle.tree.specs.Node
-use Rattle.grammar.specs.Laws.Facts.{and_l, and_r}
+use Rattle.grammar.proofs.Laws.Facts.{and_l, and_r}
 use Rattle.grammar.specs.Reading.Result.{ifb}
 use Rattle.grammar.specs.Reading.Block.{Split, whole, result, split_before, split_kids, split_last, split}
 use Rattle.grammar.specs.Canonical.Valid.{Valids, stmt, v_none, v_more, v_expression, v_loop, v_while, v_for, v_assert}

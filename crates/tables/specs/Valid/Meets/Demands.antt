@@ -1,7 +1,7 @@
 -- Laws of demands: when a class that meets one meets another. Assumes nothing.
 use Rattle.std.specs.Prelude.{◌≡◌, refl, Bool, true, false, cond, ◌&&◌, ◌||◌, ℕ, ◌/◌, ◌%◌, ◌≤◌, eqb, ltb, leb}
 use Rattle.std.proofs.Common.{arith, eqb-true, leb-true, ltb-false, eq-eqb, le-leb, le-ltb}
-use Rattle.grammar.specs.Laws.Facts.{clash, and_l, and_r, by_test, or_true}
+use Rattle.grammar.proofs.Laws.Facts.{clash, and_l, and_r, by_test, or_true}
 use Rattle.tables.specs.Demand.{fits}
 
 -- a row of a table, by both its sides

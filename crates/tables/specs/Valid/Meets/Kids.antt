@@ -4,7 +4,7 @@ use Rattle.std.proofs.Common.{arith, ltb-true, le-ltb}
 use Rattle.std.proofs.lemmas.Bool.{not-true}
 use Rattle.tree.specs.NodeKind
 use Rattle.tree.specs.Tree.{Tree, node, none, one, two, three, count}
-use Rattle.grammar.specs.Laws.Facts.{and_l, and_r}
+use Rattle.grammar.proofs.Laws.Facts.{and_l, and_r}
 use Rattle.grammar.specs.Canonical.Valid.{IsName, IsLabel, no_label, a_label, IsNamed, read_only, read_write}
 use Rattle.tables.specs.Demand.{demand, fits}
 use Rattle.tables.specs.Sound.{Name, Label, Named, exceeds, arity, sound}

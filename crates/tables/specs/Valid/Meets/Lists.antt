@@ -9,7 +9,7 @@ use Rattle.tree.specs.Tree.{Tree, Forest, node, none, more, count, kind_of}
 use Rattle.tree.specs.Node
 use Rattle.tree.specs.Maybe.{just}
 use Rattle.grammar.specs.Canonical.Valid.{item, table_item, param, branch, stmt}
-use Rattle.grammar.specs.Laws.Facts.{by_test}
+use Rattle.grammar.proofs.Laws.Facts.{by_test}
 use Rattle.tables.specs.Class as Class
 use Rattle.tables.specs.Class.{class, default_list, plain_list, argument_list, list_class}
 use Rattle.tables.specs.Demand as Demand

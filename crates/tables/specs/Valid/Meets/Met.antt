@@ -4,7 +4,7 @@ use Rattle.std.proofs.Common.{arith}
 use borrow.Author.Tests.{eqb-false, not-true}
 use Rattle.tree.specs.NodeKind
 use Rattle.tree.specs.Tree.{Tree, node, none, more, kind_of}
-use Rattle.grammar.specs.Laws.Facts.{clash, and_l, and_r, by_test}
+use Rattle.grammar.proofs.Laws.Facts.{clash, and_l, and_r, by_test}
 use Rattle.grammar.specs.Reading.Stmt.{lone_ellipsis}
 use Rattle.tables.specs.Class as Class
 use Rattle.tables.specs.Demand.{demand, fits}

@@ -6,7 +6,7 @@ use Rattle.tree.specs.NodeKind
 use Rattle.tree.specs.Tree.{Tree, node, kind_of}
 use Rattle.tree.specs.Node
 use Rattle.grammar.specs.Reading.Stmt.{lone_ellipsis}
-use Rattle.grammar.specs.Laws.Facts.{clash, by_test}
+use Rattle.grammar.proofs.Laws.Facts.{clash, by_test}
 use Rattle.tables.specs.Class as Class
 use Rattle.tables.specs.Class.{class}
 use Rattle.tables.specs.Demand as Demand

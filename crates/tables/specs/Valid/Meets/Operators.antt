@@ -6,7 +6,7 @@ use Rattle.tree.specs.Tree.{Tree}
 use Rattle.tree.specs.Node
 use Rattle.operator.specs.Operator.{op_level, op_number, unary_code, assign_code, which_unary_op, which_binary_op, which_assignment_op}
 use Rattle.operator.specs.Below.{equal_below, most_below}
-use Rattle.grammar.specs.Laws.Back.Follow.{op_kind, unary_kind, assign_kind}
+use Rattle.grammar.proofs.Laws.Back.Follow.{op_kind, unary_kind, assign_kind}
 use Rattle.tables.specs.Operators.{Levels, LastBinary, binary_of, level}
 use Rattle.tables.specs.Class as Class
 use Rattle.tables.specs.Class.{binary_class, class}
