@@ -5,3 +5,4 @@ pub mod Looking
 pub mod Start
 pub mod Text
 pub mod Waiting
+pub mod Variants

@@ -1,4 +1,6 @@
 // How a reading ends, and what looks at the tokens and at the errors that wait.
+#![tactic(auto)]
+
 ghost use Rattle.std.specs.Prelude.{◌≡◌};
 ghost use Rattle.scan.specs.Parts.{closed_step, resumed_step};
 

@@ -1,0 +1,26 @@
+-- A step that is not of one variant is of another, by the variants' places. Assumes nothing.
+use mathlib.Core.Path.{◌≡◌, refl}
+use mathlib.Core.Logic.{inl, inr}
+use mathlib.Core.List.{[], ◌∷◌}
+use Prim.Native.Nat.{ℕ}
+use types.Run.{OneOf}
+use denote.Enum.Declared.{tag_of}
+use Rattle.scan.specs.declared.Failure.{Failure}
+use Rattle.scan.specs.declared.Step.{Step}
+use Rattle.scan.specs.declared.Step.TheVariants.{Done, Fail, Stop}
+use Rattle.scan.specs.contracts.Step.{the_type}
+
+pub not_done : {r : Step} → ((p a w : ℕ) → r ≡ Done p a w → ⊥) → OneOf (1 ∷ 2 ∷ []) (tag_of the_type r)
+not_done {r = Done p a w} n = absurd (n p a w refl)
+not_done {r = Fail f} n = inl refl
+not_done {r = Stop k} n = inr refl
+
+pub not_fail : {r : Step} → ((f : Failure) → r ≡ Fail f → ⊥) → OneOf (0 ∷ 2 ∷ []) (tag_of the_type r)
+not_fail {r = Done p a w} n = inl refl
+not_fail {r = Fail f} n = absurd (n f refl)
+not_fail {r = Stop k} n = inr refl
+
+pub only_stop : {r : Step} → ((p a w : ℕ) → r ≡ Done p a w → ⊥) → ((f : Failure) → r ≡ Fail f → ⊥) → OneOf (2 ∷ []) (tag_of the_type r)
+only_stop {r = Done p a w} m n = absurd (m p a w refl)
+only_stop {r = Fail f} m n = absurd (n f refl)
+only_stop {r = Stop k} m n = refl
