@@ -39,6 +39,13 @@ is_last (stopped n) = true
 is_last (refused n) = false
 is_last end = true
 
+abbrev pub is_refused : Answer → Bool
+is_refused (ATree n) = false
+is_refused (AError k) = false
+is_refused End = false
+is_refused (Stopped n) = false
+is_refused (Refused n) = true
+
 -- the answers of the definition's calls on the sheet T from a reader on, to the first end or stop and with it, each with a store that is large enough
 pub data Reads (T : List ℕ) : Reader → List Seen → Type 0 where
   last : {R : Reader} {a : Seen} (m : ℕ) → Roomy T R m → seen_of (next_stmt R T m) ≡ a → is_last a ≡ true → Reads T R (a ∷ [])

@@ -3,9 +3,6 @@ pub mod Answers
 pub mod Statement
 pub mod Ordered
 pub mod Trees
-pub mod Laws
-pub mod Theorem
 pub mod Corollaries
 pub mod Never
 pub mod Levels
-pub mod Examples

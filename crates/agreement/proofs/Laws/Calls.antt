@@ -13,10 +13,10 @@ use Rattle.grammar.specs.declared.Answer.{Answer}
 use Rattle.grammar.specs.declared.Answer.TheVariants.{Tree as ATree, Error as AError, End, Stopped, Refused}
 use Rattle.grammar.specs.declared.Reader.{Reader}
 use Rattle.agreement.specs.Calls.{Entry, by_value, kept, Call, Gives, Run, no_call, a_call, defined, Does, takes_tree, takes_error, hands_over, ends, stops, refuses_reader, refuses_store}
-use Rattle.agreement.specs.Answers.{Seen, tree, Roomy, seen_of, Remaining, ended, answered, passed, answers_of}
-use Rattle.agreement.specs.Laws.Does.{does}
-use Rattle.agreement.specs.Laws.Step.{Before, before_next}
-use Rattle.agreement.specs.Laws.Clean.{Clean, c_end, c_tree, seen_tree, step_is}
+use Rattle.agreement.specs.Answers.{Seen, tree, Roomy, seen_of, is_refused, Remaining, ended, answered, passed, answers_of}
+use Rattle.agreement.proofs.Laws.Does.{does}
+use Rattle.agreement.proofs.Laws.Step.{Before, before_next}
+use Rattle.agreement.proofs.Laws.Clean.{Clean, c_end, c_tree, seen_tree, step_is}
 
 -- either entry gives what the definition gives
 pub given_is : (entry : Entry) (R : Reader) (T S : List ℕ) (g : Called) → Gives entry R T S g → g ≡ next_stmt R T (length S)
@@ -35,14 +35,7 @@ run_is {T} {R} (a_call {c = c} {cs = cs} {g = g} h r) = run_is r ∙ ap (λ g. d
 pub defined_accepted : {T : List ℕ} {R : Reader} (cs : List Call) → Accepted T R → Accepted T (defined T R cs)
 unfolding defined
 defined_accepted [] a = a
-defined_accepted {T} {R} (c ∷ cs) a = defined_accepted cs (returned_accepted R T (length c.store) a)
-
-abbrev pub is_refused : Answer → Bool
-is_refused (ATree n) = false
-is_refused (AError k) = false
-is_refused End = false
-is_refused (Stopped n) = false
-is_refused (Refused n) = true
+defined_accepted {T} {R} (c ∷ cs) a = defined_accepted {R = (next_stmt R T (length c.store)).step.reader} cs (returned_accepted R T (length c.store) a)
 
 tree_no_end : {n : ℕ} {P : Type 0} → ATree n ≡ End → P
 tree_no_end e = absurd (let z : ◌≡◌ {A = ℕ} 0 1 = cc in omega arith)
@@ -87,7 +80,7 @@ module _ {T : List ℕ} where
   remains_only {R = R} (answered i S g {xs = ys} h k z r) (c_tree {r = w} {t = t} {f = f} e c) b =
       let s = given_is i R T S g k ∙ step_is (length S) b h e in
       let x : seen_of g ≡ tree (records t) = ap seen_of s ∙ seen_tree (length S) t in
-      let y : ys ≡ answers_of f = remains_only r c (subst (λ c. Before T c.step.reader w) (sym s) (before_next b e)) in
+      let y : ys ≡ answers_of f = remains_only {ts = w} r c (subst (λ c. Before T c.step.reader w) (sym s) (before_next b e)) in
       cc
   remains_only {ts = ts} {R = R} (passed i S g k z r) c b =
       remains_only r c (subst (λ c. Before T c.step.reader ts) (sym (refused_same (given_does i R T S g k) (ap is_refused z))) b)

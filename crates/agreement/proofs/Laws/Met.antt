@@ -8,13 +8,13 @@ use Rattle.tree.specs.Tree.{Tree}
 use Rattle.grammar.specs.Reading.Limit.{depth_limit, queue_limit}
 use Rattle.grammar.specs.Reading.Result.{Error, fail}
 use Rattle.grammar.specs.Reading.Next.{fresh, waiting_in, Accepted, Called, next_stmt}
-use Rattle.grammar.proofs.Laws.Waits.{IsError, All, a_cons, Waits, waits_none, waits_front, n_fail}
+use Rattle.grammar.proofs.Laws.Waits.{IsError, All, a_nil, a_cons, Waits, waits_none, waits_front, n_fail}
 use Rattle.grammar.proofs.Laws.Top.{Covers, Top, t_end, t_num, next_numbers}
 use Rattle.grammar.proofs.Laws.Returned.{fresh_accepted, returned_accepted, returned_whole, returned_waits}
 use Rattle.grammar.proofs.Promise.{ErrorCause, front_waits, reading_fails, said, answers_error}
 use Rattle.grammar.specs.declared.Reader.{Reader}
 use Rattle.agreement.specs.Calls.{Call, Gives, Run, no_call, a_call, unread}
-use Rattle.agreement.specs.Laws.Calls.{given_is}
+use Rattle.agreement.proofs.Laws.Calls.{given_is}
 
 -- a reader that 61 does not refuse, with 96 places for errors, in which only errors J wait
 pub record Only (J : Error → Type 0) (T : List ℕ) (R : Reader) : Type 0 where
@@ -27,6 +27,7 @@ only_fresh T = record { accepted = fresh_accepted T; whole = refl; waits = waits
 
 -- what waits is J
 pub one_of : {J : Error → Type 0} {q : List Error} {e : Error} → All J q → Memᴰ e q → J e
+one_of a_nil m = absurd (Memᴰ.not-nil m)
 one_of {J} (a_cons j a) (Memᴰ.head x) = subst J (sym x) j
 one_of (a_cons j a) (Memᴰ.tail m) = one_of a m
 

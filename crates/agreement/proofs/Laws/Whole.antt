@@ -17,7 +17,7 @@ use Rattle.grammar.proofs.Laws.Keep.{Keep, k_ok}
 use Rattle.grammar.proofs.Laws.Taken.{Taken, Ended, next_takes}
 use Rattle.grammar.proofs.Theorems.{run_reads_back}
 use Rattle.agreement.specs.Answers.{Seen, Afresh, NoFault, answers_of, trees_of}
-use Rattle.agreement.specs.Laws.Clean.{Clean, c_end, c_tree, faultless_before, faultless}
+use Rattle.agreement.proofs.Laws.Clean.{Clean, c_end, c_tree, faultless_before, faultless}
 
 -- a clean statement takes a token
 takes : (ts : List ℕ) {t : Tree} {r : List ℕ} → next depth_limit [] ts ≡ ok t r → length r + 2 ≤ length ts

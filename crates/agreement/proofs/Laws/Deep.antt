@@ -17,8 +17,8 @@ use Rattle.grammar.proofs.Laws.Back.Snoc.{most_more}
 use Rattle.grammar.proofs.Laws.Back.Depths.{Leads, here, behind, next_reads, run_length}
 use Rattle.grammar.specs.declared.Reader.{Reader}
 use Rattle.agreement.specs.Answers.{Seen, stopped, seen_of, Reads, last, then, Lacks62, lacks_more, Keeps}
-use Rattle.agreement.specs.Laws.Step.{Before, before_fresh, call_is, before_next}
-use Rattle.agreement.specs.Laws.Clean.{seen_tree}
+use Rattle.agreement.proofs.Laws.Step.{Before, before_fresh, call_is, before_next}
+use Rattle.agreement.proofs.Laws.Clean.{seen_tree}
 
 -- a reading with 62 among its answers
 record Stops (T : List ℕ) (R : Reader) : Type 0 where

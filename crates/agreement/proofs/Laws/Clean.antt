@@ -20,7 +20,7 @@ use Rattle.grammar.specs.declared.Answer.TheVariants.{Error as AError, End}
 use Rattle.grammar.specs.declared.Reader.{Reader}
 use Rattle.agreement.specs.Calls.{unread}
 use Rattle.agreement.specs.Answers.{Seen, tree, error, stopped, refused, end, seen, Roomy, seen_of, is_last, Reads, last, then, NoFault, no_answer, a_tree, an_end, answers_of}
-use Rattle.agreement.specs.Laws.Step.{Before, call_is, before_next}
+use Rattle.agreement.proofs.Laws.Step.{Before, call_is, before_next}
 
 -- the words ts read cleanly to these trees
 pub data Clean : List ℕ → Forest → Type 0 where
@@ -123,7 +123,7 @@ module _ {T : List ℕ} where
   faultless (last m h i l) (a_tree g) b = absurd (true≢false (sym l))
   faultless (then m h i l n) (an_end g) b = absurd (true≢false l)
   faultless {ts} {R} (then {xs = ys} m h i l n) (a_tree {ws = ws} g) b =
-      step (told m b h i) λ t r e. faultless (subst (λ x. Reads T x.step.reader ys) (step_is m b h e) n) g (before_next b e)
+      step (told m b h i) λ t r e. faultless {ts = r} (subst (λ x. Reads T x.step.reader ys) (step_is m b h e) n) g (before_next b e)
     where
       not_bad : {t : Tree} {q : List Error} {r : List ℕ} → next depth_limit [] ts ≡ bad t q r → ⊥
       not_bad {q = q} e = omega (arith, bad_waits depth_limit ts e, (faultless_before _ q (subst (λ c. Reads T c.step.reader ys) (step_is m b h e) n) g).none_waits)

@@ -26,11 +26,11 @@ use Rattle.grammar.specs.declared.Reader.{Reader}
 use Rattle.agreement.specs.Calls.{Entry, by_value, kept, Call, Gives, Run, no_call, a_call, defined, NonePending, unread}
 use Rattle.agreement.specs.Answers.{Seen, tree, end, Afresh, Remaining, NoFault, no_answer, a_tree, an_end, answers_of, Lacks62, lacks_none, lacks_more}
 use Rattle.agreement.specs.Statement.{Left}
-use Rattle.agreement.specs.Theorem.{two_sheets}
-use Rattle.agreement.specs.Laws.Step.{before_fresh}
-use Rattle.agreement.specs.Laws.Clean.{clean_reads, clean_only, faultless}
-use Rattle.agreement.specs.Laws.Whole.{clean_is, clean_of, run_clean}
-use Rattle.agreement.specs.Laws.Calls.{given_is}
+use Rattle.agreement.proofs.Theorem.{two_sheets}
+use Rattle.agreement.proofs.Laws.Step.{before_fresh}
+use Rattle.agreement.proofs.Laws.Clean.{clean_reads, clean_only, faultless}
+use Rattle.agreement.proofs.Laws.Whole.{clean_is, clean_of, run_clean}
+use Rattle.agreement.proofs.Laws.Calls.{given_is}
 
 -- the definition's own calls are a run of the entries
 gives_own : (entry : Entry) (R : Reader) (T S : List ℕ) → Gives entry R T S (next_stmt R T (length S))

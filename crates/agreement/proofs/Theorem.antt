@@ -18,12 +18,12 @@ use Rattle.grammar.specs.declared.Reader.{Reader}
 use Rattle.agreement.specs.Calls.{defined, unread}
 use Rattle.agreement.specs.Answers.{Seen, Reads, Afresh, Remaining, answers_of, trees_of, canonical}
 use Rattle.agreement.specs.Statement.{Left, part, Agree, TwoSheets}
-use Rattle.agreement.specs.Laws.Step.{Before, before_fresh}
-use Rattle.agreement.specs.Laws.Clean.{Clean, clean_reads, clean_only, faultless_before}
-use Rattle.agreement.specs.Laws.Whole.{clean_of, faultless_trees, run_clean}
-use Rattle.agreement.specs.Laws.Deep.{shallow_enough}
-use Rattle.agreement.specs.Laws.Calls.{run_is, defined_accepted, clean_remains, remains_only}
-use Rattle.agreement.specs.Laws.Writer.{rewritten}
+use Rattle.agreement.proofs.Laws.Step.{Before, before_fresh}
+use Rattle.agreement.proofs.Laws.Clean.{Clean, clean_reads, clean_only, faultless_before}
+use Rattle.agreement.proofs.Laws.Whole.{clean_of, faultless_trees, run_clean}
+use Rattle.agreement.proofs.Laws.Deep.{shallow_enough}
+use Rattle.agreement.proofs.Laws.Calls.{run_is, defined_accepted, clean_remains, remains_only}
+use Rattle.agreement.proofs.Laws.Writer.{rewritten}
 
 -- what is known of one sheet
 record Known (s : Left) : Type 0 where
