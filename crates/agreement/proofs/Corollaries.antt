@@ -3,7 +3,7 @@
 -- of calls that is stated (`bounded`, `comes`); a call on a stopped reader answers its number again and leaves the reader as it was, and no call makes a stopped reader
 -- go on (`stopped_again`, `stays_stopped`); a call that is refused changes nothing but the store, which is zero (`refused_changes_nothing`); and what C links is the call
 -- on the kept reader, and the writer, with the answer as two numbers (`exported_reads`, `exported_writes`). Assumes nothing.
-use Rattle.std.specs.Prelude.{◌≡◌, refl, ◌≢◌, ◌↔◌, true, false, List, ℕ, zero, suc, ◌+◌, ◌*◌, ◌-◌, ◌/◌, ◌≤◌, ◌<◌, length, replicate}
+use Rattle.std.specs.Prelude.{◌≡◌, refl, ◌≢◌, ◌↔◌, List, ℕ, zero, suc, ◌*◌, ◌-◌, ◌/◌, ◌≤◌, ◌<◌, length}
 use Rattle.std.proofs.Common.{sym, ap, ◌∙◌, true≢false, arith, length-take}
 use Rattle.std.proofs.lemmas.Bool.{false≢true}
 use Rattle.grammar.specs.Reading.Limit.{store_share, bad_reader}

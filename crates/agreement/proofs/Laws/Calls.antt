@@ -1,5 +1,5 @@
 -- Calls of the entries are the definition's: the readers that a list of calls leaves, and the remaining answers on a sheet. Assumes nothing.
-use Rattle.std.specs.Prelude.{◌≡◌, Bool, true, false, List, [], ◌∷◌, ℕ, ◌-◌, ◌*◌, ◌/◌, length, replicate}
+use Rattle.std.specs.Prelude.{◌≡◌, true, List, [], ◌∷◌, ℕ, ◌-◌, ◌*◌, ◌/◌, length, replicate}
 use Rattle.std.proofs.Math.Path.{refl, ap, subst}
 use Rattle.std.proofs.Common.{sym, ◌∙◌, arith}
 use Rattle.std.proofs.lemmas.Bool.{false≢true}
@@ -9,8 +9,7 @@ use Rattle.grammar.specs.Reading.Limit.{store_share}
 use Rattle.grammar.specs.Reading.Result.{ifb}
 use Rattle.grammar.specs.Reading.Next.{error_answer, Accepted, Called, bare, next_stmt}
 use Rattle.grammar.proofs.Laws.Returned.{returned_accepted}
-use Rattle.grammar.specs.declared.Answer.{Answer}
-use Rattle.grammar.specs.declared.Answer.TheVariants.{Tree as ATree, Error as AError, End, Stopped, Refused}
+use Rattle.grammar.specs.declared.Answer.TheVariants.{Tree as ATree, End}
 use Rattle.grammar.specs.declared.Reader.{Reader}
 use Rattle.agreement.specs.Calls.{Entry, by_value, kept, Call, Gives, Run, no_call, a_call, defined, Does, takes_tree, takes_error, hands_over, ends, stops, refuses_reader, refuses_store}
 use Rattle.agreement.specs.Answers.{Seen, tree, Roomy, seen_of, is_refused, Remaining, ended, answered, passed, answers_of}
