@@ -1,4 +1,6 @@
 // What ends trees in the store, and what is read into it without recursion.
+#![tactic(auto)]
+
 pub mod fields;
 pub mod records;
 

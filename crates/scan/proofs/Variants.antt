@@ -1,4 +1,4 @@
--- A step that is not of one variant is of another, by the variants' places. Assumes nothing.
+-- A step, or what was found, that is not of one variant is of another, by the variants' places. Assumes nothing.
 use mathlib.Core.Path.{◌≡◌, refl}
 use mathlib.Core.Logic.{inl, inr}
 use mathlib.Core.List.{[], ◌∷◌}
@@ -8,7 +8,10 @@ use denote.Enum.Declared.{tag_of}
 use Rattle.scan.specs.declared.Failure.{Failure}
 use Rattle.scan.specs.declared.Step.{Step}
 use Rattle.scan.specs.declared.Step.TheVariants.{Done, Fail, Stop}
+use Rattle.scan.specs.declared.Found.{Found}
+use Rattle.scan.specs.declared.Found.TheVariants.{At, Not}
 use Rattle.scan.specs.contracts.Step.{the_type}
+use Rattle.scan.specs.contracts.Found as found
 
 pub not_done : {r : Step} → ((p a w : ℕ) → r ≡ Done p a w → ⊥) → OneOf (1 ∷ 2 ∷ []) (tag_of the_type r)
 not_done {r = Done p a w} n = absurd (n p a w refl)
@@ -24,3 +27,7 @@ pub only_stop : {r : Step} → ((p a w : ℕ) → r ≡ Done p a w → ⊥) → 
 only_stop {r = Done p a w} m n = absurd (m p a w refl)
 only_stop {r = Fail f} m n = absurd (n f refl)
 only_stop {r = Stop k} m n = refl
+
+pub not_at : {s : Found} → ((p v : ℕ) → s ≡ At p v → ⊥) → OneOf (1 ∷ []) (tag_of found.the_type s)
+not_at {s = At p v} n = absurd (n p v refl)
+not_at {s = Not r} n = refl

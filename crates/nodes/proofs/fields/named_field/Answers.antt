@@ -1,0 +1,31 @@
+-- `nodes::fields::named_field` meets its contract. Assumes nothing.
+use mathlib.Core.Path.{refl}
+use native.Mathlib.Omega.{arith}
+use borrow.Author.Tests.{ne_eqb}
+use Rattle.tree.specs.NodeKind
+use Rattle.tree.specs.Node
+use Rattle.grammar.specs.Reading.Result.{ifb}
+use Rattle.nodes.specs.Parts.{named_field}
+use Rattle.nodes.proofs.Names.{unwrote, same_writes, leaf}
+use Rattle.nodes.proofs.fields.named_field.Goals as goal
+
+pub returns-in-48 : goal.returns-in-48
+unfolding named_field ifb
+returns-in-48 c =
+    same_writes (λ q. rw c.in-48.is) c.field_name.ensures (omega arith)
+
+pub returns-in-47 : goal.returns-in-47
+unfolding named_field ifb
+returns-in-47 c =
+    same_writes (λ q. rw c.in-47.is) c.field_name-in-47.ensures (omega arith)
+
+pub returns-in-69 : goal.returns-in-69
+unfolding named_field ifb
+returns-in-69 c =
+    let e = c.emit.ensures in
+    record { how = record { got = record { what = Node.field_attribute (Node.named c.args.value 0); same = λ q. rw c.in-69.is; on = omega arith; within = c.requires.0 }; waits = refl; far = omega (arith, e.next); text = leaf NodeKind.FieldAttribute e (omega arith) refl } }
+
+pub returns-in_default : goal.returns-in_default
+unfolding named_field ifb
+returns-in_default c = let r = c.in_default.in_default-own.rest in
+    unwrote (record { how = record { same = λ q. rw (ne_eqb _ _ r.0.0.1, ne_eqb _ _ r.0.1, ne_eqb _ _ r.1); waits = refl; on = omega arith; within = c.requires.0; far = omega arith } })
