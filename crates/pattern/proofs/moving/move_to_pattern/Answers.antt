@@ -1,223 +1,171 @@
 -- `pattern::moving::move_to_pattern` meets its contract: in each turn the top of a row of trees that are all to be patterns is passed, and its records are written. Assumes nothing.
 use mathlib.Core.Path.{◌≡◌, refl, ◌∙◌}
 use mathlib.Core.List.{List, [], ◌∷◌, ◌++◌}
-use Prim.Native.Nat.{ℕ, ◌-◌, ◌≤◌}
+use Prim.Native.Nat.{ℕ, ◌-◌, ◌≤◌, ◌<◌}
 use native.Mathlib.Omega.{arith}
 use native.Mathlib.Nat.{le_trans}
-use lib.ListN.{length, take, drop, length-append}
+use lib.ListN.{length, take, drop, get_or, length-append}
 use lib.Seq.{length-take-le}
 use Rattle.tree.specs.Tree.{Tree}
 use Rattle.tree.specs.Rows.{rows}
 use Rattle.tree.specs.Store.{Emitted}
 use Rattle.grammar.specs.Reading.Pattern.{to_pattern, conv, pattern}
-use Rattle.pattern.specs.Contract.{Is, Fit, Access}
+use Rattle.pattern.specs.Word
+use Rattle.pattern.specs.Contract.{Is, Fit, AFit, Access, Moved, Over, over_words}
 use Rattle.pattern.proofs.Decided.{can}
 use Rattle.pattern.proofs.Steps.{Ahead, View, view, shorter, whole_ahead, ident_step, group_bare, group_modified}
 use Rattle.pattern.proofs.Moved.{Going, go_same, go_emit, go_access, an_access, Above, sure_above, go_over, sure_pat, not_below, all_moved}
 use Rattle.pattern.proofs.moving.move_to_pattern.Goals as goal
 
--- what stands at the head of the loop: the store, where it is read and written, and the work so far on any expression that the store held
-module _ (c : goal.At-loop-i) where
-  abbrev start : goal.Start
-  start = search
+-- what is kept: the work so far, on any expression that the store held
+abbrev Kept : List ℕ → ℕ → ℕ → List ℕ → ℕ → ℕ → Type 0
+Kept S₀ from to S i w = (i ≤ w) × (w ≤ to) × (length S ≡ length S₀) × ((t p : Tree) → Fit t p S₀ from to → Going (to_pattern t) (take from S₀) (drop to S₀) S i w)
 
-  abbrev S₀ : List ℕ
-  S₀ = start.args.store.now
+module _ {S₀ : List ℕ} {from to : ℕ} (a : AFit S₀ from to) where
+  abbrev pat : Is (to_pattern a.tree)
+  pat = can _ a.can
 
-  abbrev S : List ℕ
-  S = c.loop-i.store
+  abbrev held : Fit a.tree pat.what S₀ from to
+  held = record { whole = a.whole; same = pat.same }
 
-  abbrev from : ℕ
-  from = start.args.from
+  -- what stands at the head of the loop
+  module _ {S : List ℕ} {i w : ℕ} (k : Kept S₀ from to S i w) where
+    within : w ≤ length S
+    within = omega (arith, k.1, k.2, a.whole.within)
 
-  abbrev to : ℕ
-  to = start.args.to
+    reach : i ≤ length S
+    reach = le_trans k.0 within
 
-  abbrev Holds : Tree → Tree → Type 0
-  Holds t p = Fit t p S₀ from to
+    -- a turn: the top of the row
+    module _ (l : from < i) where
+      abbrev seen : {t p : Tree} (g : Fit t p S₀ from to) → View (to_pattern t) (take from S₀) S i (k.3 t p g).ahead
+      seen g = view reach (k.3 _ _ g).left (shorter S₀ from i l)
 
-  abbrev i : ℕ
-  i = c.loop-i.i
+      room : (2 ≤ i) × (i ≤ w)
+      room = (omega (arith, (seen held).here.room), k.0)
 
-  abbrev w : ℕ
-  w = c.loop-i.w
+      -- a record is written for the top's own
+      one_record : {word value r : ℕ} {S' : List ℕ} → ((t p : Tree) (g : Fit t p S₀ from to) → Ahead (to_pattern t) (take from S₀) (take (i - 2) S) (word ∷ value ∷ (k.3 t p g).ahead))
+          → length S' ≡ length S → Emitted (w - 2) word value r S S' → Kept S₀ from to S' (i - 2) (w - 2)
+      one_record next e p =
+          let r = room in (
+            omega arith,
+            omega (arith, k.1),
+            e ∙ k.2,
+            λ t u g. go_emit _ (i - 2) w (next t u g) (k.3 t u g).done p (omega arith) (omega arith),
+          )
 
-  abbrev pat : Is (to_pattern start.requires.tree)
-  pat = can _ start.requires.can
+      -- an access, and the pattern that it is
+      abbrev is : {t p : Tree} (g : Fit t p S₀ from to) → Is (conv (seen g).tree pattern)
+      is g = sure_pat (seen g) g.same
 
-  abbrev held : Holds start.requires.tree pat.what
-  held = record { whole = start.requires.whole; same = pat.same }
+      abbrev access : get_or S (i - 2) 0 ≡ Word.Primary → {t p : Tree} (g : Fit t p S₀ from to) → Access (take from S₀ ++ rows (seen g).under) (is g).what S i w
+      access e g = an_access (seen g) (is g).same e k.0 within
 
-  behind : i ≤ w
-  behind = c.loop-i.invariant.0
+      -- where it started
+      started : (e : get_or S (i - 2) 0 ≡ Word.Primary) {r : ℕ} {S' : List ℕ} → ((B : List ℕ) (p : Tree) → Access B p S i w → Moved B p S i w r S') → r < i
+      started e moved = omega (arith, (moved _ _ (access e held)).at, (seen held).here.room, length-append (take from S₀) (rows (seen held).under))
 
-  kept : length S ≡ length S₀
-  kept = c.loop-i.invariant.2
+      -- what is a pattern and none of the others is an unpack or a tuple
+      module _ (x : get_or S (i - 2) 0 ≡ Word.Identifier → ⊥) (y : get_or S (i - 2) 0 ≡ Word.Group → ⊥) (z : get_or S (i - 2) 0 ≡ Word.Primary → ⊥) where
+        abbrev above : {t p : Tree} (g : Fit t p S₀ from to) → Above (to_pattern t) (take from S₀) S i (k.3 t p g).ahead
+        above g = sure_above reach (seen g) g.same x y z
 
-  within : w ≤ length S
-  within = omega arith
-
-  reach : i ≤ length S
-  reach = le_trans behind within
-
-  abbrev going : {t p : Tree} → Holds t p → Going (to_pattern t) (take from S₀) (drop to S₀) S i w
-  going g = c.loop-i.invariant.3 _ _ g
-
--- a turn: the top of the row
-abbrev Turn : Type 0
-Turn = goal.In-loop-i
-
-module _ (c : Turn) where
-  abbrev at : goal.At-loop-i
-  at = search
-
-  abbrev seen : {t p : Tree} (g : Holds at t p) → View (to_pattern t) (take (from at) (S₀ at)) (S at) (i at) (going at g).ahead
-  seen g = view (reach at) (going at g).left (shorter (S₀ at) (from at) (i at) c.loop-i-test.true)
-
-  room : (2 ≤ i at) × (i at ≤ w at)
-  room = (omega (arith, (seen (held at)).here.room), behind at)
-
-  -- a record is written for the top's own
-  one_record : {word value r : ℕ} {S' : List ℕ} → ((t p : Tree) (g : Holds at t p) → Ahead (to_pattern t) (take (from at) (S₀ at)) (take (i at - 2) (S at)) (word ∷ value ∷ (going at g).ahead))
-      → length S' ≡ length (S at) → Emitted (w at - 2) word value r (S at) S'
-      → invariant-loop (S₀ at) (from at) (to at) (to at) (to at) S' (i at - 2) (w at - 2)
-  one_record next e p =
-      let r = room in (
-        omega arith,
-        omega arith,
-        e ∙ kept at,
-        λ t u g.
-            go_emit _ (i at - 2) (w at) (next t u g) (going at g).done p (omega arith) (omega arith),
-      )
-
--- an access, and the pattern that it is
-module _ (c : goal.In-523) where
-  abbrev turn : Turn
-  turn = search
-
-  abbrev is : {t p : Tree} (g : Holds (at turn) t p) → Is (conv (seen turn g).tree pattern)
-  is g = sure_pat (seen turn g) g.same
-
-  abbrev access : {t p : Tree} (g : Holds (at turn) t p) → Access (take (from (at turn)) (S₀ (at turn)) ++ rows (seen turn g).under) (is g).what (S (at turn)) (i (at turn)) (w (at turn))
-  access g = an_access (seen turn g) (is g).same c.in-523.is (behind (at turn)) (within (at turn))
-
--- what is a pattern and none of the others is an unpack or a tuple
-module _ (c : goal.In_default) where
-  abbrev other : Turn
-  other = search
-
-  abbrev above : {t p : Tree} (g : Holds (at other) t p) → Above (to_pattern t) (take (from (at other)) (S₀ (at other))) (S (at other)) (i (at other)) (going (at other) g).ahead
-  above g =
-      let n = c.in_default.in_default-own.rest in
-      sure_above (reach (at other)) (seen other g) g.same n.0.0.1 n.0.1 n.1
+        -- how many words are passed
+        few : {r : ℕ} {S' : List ℕ} → Over (over_words S i) w S r S' → (r ≤ i) × (2 ≤ r) × (i ≤ w)
+        few o =
+            let b = above held in
+            let many = o.many in
+            (omega (arith, b.room, b.many), omega (arith, b.many), k.0)
 
 pub loop-i-init : goal.loop-i-init
 loop-i-init c = (omega arith, omega arith, refl, λ t p g. record { ahead = []; left = whole_ahead g.whole; done = refl })
 
 pub overflow_sub-word : goal.overflow_sub-word
-overflow_sub-word c = (room c).0
+overflow_sub-word c = omega (arith, room c.requires c.loop-i.invariant c.loop-i-test.true)
 
 pub overflow_sub-w : goal.overflow_sub-w
-overflow_sub-w c = omega (arith, room (search))
+overflow_sub-w c = omega (arith, room c.requires c.loop-i.invariant c.loop-i-test.true)
 
 pub overflow_sub-i : goal.overflow_sub-i
-overflow_sub-i c = (room (search)).0
+overflow_sub-i c = omega (arith, room c.requires c.loop-i.invariant c.loop-i-test.true)
 
 pub emit-requires : goal.emit-requires
-emit-requires c = omega (arith, room (search))
+emit-requires c = omega (arith, room c.requires c.loop-i.invariant c.loop-i-test.true, within c.requires c.loop-i.invariant)
 
 pub loop-i-preserved-in-31 : goal.loop-i-preserved-in-31
-loop-i-preserved-in-31 c =
-    let p = c.emit in
-    one_record c (λ t u g. ident_step (seen c g) c.in-31.is) p.auto.store p.ensures
+loop-i-preserved-in-31 c = one_record c.requires c.loop-i.invariant c.loop-i-test.true (λ t u g. ident_step (seen c.requires c.loop-i.invariant c.loop-i-test.true g) c.in-31.is) c.emit.auto.store c.emit.ensures
 
 pub overflow_sub-i-in-292 : goal.overflow_sub-i-in-292
-overflow_sub-i-in-292 c = (room (search)).0
+overflow_sub-i-in-292 c = omega (arith, room c.requires c.loop-i.invariant c.loop-i-test.true)
 
 pub overflow_sub-w-then-value-ne0 : goal.overflow_sub-w-then-value-ne0
-overflow_sub-w-then-value-ne0 c = omega (arith, room (search))
+overflow_sub-w-then-value-ne0 c = omega (arith, room c.requires c.loop-i.invariant c.loop-i-test.true)
 
 pub emit-requires-then-value-ne0 : goal.emit-requires-then-value-ne0
-emit-requires-then-value-ne0 c = omega (arith, room (search))
+emit-requires-then-value-ne0 c = omega (arith, room c.requires c.loop-i.invariant c.loop-i-test.true, within c.requires c.loop-i.invariant)
 
 pub loop-i-preserved-then-value-ne0 : goal.loop-i-preserved-then-value-ne0
 loop-i-preserved-then-value-ne0 c =
-    let p = c.emit-then-value-ne0 in
-    one_record c (λ t u g. group_modified (seen c g) c.in-292.is c.if-value-ne0.true) p.auto.store p.ensures
+    let e = c.emit-then-value-ne0 in
+    one_record c.requires c.loop-i.invariant c.loop-i-test.true (λ t u g. group_modified (seen c.requires c.loop-i.invariant c.loop-i-test.true g) c.in-292.is c.if-value-ne0.true) e.auto.store e.ensures
 
 pub loop-i-preserved-else-value-ne0 : goal.loop-i-preserved-else-value-ne0
 loop-i-preserved-else-value-ne0 c =
-    (
-      omega arith,
-      (at c).loop-i.invariant.1,
-      kept (at c),
-      λ t u g.
-          go_same _ (group_bare (seen c g) c.in-292.is c.if-value-ne0.false) (going (at c) g).done,
-    )
+    let k = c.loop-i.invariant in
+    let r = room c.requires c.loop-i.invariant c.loop-i-test.true in
+    (omega arith, k.1, k.2, λ t u g. go_same _ (group_bare (seen c.requires c.loop-i.invariant c.loop-i-test.true g) c.in-292.is c.if-value-ne0.false) (k.3 t u g).done)
 
 pub move_access-start-requires : goal.move_access-start-requires
-move_access-start-requires c =
-    record { base = _; pat = _; it = access c (held (at (turn c))) }
+move_access-start-requires c = record { base = _; pat = _; it = access c.requires c.loop-i.invariant c.loop-i-test.true c.in-523.is (held c.requires) }
 
 pub overflow_add-w : goal.overflow_add-w
 overflow_add-w c =
-    let k = accessed c in
-    omega (arith, (c.move_access-start.ensures _ _ (access k (held (at (turn k))))).on)
+    let m = c.move_access-start.ensures _ _ (access c.requires c.loop-i.invariant c.loop-i-test.true c.in-523.is (held c.requires)) in
+    omega (arith, m.on, room c.requires c.loop-i.invariant c.loop-i-test.true, within c.requires c.loop-i.invariant)
 
 pub loop-i-smaller-in-523 : goal.loop-i-smaller-in-523
-loop-i-smaller-in-523 c =
-    let k = accessed c in
-    let e = turn k in
-    let g = held (at e) in
-    omega (arith, (c.move_access-start.ensures _ _ (access k g)).at, (seen e g).here.room, length-append (take (from (at e)) (S₀ (at e))) (rows (seen e g).under))
+loop-i-smaller-in-523 c = started c.requires c.loop-i.invariant c.loop-i-test.true c.in-523.is c.move_access-start.ensures
 
 pub loop-i-preserved-in-523 : goal.loop-i-preserved-in-523
 loop-i-preserved-in-523 c =
-    let k = accessed c in
-    let e = turn k in
-    let o = (c.move_access-start.ensures _ _ (access k (held (at e)))).on in (
-      omega arith,
-      omega arith,
-      c.move_access-start.auto.store ∙ kept (at e),
+    let k = c.loop-i.invariant in
+    let e = c.in-523.is in
+    let m = c.move_access-start in
+    let o = (m.ensures _ _ (access c.requires c.loop-i.invariant c.loop-i-test.true e (held c.requires))).on in (
+      omega (arith, k.0),
+      omega (arith, k.0, k.1),
+      m.auto.store ∙ k.2,
       λ t u g.
-          go_access _ (seen e g) (is k g).same (going (at e) g).done (c.move_access-start.ensures _ _ (access k g)),
+          go_access _ (seen c.requires c.loop-i.invariant c.loop-i-test.true g) (is c.requires c.loop-i.invariant c.loop-i-test.true g).same (k.3 t u g).done (m.ensures _ _ (access c.requires c.loop-i.invariant c.loop-i-test.true e g)),
     )
 
 pub put_over-n-requires : goal.put_over-n-requires
-put_over-n-requires c =
-    let l = at (other c) in
-    ((above c (held l)).room, behind l, within l)
-
--- how many words are passed
-module _ (c : goal.After-put_over-n) where
-  abbrev kind : goal.In_default
-  kind = search
-
-  few : (c.put_over-n.result ≤ i (at (other kind))) × (2 ≤ c.put_over-n.result) × (i (at (other kind)) ≤ w (at (other kind)))
-  few =
-      let a = above kind (held (at (other kind))) in
-      let many = c.put_over-n.ensures.many in
-      (omega (arith, a.room, a.many), omega (arith, a.many), behind (at (other kind)))
+put_over-n-requires c = ((above c.requires c.loop-i.invariant c.loop-i-test.true (search) (search) (search) (held c.requires)).room, c.loop-i.invariant.0, within c.requires c.loop-i.invariant)
 
 pub overflow_sub-i-in_default : goal.overflow_sub-i-in_default
-overflow_sub-i-in_default c = (few (search)).0
+overflow_sub-i-in_default c = (few c.requires c.loop-i.invariant c.loop-i-test.true (search) (search) (search) c.put_over-n.ensures).0
 
 pub loop-i-preserved : goal.loop-i-preserved
 loop-i-preserved c =
-    let l = at (other (kind c)) in
-    let f = few c in (
+    let k = c.loop-i.invariant in
+    let o = c.put_over-n in
+    let f = few c.requires c.loop-i.invariant c.loop-i-test.true (search) (search) (search) o.ensures in (
       omega arith,
-      omega arith,
-      c.put_over-n.auto.store ∙ kept l,
+      omega (arith, k.1),
+      o.auto.store ∙ k.2,
       λ t u g.
-          go_over _ (above (kind c) g) (going l g).done (behind l) c.put_over-n.ensures,
+          go_over _ (above c.requires c.loop-i.invariant c.loop-i-test.true (search) (search) (search) g) (k.3 t u g).done k.0 o.ensures,
     )
 
 pub overflow_sub-by : goal.overflow_sub-by
 overflow_sub-by c =
-    let g = (held c).whole in
-    omega (arith, not_below (S c) (i c) (reach c) (going c (held c)).left, length-take-le (from c) (S₀ c) (le_trans g.start g.within))
+    let g = c.requires.whole in
+    let k = c.loop-i.invariant in
+    let b = not_below c.loop-i.store c.loop-i.i (reach c.requires c.loop-i.invariant) (k.3 _ _ (held c.requires)).left in
+    omega (arith, b, k.0, length-take-le c.args.from c.args.store.now (le_trans g.start g.within))
 
 pub returns : goal.returns
 returns c =
-    λ t p g. all_moved g (kept c) (behind c) c.loop-i.invariant.1 (going c g) c.loop-i-test.false c.move_left.ensures refl
+    let k = c.loop-i.invariant in
+    λ t p g. all_moved g k.2 k.0 k.1 (k.3 t p g) c.loop-i-test.false c.move_left.ensures refl
