@@ -1,6 +1,6 @@
 -- `pattern::deciding::can_be_pattern` meets its contract: in each turn the top of a row of trees that are all to be patterns is passed. Assumes nothing.
 use mathlib.Core.Path.{◌≡◌, sym, ap, ◌∙◌}
-use mathlib.Core.Bool.{true, false}
+use mathlib.Core.Bool.{true}
 use mathlib.Core.Logic.{◌⊎◌, ⊎_elim, inl, inr}
 use mathlib.Core.List.{List, [], ◌++◌}
 use Prim.Native.Nat.{ℕ, ◌+◌, ◌-◌, ◌/◌, ◌≤◌, ◌<◌}
@@ -92,17 +92,16 @@ pub overflow_sub-i : goal.overflow_sub-i
 overflow_sub-i c = omega (arith, room c.loop-i.invariant c.loop-i-test.true c.requires)
 
 pub loop-i-preserved-in-31 : goal.loop-i-preserved-in-31
-loop-i-preserved-in-31 c =
-    (
-      omega (arith, c.loop-i.invariant.0),
-      λ t g.
-          ⊎_elim
-          (λ k. record { ahead = _; left = ident_step (seen c.loop-i.invariant c.loop-i-test.true g) k })
-          (λ k. by_test (eqb (get_or c.args.store.now (c.loop-i.i - 1) 0) 0)
-          (λ z. record { ahead = _; left = group_bare (seen c.loop-i.invariant c.loop-i-test.true g) k (eqb-true _ _ z) })
-          (λ z. record { ahead = _; left = group_modified (seen c.loop-i.invariant c.loop-i-test.true g) k (eqb-false _ _ z) }))
-          c.in-31.is,
-    )
+loop-i-preserved-in-31 c = (
+  omega (arith, c.loop-i.invariant.0),
+  λ t g.
+      ⊎_elim
+      (λ k. record { ahead = _; left = ident_step (seen c.loop-i.invariant c.loop-i-test.true g) k })
+      (λ k. by_test (eqb (get_or c.args.store.now (c.loop-i.i - 1) 0) 0)
+      (λ z. record { ahead = _; left = group_bare (seen c.loop-i.invariant c.loop-i-test.true g) k (eqb-true _ _ z) })
+      (λ z. record { ahead = _; left = group_modified (seen c.loop-i.invariant c.loop-i-test.true g) k (eqb-false _ _ z) }))
+      c.in-31.is,
+)
 
 pub overflow_sub-i-in-271 : goal.overflow_sub-i-in-271
 overflow_sub-i-in-271 c = omega (arith, room c.loop-i.invariant c.loop-i-test.true c.requires)

@@ -1,6 +1,6 @@
 -- What the loops of `pattern::deciding::can_be_pattern` keep, and what falls. Assumes nothing.
 use mathlib.Core.List.{List}
-use Prim.Native.Nat.{ℕ, ◌-◌, ◌≤◌}
+use Prim.Native.Nat.{ℕ, ◌≤◌}
 use lib.ListN.{length, take}
 use Rattle.tree.specs.Tree.{Tree}
 use Rattle.tree.specs.Maybe.{Maybe}

@@ -1,7 +1,7 @@
 -- What the loops of `pattern::moving::move_right` keep, and what falls. Assumes nothing.
 use mathlib.Core.Path.{◌≡◌}
 use mathlib.Core.List.{List, ◌++◌}
-use Prim.Native.Nat.{ℕ, ◌+◌, ◌-◌, ◌≤◌}
+use Prim.Native.Nat.{ℕ, ◌+◌, ◌≤◌}
 use lib.ListN.{length, take, drop}
 use Rattle.pattern.proofs.moving.move_right.Given as goal
 

@@ -1,6 +1,6 @@
 -- What the loops of `pattern::moving::move_to_pattern` keep, and what falls. Assumes nothing.
 use mathlib.Core.Path.{◌≡◌}
-use Prim.Native.Nat.{◌-◌, ◌≤◌}
+use Prim.Native.Nat.{◌≤◌}
 use lib.ListN.{length, take, drop}
 use Rattle.tree.specs.Tree.{Tree}
 use Rattle.grammar.specs.Reading.Pattern.{to_pattern}

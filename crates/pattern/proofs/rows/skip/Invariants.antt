@@ -1,6 +1,6 @@
 -- What the loops of `pattern::rows::skip` keep, and what falls. Assumes nothing.
 use mathlib.Core.List.{List}
-use Prim.Native.Nat.{ℕ, ◌-◌, ◌≤◌}
+use Prim.Native.Nat.{ℕ, ◌≤◌}
 use lib.ListN.{length, take}
 use Rattle.tree.specs.Rows.{Trees}
 use Rattle.pattern.proofs.rows.skip.Given as goal
