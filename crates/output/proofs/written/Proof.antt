@@ -4,7 +4,7 @@ use Prim.Native.Nat.{◌+◌, ◌≤◌}
 use native.Mathlib.Omega.{arith}
 use lib.ListN.{length}
 use borrow.Author.Rules.{rules}
-use Rattle.tables.specs.Answer.{cleared}
+use Rattle.tables.proofs.Answer.{cleared}
 use Rattle.output.specs.Text.{holds_bound}
 use Rattle.output.proofs.Laws.{no_room, fronted}
 use Rattle.output.proofs.written.Statement.{statement}

@@ -8,7 +8,7 @@ use Rattle.token.specs.Kind
 use Rattle.output.specs.Text.{Holds}
 use Rattle.writer.proofs.Writing.{not_done, wrote_at}
 use Rattle.writer.proofs.Ending.{semicolon, run_deep, run_done}
-use Rattle.tables.specs.Answer.{cleared}
+use Rattle.tables.proofs.Answer.{cleared}
 use Rattle.writer.proofs.run_out.Statement.{statement}
 use Rattle.writer.proofs.run_out.Tie as tie
 use Rattle.tree.proofs.Known.{known}

@@ -8,7 +8,8 @@ use Rattle.tree.specs.Tree.{Tree}
 use Rattle.tree.specs.Maybe.{just}
 use Rattle.tree.specs.Decode.{decode}
 use Rattle.writer.specs.Stack.{At}
-use Rattle.tables.specs.Answer.{cleared, run_out}
+use Rattle.tables.specs.Answer.{run_out}
+use Rattle.tables.proofs.Answer.{cleared}
 use Rattle.writer.proofs.Entry.{shape_at, no_tree, illegal, legal}
 use Rattle.writer.proofs.write_stmt.Statement.{statement}
 use Rattle.writer.proofs.write_stmt.Tie as tie

@@ -2,7 +2,7 @@
 use native.Mathlib.Omega.{arith}
 use borrow.Author.Rules.{rules}
 use Rattle.tables.specs.Class.{binary_class}
-use Rattle.tables.specs.Operators.{level_range}
+use Rattle.tables.proofs.Operators.{level_range}
 use Rattle.writer.proofs.class.binary_class.Statement.{statement}
 use Rattle.writer.proofs.class.binary_class.Tie as tie
 

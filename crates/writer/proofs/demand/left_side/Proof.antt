@@ -2,7 +2,7 @@
 use native.Mathlib.Omega.{arith}
 use borrow.Author.Rules.{rules}
 use Rattle.tables.specs.Demand.{left_side}
-use Rattle.tables.specs.Operators.{level_range}
+use Rattle.tables.proofs.Operators.{level_range}
 use Rattle.writer.proofs.demand.left_side.Statement.{statement}
 use Rattle.writer.proofs.demand.left_side.Tie as tie
 

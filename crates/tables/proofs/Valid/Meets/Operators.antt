@@ -14,9 +14,9 @@ use Rattle.tables.specs.Demand.{Tight, Level, left_side, right_side, first_deman
 use Rattle.tables.specs.Kinds.{passes, unlabelled, closed}
 use Rattle.tables.specs.Sound.{top, exceeds, arity}
 use Rattle.tables.specs.Check.{mode_of, inner_mode, begins_labelled, ends_single}
-use Rattle.tables.specs.Valid.Meets.Demands.{fits_between, within, within_same}
-use Rattle.tables.specs.Valid.Meets.Kids.{two_fits, shaped}
-use Rattle.tables.specs.Valid.Meets.Met.{Met, by_class, told, suits, kid}
+use Rattle.tables.proofs.Valid.Meets.Demands.{fits_between, within, within_same}
+use Rattle.tables.proofs.Valid.Meets.Kids.{two_fits, shaped}
+use Rattle.tables.proofs.Valid.Meets.Met.{Met, by_class, told, suits, kid}
 
 pub unary_range : (k : ℕ) → eqb (unary_code k) 0 ≡ false → ltb 3 (pred (unary_code k)) ≡ false
 unfolding unary_code which_unary_op

@@ -7,7 +7,7 @@ use Rattle.grammar.specs.Canonical.Valid.{atom, prim, tight, unary, binop, plain
 use Rattle.grammar.proofs.Laws.Facts.{by_test}
 use Rattle.tables.specs.Operators.{Levels}
 use Rattle.tables.specs.Class as Class
-use Rattle.tables.specs.Valid.Builds.Classes.{Begins, Ends, Tight, as_lone, as_path, as_atom, as_tight, Expression, bound, as_unary, as_binary, as_plain, as_any, Receiver, receiver}
+use Rattle.tables.proofs.Valid.Builds.Classes.{Begins, Ends, Tight, as_lone, as_path, as_atom, as_tight, Expression, bound, as_unary, as_binary, as_plain, as_any, Receiver, receiver}
 
 -- there is no class 0
 some_tight : {c : ℕ} {t : Tree} → Tight c t → 1 ≤ c

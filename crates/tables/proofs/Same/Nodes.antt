@@ -4,16 +4,16 @@ use Rattle.std.specs.Prelude.{◌≡◌, refl, false, not, ℕ, eqb}
 use Rattle.std.proofs.Math.Bool.{and-true, and-false}
 use Rattle.std.proofs.Common.{arith}
 use Rattle.tree.specs.NodeKind
-use Rattle.tree.specs.Tree.{Tree, node, none, one, two, three, kind_of}
+use Rattle.tree.specs.Tree.{Tree, Forest, node, none, more, one, two, three, kind_of}
 use Rattle.tree.specs.Maybe.{just}
 use Rattle.tree.specs.Node
 use Rattle.grammar.specs.Canonical.Write.{own, commas, members, suite, head_empty}
 use Rattle.grammar.proofs.Laws.Facts.{by_test}
 use Rattle.tables.specs.Children.{kind_in, count_in}
 use Rattle.tables.specs.Check.{signature_mode}
-use Rattle.tables.specs.Same.Agree.{Same, tables}
-use Rattle.tables.specs.Same.Lists.{Leads}
-use Rattle.tables.specs.Same.Marks.{label_words, named_words, keyword_words}
+use Rattle.tables.proofs.Same.Agree.{Same, tables}
+use Rattle.tables.proofs.Same.Lists.{Leads}
+use Rattle.tables.proofs.Same.Marks.{label_words, named_words, keyword_words}
 
 -- statements
 pub expression_same : {e : Tree} → Same own e → Same own (Node.expression e)
@@ -111,18 +111,22 @@ pub default_def_same : {e : Tree} (v : ℕ) → Same own e → Same own (Node.de
 unfolding tables
 default_def_same v h = record { words = λ r. rw (named_words NodeKind.DefaultDef v, h.words); depth = omega arith }
 
+-- whether the first of some trees has no child says nothing of those behind it
+head_alike : (t : Tree) (f : Forest) → head_empty (more t f) ≡ head_empty (one t)
+head_alike (node k v g) f = refl
+
 -- the signature: required parameters only, some and a default, some and a variadic one
 pub required_signature : {l : Tree} (n : ℕ) → Same commas l → Same own (node NodeKind.SignatureDef n (three l (Node.list none) Node.absent))
 unfolding tables signature_mode
-required_signature {l} n h = record { words = λ r. rw (and-false (not (head_empty (one l))), h.words); depth = omega arith }
+required_signature {l} n h = record { words = λ r. rw (and-false (not (head_empty (three l (Node.list none) Node.absent))), h.words); depth = omega arith }
 
 pub default_signature : {l d : Tree} (n : ℕ) → Leads l → count_in (just d) ≡ 1 → head_empty (one d) ≡ false → Same commas d → Same own (node NodeKind.SignatureDef n (three l d Node.absent))
 unfolding tables signature_mode
-default_signature {l} n h c e g = record { words = λ r. rw (c, e, and-true (not (head_empty (one l))), h.words, g.words); depth = rw c (omega arith) }
+default_signature {l} {d} n h c e g = record { words = λ r. rw (c, head_alike d (one Node.absent), e, and-true (not (head_empty (three l d Node.absent))), head_alike l (two d Node.absent), h.words, g.words); depth = rw c (omega arith) }
 
 pub variadic_signature : {l x : Tree} (n : ℕ) → Leads l → eqb (kind_of x) NodeKind.Absent ≡ false → Same own x → Same own (node NodeKind.SignatureDef n (three l (Node.list none) x))
 unfolding tables signature_mode
-variadic_signature {l} {x} n h e g = record { words = λ r. rw (kind_is x, e, and-true (not (head_empty (one l))), h.words, g.words); depth = rw (kind_is x, e) (omega arith) }
+variadic_signature {l} {x} n h e g = record { words = λ r. rw (kind_is x, e, and-true (not (head_empty (three l (Node.list none) x))), head_alike l (two (Node.list none) x), h.words, g.words); depth = rw (kind_is x, e) (omega arith) }
 
 -- patterns
 pub identifier_pattern_same : (n : ℕ) → Same own (Node.identifier_pattern n)

@@ -16,9 +16,9 @@ use Rattle.tables.specs.Demand as Demand
 use Rattle.tables.specs.Sound as Sound
 use Rattle.tables.specs.Children.{kind_in, Each}
 use Rattle.tables.specs.Check.{class_of, mode_of}
-use Rattle.tables.specs.Valid.Meets.Demands.{by_fits}
-use Rattle.tables.specs.Valid.Builds.Classes.{Begins, Ends, Expression, Any, Receiver, Missing, missing, Body, open_body, plain_body, ended_body, Operand, Empty, empty_list, Listed, listed, Means, Kid}
-use Rattle.tables.specs.Valid.Builds.Roles.{some, tight_class, atom_of, receiver_of, unary_of, binary_of, plain_of, any_of}
+use Rattle.tables.proofs.Valid.Meets.Demands.{by_fits}
+use Rattle.tables.proofs.Valid.Builds.Classes.{Begins, Ends, Expression, Any, Receiver, Missing, missing, Body, open_body, plain_body, ended_body, Operand, Empty, empty_list, Listed, listed, Means, Kid}
+use Rattle.tables.proofs.Valid.Builds.Roles.{some, tight_class, atom_of, receiver_of, unary_of, binary_of, plain_of, any_of}
 
 -- names in range, and labels, 1 + a name
 pub name_of : (v : ℕ) → v ≤ Sound.Name → IsName v

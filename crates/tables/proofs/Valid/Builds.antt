@@ -23,14 +23,14 @@ use Rattle.tables.specs.Sound.{top, exceeds, arity, sound}
 use Rattle.tables.specs.Kinds.{unlabelled, closed}
 use Rattle.tables.specs.Children.{last_tree, Each}
 use Rattle.tables.specs.Check.{class_of, mode_of, inner_class, begins_labelled, ends_single, banned, kids_fit, node_fits, all_fit, all_fits, legal_tree}
-use Rattle.tables.specs.Valid.Builds.Classes.{missing, Means, Kid, KidOf, Shown, Shaped, Rule, Rules, tables, done, ◌▸◌}
-use Rattle.tables.specs.Valid.Builds.Places.{at_class}
-use Rattle.tables.specs.Valid.Builds.Lists.{list_means}
-use Rattle.tables.specs.Valid.Builds.Statements.{of_expression, of_loop, of_while, of_for, of_assert, of_statements, of_continue, of_break, of_return}
-use Rattle.tables.specs.Valid.Builds.Expressions.{of_primary, of_unary, of_binary, of_unpack, of_tuple, of_table, of_if, of_block_expr, of_function}
-use Rattle.tables.specs.Valid.Builds.Assignments.{of_assignment, of_group}
-use Rattle.tables.specs.Valid.Builds.Parts.{of_table_item, of_block, of_branch, of_signature, of_param, of_default, of_field, of_field_index}
-use Rattle.tables.specs.Valid.Builds.Atoms.{of_nil, of_empty_tuple, of_identifier, of_boolean, of_integer, of_float, of_string, of_attribute, of_index, of_invoke, of_invoke_table, of_identifier_pattern, of_attribute_pattern, of_index_pattern, of_tuple_pattern, of_pack, of_modifier}
+use Rattle.tables.proofs.Valid.Builds.Classes.{missing, Means, Kid, KidOf, Shown, Shaped, Rule, Rules, tables, done, ◌▸◌}
+use Rattle.tables.proofs.Valid.Builds.Places.{at_class}
+use Rattle.tables.proofs.Valid.Builds.Lists.{list_means}
+use Rattle.tables.proofs.Valid.Builds.Statements.{of_expression, of_loop, of_while, of_for, of_assert, of_statements, of_continue, of_break, of_return}
+use Rattle.tables.proofs.Valid.Builds.Expressions.{of_primary, of_unary, of_binary, of_unpack, of_tuple, of_table, of_if, of_block_expr, of_function}
+use Rattle.tables.proofs.Valid.Builds.Assignments.{of_assignment, of_group}
+use Rattle.tables.proofs.Valid.Builds.Parts.{of_table_item, of_block, of_branch, of_signature, of_param, of_default, of_field, of_field_index}
+use Rattle.tables.proofs.Valid.Builds.Atoms.{of_nil, of_empty_tuple, of_identifier, of_boolean, of_integer, of_float, of_string, of_attribute, of_index, of_invoke, of_invoke_table, of_identifier_pattern, of_attribute_pattern, of_index_pattern, of_tuple_pattern, of_pack, of_modifier}
 
 -- every kind has its rule
 of_absent : Rule NodeKind.Absent

@@ -16,9 +16,9 @@ use Rattle.tables.specs.Form.{Fun}
 use Rattle.tables.specs.Check.{name_given, function_form}
 use Rattle.tables.specs.Tokens.{modifier_token, assignment_token, assigns, carried}
 use Rattle.tables.specs.Layout.{emit, assignment_form}
-use Rattle.tables.specs.Same.Agree.{number, depth_place, Same, tables}
-use Rattle.tables.specs.Same.Nodes.{kind_is}
-use Rattle.tables.specs.Same.Marks.{symbol_words, label_words, keyword_words, action_words, unary_words}
+use Rattle.tables.proofs.Same.Agree.{number, depth_place, Same, tables}
+use Rattle.tables.proofs.Same.Nodes.{kind_is}
+use Rattle.tables.proofs.Same.Marks.{symbol_words, label_words, keyword_words, action_words, unary_words}
 
 -- the form of an assignment: what the tables say by the number of its place
 by_place : (p : Place) (v : ℕ) → (Form.fun_gives (number p) v ≡ fun_gives p v) × (eqb (number p) Fun ≡ false)

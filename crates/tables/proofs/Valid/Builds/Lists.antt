@@ -11,9 +11,9 @@ use Rattle.tables.specs.Class.{list_class, plain_list, default_list, argument_li
 use Rattle.tables.specs.Demand as Demand
 use Rattle.tables.specs.Demand.{of_members}
 use Rattle.tables.specs.Children.{Each}
-use Rattle.tables.specs.Valid.Builds.Classes.{Part, Default, Empty, empty_list, only, listed, Operand, Argument, Means, Kid}
-use Rattle.tables.specs.Valid.Builds.Roles.{any_of}
-use Rattle.tables.specs.Valid.Builds.Places.{no_tuple, in_range, expression, operand_in, exactly}
+use Rattle.tables.proofs.Valid.Builds.Classes.{Part, empty_list, only, listed, Operand, Argument, Means, Kid}
+use Rattle.tables.proofs.Valid.Builds.Roles.{any_of}
+use Rattle.tables.proofs.Valid.Builds.Places.{no_tuple, in_range, expression, operand_in, exactly}
 
 -- the classes that a list of n members can have
 list_cases : (P : ℕ → Type 0) (n c : ℕ) → P Class.Nothing → (n ≡ 0 → P Class.Empty) → (0 < n → P Class.Operands) → (n ≡ 1 → P Class.Argument) → (n ≡ 1 → P (Class.Lists + Class.Default))
@@ -94,7 +94,8 @@ parts_mean n c e low high d (more t f) h k =
     let no_default : eqb l (Class.Lists + Class.Default) ≡ false = ne_eqb l (Class.Lists + Class.Default) λ x. d (omega arith) in
     let something : leb Class.Nothing l ≡ false = lt-leb Class.Nothing l (omega arith) in
     let back : l - Class.Lists ≡ c = omega arith in
-    let members : Each (Kid (101 * (l - Class.Lists)) true true) (more t f) = rw (no_operands, no_argument, lt-leb l Class.Argument (omega arith), something) at k in
+    let members_of : of_members l ≡ 101 * (l - Class.Lists) = rw (no_operands, no_argument, lt-leb l Class.Argument (omega arith), something) in
+    let members : Each (Kid (101 * (l - Class.Lists)) true true) (more t f) = each_map (λ t k. rw members_of at k) (more t f) k in
     rw (lt-leb l Class.Given (omega arith), le-ltb l Class.Lists (omega arith), ne_eqb l Class.Empty (λ x. omega arith), no_operands, no_argument, no_default, something, back)
     (listed (part c low high t members.0) (each_map (part c low high) f members.1))
 

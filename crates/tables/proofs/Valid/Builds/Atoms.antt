@@ -11,10 +11,10 @@ use Rattle.grammar.proofs.Laws.Views.{arguments_sound}
 use Rattle.tables.specs.Class as Class
 use Rattle.tables.specs.Demand as Demand
 use Rattle.tables.specs.Check.{class_of}
-use Rattle.tables.specs.Valid.Meets.Demands.{by_fits}
+use Rattle.tables.proofs.Valid.Meets.Demands.{by_fits}
 use Rattle.tables.specs.Children.{Each}
-use Rattle.tables.specs.Valid.Builds.Classes.{bound, as_atom, Receiver, receiver, Empty, empty_list, Only, only, Listed, listed, Operand, Argument, Rule, tables}
-use Rattle.tables.specs.Valid.Builds.Places.{name_in, at_class, simple, expr, either_class, exactly, missing_is, receiver_in, Row, row, table_items_in, operands}
+use Rattle.tables.proofs.Valid.Builds.Classes.{bound, as_atom, Receiver, receiver, Empty, empty_list, Only, only, Listed, listed, Operand, Argument, Rule, tables}
+use Rattle.tables.proofs.Valid.Builds.Places.{name_in, at_class, simple, expr, either_class, exactly, missing_is, receiver_in, Row, row, table_items_in, operands}
 
 -- atoms
 pub of_nil : Rule NodeKind.Nil

@@ -12,7 +12,8 @@ use Rattle.tree.specs.Maybe.{just}
 use Rattle.grammar.specs.Canonical.Valid.{atom, tight, unary, binop, plain, function, item, table_item, branch, block, Valid, v_unpack, v_table, v_function, v_if, v_block, v_labelled, v_unary_op, v_binary_op, v_single, v_tuple, v_none, v_more}
 use Rattle.grammar.proofs.Laws.Facts.{clash, by_test}
 use Rattle.tables.specs.Choice.{where_zero}
-use Rattle.tables.specs.Operators.{Levels, LastBinary, level, binary_of, level_range}
+use Rattle.tables.specs.Operators.{Levels, LastBinary, level, binary_of}
+use Rattle.tables.proofs.Operators.{level_range}
 use Rattle.tables.specs.Class as Class
 use Rattle.tables.specs.Class.{binary_class}
 use Rattle.tables.specs.Demand as Demand
@@ -20,9 +21,9 @@ use Rattle.tables.specs.Demand.{left_side, right_side}
 use Rattle.tables.specs.Kinds.{passes}
 use Rattle.tables.specs.Children.{kind_in, count_in, value_in, last_tree}
 use Rattle.tables.specs.Check.{begins_labelled, ends_single}
-use Rattle.tables.specs.Valid.Builds.Classes.{Begins, Ends, bound, as_lone, as_path, as_tight, as_unary, as_binary, as_plain, Any, receiver, Signature, Listed, listed, Operand, Means, Rule, tables}
-use Rattle.tables.specs.Valid.Builds.Roles.{tight_class, prim_of}
-use Rattle.tables.specs.Valid.Builds.Places.{label_name, same_kind, simple, unary_in, operand_in, optional, exactly, atom_in, else_in, all_valid, Row, row, items_in, table_items_in, not_absent, operands}
+use Rattle.tables.proofs.Valid.Builds.Classes.{Begins, Ends, bound, as_lone, as_path, as_tight, as_unary, as_binary, as_plain, Any, receiver, Signature, Listed, listed, Operand, Means, Rule, tables}
+use Rattle.tables.proofs.Valid.Builds.Roles.{tight_class, prim_of}
+use Rattle.tables.proofs.Valid.Builds.Places.{label_name, same_kind, simple, unary_in, operand_in, optional, exactly, atom_in, else_in, all_valid, Row, row, items_in, table_items_in, not_absent, operands}
 
 -- primaries
 with_path : {t u : Tree} → Valid atom t → Row (item true) u → Means (where_zero (count_in (just u)) Class.Bare Class.Primary) (node NodeKind.Primary 0 (two t u))

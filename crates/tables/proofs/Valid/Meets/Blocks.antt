@@ -20,12 +20,12 @@ use Rattle.tables.specs.Kinds.{passes, unlabelled, closed}
 use Rattle.tables.specs.Sound.{top, exceeds, arity, sound}
 use Rattle.tables.specs.Children.{kind_in, last_tree}
 use Rattle.tables.specs.Check.{body_mode, inner_mode, mode_of, class_of, begins_labelled, ends_single, banned, kids_fit, all_fit}
-use Rattle.tables.specs.Valid.Meets.Asked.{Statement, Control}
-use Rattle.tables.specs.Valid.Meets.Demands.{either, within, fits_up}
-use Rattle.tables.specs.Valid.Meets.Kids.{Fit, Kid, two_fits, shaped}
-use Rattle.tables.specs.Valid.Meets.Met.{Met, by_class, by_its_class, told, wider, suits, kid, ready, met}
-use Rattle.tables.specs.Valid.Meets.Lists.{Listed, list_kid}
-use Rattle.tables.specs.Valid.Meets.Narrow.{absent_met, absent_kid, some_kind}
+use Rattle.tables.proofs.Valid.Meets.Asked.{Statement, Control}
+use Rattle.tables.proofs.Valid.Meets.Demands.{either, within, fits_up}
+use Rattle.tables.proofs.Valid.Meets.Kids.{Fit, Kid, two_fits, shaped}
+use Rattle.tables.proofs.Valid.Meets.Met.{Met, by_class, by_its_class, told, wider, suits, kid, ready, met}
+use Rattle.tables.proofs.Valid.Meets.Lists.{Listed, list_kid}
+use Rattle.tables.proofs.Valid.Meets.Narrow.{absent_met, absent_kid, some_kind}
 
 -- a statement list that has no result to take off ends in no expression
 before_whole : (t : Tree) (s : Split) (f : Forest) → split_before t s ≡ whole (more t f) → s ≡ whole f

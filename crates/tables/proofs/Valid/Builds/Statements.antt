@@ -15,9 +15,9 @@ use Rattle.tables.specs.Demand as Demand
 use Rattle.tables.specs.Sound as Sound
 use Rattle.tables.specs.Children.{kind_in, last_tree}
 use Rattle.tables.specs.Check.{class_of, body_mode}
-use Rattle.tables.specs.Valid.Builds.Classes.{open_body, plain_body, ended_body, Means, Rule, tables}
-use Rattle.tables.specs.Valid.Builds.Roles.{any_of}
-use Rattle.tables.specs.Valid.Builds.Places.{label_name, any_class, in_range, expr, stated, optional, exactly, body_in, control_in, Row, row, statements_in}
+use Rattle.tables.proofs.Valid.Builds.Classes.{open_body, plain_body, ended_body, Means, Rule, tables}
+use Rattle.tables.proofs.Valid.Builds.Roles.{any_of}
+use Rattle.tables.proofs.Valid.Builds.Places.{label_name, any_class, in_range, expr, stated, optional, exactly, body_in, control_in, Row, row, statements_in}
 
 label_of : (v : ℕ) → ltb Sound.Label v ≡ false → IsLabel v
 label_of zero h = no_label

@@ -10,8 +10,8 @@ use Rattle.tables.specs.Class as Class
 use Rattle.tables.specs.Demand.{demand, fits}
 use Rattle.tables.specs.Kinds.{unlabelled, closed}
 use Rattle.tables.specs.Check.{class_of, begins_labelled, ends_single}
-use Rattle.tables.specs.Valid.Meets.Demands.{within, fits_up}
-use Rattle.tables.specs.Valid.Meets.Kids.{Fit, Kid}
+use Rattle.tables.proofs.Valid.Meets.Demands.{within, fits_up}
+use Rattle.tables.proofs.Valid.Meets.Kids.{Fit, Kid}
 
 -- an expression statement is of one that has a class
 abbrev some_child : Tree → Bool

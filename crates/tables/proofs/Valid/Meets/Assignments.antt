@@ -21,10 +21,10 @@ use Rattle.tables.specs.Kinds.{passes, unlabelled, closed}
 use Rattle.tables.specs.Sound.{top, exceeds, arity}
 use Rattle.tables.specs.Children.{value_in, first_tree, last_tree}
 use Rattle.tables.specs.Check.{name_given, function_form, group_mode, inner_mode, mode_of, class_of, begins_labelled, ends_single}
-use Rattle.tables.specs.Valid.Meets.Asked.{Function}
-use Rattle.tables.specs.Valid.Meets.Demands.{either, within}
-use Rattle.tables.specs.Valid.Meets.Kids.{Fit, two_fits, shaped}
-use Rattle.tables.specs.Valid.Meets.Met.{Met, by_class, told, suits, kid, ready, met}
+use Rattle.tables.proofs.Valid.Meets.Asked.{Function}
+use Rattle.tables.proofs.Valid.Meets.Demands.{either, within}
+use Rattle.tables.proofs.Valid.Meets.Kids.{Fit, two_fits, shaped}
+use Rattle.tables.proofs.Valid.Meets.Met.{Met, by_class, told, suits, kid, ready, met}
 
 -- the classes of an assignment
 by_assignment : (P : ℕ → Type 0) (v m : ℕ) → P Class.Tight → P Class.Local → P Class.Keyword → P Class.Given → P (assignment_class v m)

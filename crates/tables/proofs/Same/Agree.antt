@@ -8,7 +8,7 @@ use Rattle.tables.specs.Form.{Own, Modified, Targeted, Commas, Members, Suite, B
 use Rattle.tables.specs.Children.{last_tree, Each}
 use Rattle.tables.specs.Tokens.{first_token, later_first_token, second_token, third_token, between, first_after, after_token, behind_token, last_token, name_in, carried}
 use Rattle.tables.specs.Layout.{emit, opened, closed, form_of, text}
-use Rattle.tables.specs.Same.Depth.{taken}
+use Rattle.tables.proofs.Same.Depth.{taken}
 
 -- the table's number of a place
 abbrev pub number : Place → ℕ

@@ -14,9 +14,9 @@ use Rattle.tables.specs.Demand.{demand, fits}
 use Rattle.tables.specs.Kinds.{passes, unlabelled, closed}
 use Rattle.tables.specs.Sound.{top, exceeds, arity}
 use Rattle.tables.specs.Check.{class_of, begins_labelled, ends_single}
-use Rattle.tables.specs.Valid.Meets.Demands.{fits_between, by_fits}
-use Rattle.tables.specs.Valid.Meets.Kids.{Kid, none_fits, shaped}
-use Rattle.tables.specs.Valid.Meets.Met.{Met, by_class, by_its_class, positive, told, ready, met}
+use Rattle.tables.proofs.Valid.Meets.Demands.{fits_between, by_fits}
+use Rattle.tables.proofs.Valid.Meets.Kids.{Kid, none_fits, shaped}
+use Rattle.tables.proofs.Valid.Meets.Met.{Met, by_class, by_its_class, positive, told, ready, met}
 
 -- a missing child
 pub absent_met : {d : ℕ} {begin close : Bool} → fits d Class.Absent ≡ true → Met d begin close Node.absent

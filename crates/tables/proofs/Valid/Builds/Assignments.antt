@@ -24,10 +24,10 @@ use Rattle.tables.specs.Demand as Demand
 use Rattle.tables.specs.Demand.{assigned, inside}
 use Rattle.tables.specs.Children.{kind_in, value_in, children_in, first_tree, last_tree}
 use Rattle.tables.specs.Check.{class_of, function_form, name_given, group_mode, ends_single}
-use Rattle.tables.specs.Valid.Meets.Demands.{by_fits}
-use Rattle.tables.specs.Valid.Builds.Classes.{Ends, bound, as_atom, as_tight, as_plain, as_any, Expression, Any, Means, Kid, Rule, value_of, Named, tables}
-use Rattle.tables.specs.Valid.Builds.Roles.{any_of}
-use Rattle.tables.specs.Valid.Builds.Places.{same_kind, in_range, no_kid, any_class, at_class, any_in, plain_in, simple, exactly}
+use Rattle.tables.proofs.Valid.Meets.Demands.{by_fits}
+use Rattle.tables.proofs.Valid.Builds.Classes.{Ends, bound, as_atom, as_tight, as_plain, as_any, Expression, Any, Means, Kid, Rule, value_of, Named, tables}
+use Rattle.tables.proofs.Valid.Builds.Roles.{any_of}
+use Rattle.tables.proofs.Valid.Builds.Places.{same_kind, in_range, no_kid, any_class, at_class, any_in, plain_in, simple, exactly}
 
 -- an assignment's operator, 0 or 1 + it, has a token
 assign_codes : (n : ℕ) → n < 11 → assign_code (assign_token n) ≡ suc n

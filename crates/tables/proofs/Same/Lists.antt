@@ -16,8 +16,8 @@ use Rattle.tables.specs.Operators.{NoToken}
 use Rattle.tables.specs.Form.{Own, Commas, Members, Suite, Branches, Row, Leading, first_place, second_place, place_of, first_deeper, second_deeper, deeper}
 use Rattle.tables.specs.Tokens.{between, after_token}
 use Rattle.tables.specs.Layout.{emit, text, texts}
-use Rattle.tables.specs.Same.Depth.{taken, takens}
-use Rattle.tables.specs.Same.Agree.{number, Same, EachOwn, tables}
+use Rattle.tables.proofs.Same.Depth.{taken, takens}
+use Rattle.tables.proofs.Same.Agree.{number, Same, EachOwn, tables}
 
 -- members stand by themselves, as deep as the list
 member_place : (v m j : ℕ) → place_of NodeKind.List v m j ≡ Own

@@ -13,12 +13,12 @@ use Rattle.grammar.proofs.Laws.Roles.{has_target}
 use Rattle.tables.specs.Form.{Own}
 use Rattle.tables.specs.Operators.{NoToken}
 use Rattle.tables.specs.Layout.{text, within}
-use Rattle.tables.specs.Same.Depth.{within_taken}
+use Rattle.tables.proofs.Same.Depth.{within_taken}
 use Rattle.tables.specs.Children.{Each}
-use Rattle.tables.specs.Same.Agree.{depth_place, Same, EachOwn}
-use Rattle.tables.specs.Same.Lists.{suite_same, row_same, commas_same, members_same, branches_same, leading_same}
-use Rattle.tables.specs.Same.Nodes.{expression_same, loop_same, while_loop_same, for_loop_same, assert_same, continue_same, break_same, return_same, absent_same, stmt_list_same, expr_block_same, inner_same, conditional_branch_same, attribute_same, index_same, invoke_same, invoke_table_same, field_attribute_same, field_index_same, table_item_same, param_def_same, default_def_same, required_signature, default_signature, variadic_signature, identifier_pattern_same, attribute_pattern_same, index_pattern_same, tuple_pattern_same, pack_same, modifier_same}
-use Rattle.tables.specs.Same.Exprs.{Function, if_expr_same, primary_same, unary_op_same, binary_op_same, unpack_same, tuple_same, table_same, block_same, group_same, nil_same, empty_tuple_same, identifier_same, boolean_literal_same, integer_literal_same, float_literal_same, string_literal_same, assignment_same, target_same, function_def_same}
+use Rattle.tables.proofs.Same.Agree.{depth_place, Same, EachOwn}
+use Rattle.tables.proofs.Same.Lists.{suite_same, row_same, commas_same, members_same, branches_same, leading_same}
+use Rattle.tables.proofs.Same.Nodes.{expression_same, loop_same, while_loop_same, for_loop_same, assert_same, continue_same, break_same, return_same, absent_same, stmt_list_same, expr_block_same, inner_same, conditional_branch_same, attribute_same, index_same, invoke_same, invoke_table_same, field_attribute_same, field_index_same, table_item_same, param_def_same, default_def_same, required_signature, default_signature, variadic_signature, identifier_pattern_same, attribute_pattern_same, index_pattern_same, tuple_pattern_same, pack_same, modifier_same}
+use Rattle.tables.proofs.Same.Exprs.{Function, if_expr_same, primary_same, unary_op_same, binary_op_same, unpack_same, tuple_same, table_same, block_same, group_same, nil_same, empty_tuple_same, identifier_same, boolean_literal_same, integer_literal_same, float_literal_same, string_literal_same, assignment_same, target_same, function_def_same}
 
 -- by itself, and under a modifier
 abbrev Free : Tree → Type 0

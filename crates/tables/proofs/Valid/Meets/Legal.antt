@@ -20,15 +20,15 @@ use Rattle.tables.specs.Kinds.{passes, unlabelled, closed}
 use Rattle.tables.specs.Sound.{top, exceeds, arity}
 use Rattle.tables.specs.Children.{last_tree}
 use Rattle.tables.specs.Check.{group_mode, signature_mode, inner_mode, mode_of, class_of, begins_labelled, ends_single, legal_tree}
-use Rattle.tables.specs.Valid.Meets.Asked.{Primary, Param, Default, Known, asked, begin_of, close_of}
-use Rattle.tables.specs.Valid.Meets.Demands.{either, within, within_same}
-use Rattle.tables.specs.Valid.Meets.Kids.{Fit, Kid, shaped, none_fits, one_fits, two_fits, three_fits, name_range, label_range, named_range}
-use Rattle.tables.specs.Valid.Meets.Met.{Met, positive, told, wider, suits, kid, ready, met}
-use Rattle.tables.specs.Valid.Meets.Lists.{Mets, m_none, m_more, Listed, none_listed, some_listed, listed, list_kid, patterns, stmts, items, table_items, params, branches, operands, default, argument, exactly}
-use Rattle.tables.specs.Valid.Meets.Narrow.{absent_met, absent_kid, some_kind, stated, unassigned, untupled}
-use Rattle.tables.specs.Valid.Meets.Operators.{unary_range, assign_most, within_level, binary_met}
-use Rattle.tables.specs.Valid.Meets.Assignments.{assign_met, given_assign, given_other, function_met, given_target, let_target}
-use Rattle.tables.specs.Valid.Meets.Blocks.{plain_last, body_met, plain_block, control_block, result_block}
+use Rattle.tables.proofs.Valid.Meets.Asked.{Primary, Param, Default, Known, asked, begin_of, close_of}
+use Rattle.tables.proofs.Valid.Meets.Demands.{either, within, within_same}
+use Rattle.tables.proofs.Valid.Meets.Kids.{Fit, Kid, shaped, none_fits, one_fits, two_fits, three_fits, name_range, label_range, named_range}
+use Rattle.tables.proofs.Valid.Meets.Met.{Met, positive, told, wider, suits, kid, ready, met}
+use Rattle.tables.proofs.Valid.Meets.Lists.{Mets, m_none, m_more, Listed, none_listed, some_listed, listed, list_kid, patterns, stmts, items, table_items, params, branches, operands, default, argument, exactly}
+use Rattle.tables.proofs.Valid.Meets.Narrow.{absent_met, absent_kid, some_kind, stated, unassigned, untupled}
+use Rattle.tables.proofs.Valid.Meets.Operators.{unary_range, assign_most, within_level, binary_met}
+use Rattle.tables.proofs.Valid.Meets.Assignments.{assign_met, given_assign, given_other, function_met, given_target, let_target}
+use Rattle.tables.proofs.Valid.Meets.Blocks.{plain_last, body_met, plain_block, control_block, result_block}
 
 -- the receiver of a pattern: a primary, perhaps without a path
 receiver : {a : Tree} {f : Forest} → Met Demand.Atom false false a → Listed Demand.Items f → Met Demand.Receiver false false (Node.primary a f)

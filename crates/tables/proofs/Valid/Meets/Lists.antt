@@ -18,10 +18,10 @@ use Rattle.tables.specs.Kinds.{unlabelled, closed}
 use Rattle.tables.specs.Sound.{top, exceeds, sound}
 use Rattle.tables.specs.Children.{last_tree}
 use Rattle.tables.specs.Check.{inner_class, mode_of, class_of, ends_single, kids_fit, all_fit, all_fits}
-use Rattle.tables.specs.Valid.Meets.Asked.{Default, asked}
-use Rattle.tables.specs.Valid.Meets.Demands.{by_fits, within, within_same, fits_up}
-use Rattle.tables.specs.Valid.Meets.Kids.{Fit, Kid}
-use Rattle.tables.specs.Valid.Meets.Met.{Met, positive, no_list}
+use Rattle.tables.proofs.Valid.Meets.Asked.{Default, asked}
+use Rattle.tables.proofs.Valid.Meets.Demands.{by_fits, within, within_same, fits_up}
+use Rattle.tables.proofs.Valid.Meets.Kids.{Fit, Kid}
+use Rattle.tables.proofs.Valid.Meets.Met.{Met, positive, no_list}
 
 -- each tree meets the demand on it
 pub data Mets (d : Tree → ℕ) : Forest → Type 0 where

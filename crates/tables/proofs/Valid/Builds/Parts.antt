@@ -16,8 +16,8 @@ use Rattle.tables.specs.Demand.{defaults}
 use Rattle.tables.specs.Sound as Sound
 use Rattle.tables.specs.Children.{kind_in, count_in, last_tree}
 use Rattle.tables.specs.Check.{class_of, signature_mode}
-use Rattle.tables.specs.Valid.Builds.Classes.{Default, default, Signature, Body, open_body, plain_body, ended_body, Empty, empty_list, Only, only, Kid, Rule, tables}
-use Rattle.tables.specs.Valid.Builds.Places.{name_of, not_absent, in_range, no_kid, expr, stated, operand_in, missing_is, optional, either_class, exactly, body_class, Row, row, params_in}
+use Rattle.tables.proofs.Valid.Builds.Classes.{Default, default, Signature, Body, open_body, plain_body, ended_body, Empty, empty_list, Only, only, Kid, Rule, tables}
+use Rattle.tables.proofs.Valid.Builds.Places.{name_of, not_absent, in_range, no_kid, expr, stated, operand_in, missing_is, optional, either_class, exactly, body_class, Row, row, params_in}
 
 named_of : (v : ℕ) → ltb Sound.Named v ≡ false → IsNamed v
 named_of v h =
