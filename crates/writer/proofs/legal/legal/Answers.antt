@@ -8,7 +8,7 @@ use Rattle.writer.specs.Standing.{AtNode}
 use Rattle.writer.proofs.Laws.{at_many}
 use Rattle.writer.proofs.Places.{stands}
 use Rattle.writer.proofs.Keeping.{node_place}
-use Rattle.writer.proofs.Visits.{judged_not, going_start, next_node, next_bad, next_good, end_good}
+use Rattle.writer.proofs.Visits.{going_start, next_node, next_bad, next_good, end_good}
 use Rattle.writer.proofs.legal.legal.Goals.{After-count_at, In-loop-p}
 use Rattle.writer.proofs.legal.legal.Goals as goal
 
@@ -37,7 +37,7 @@ pub visit-r-requires : goal.visit-r-requires
 visit-r-requires c = looked_at (goal.at.visit-r-requires c).In-loop-p
 
 pub returns-in_default : goal.returns-in_default
-returns-in_default c = record { how = next_bad c.loop-p.invariant.0 c.loop-p-test.true c.visit-r.ensures (judged_not _ c.in-Fits.in-Fits-own.keys2) }
+returns-in_default c = record { how = next_bad c.loop-p.invariant.0 c.loop-p-test.true c.visit-r.ensures c.in_default.is }
 
 pub count_at-requires : goal.count_at-requires
 count_at-requires c = node_place (looked_at (goal.at.count_at-requires c).In-loop-p)

@@ -5,7 +5,7 @@ use Rattle.writer.proofs.Laws.{at_length}
 use Rattle.writer.proofs.Places.{stands}
 use Rattle.writer.proofs.Keeping.{node_place}
 use Rattle.writer.proofs.Validity.{node_unsound, node_sound}
-use Rattle.writer.proofs.Visits.{kids_not, kids_at, fit_begins, fit_items, class_found, entry_made}
+use Rattle.writer.proofs.Visits.{kids_at, fit_begins, fit_items, class_found, entry_made}
 use Rattle.writer.proofs.legal.visit.Goals.{Else-not-sound}
 use Rattle.writer.proofs.legal.visit.Goals as goal
 
@@ -33,7 +33,7 @@ pub mode_by-m-requires : goal.mode_by-m-requires
 mode_by-m-requires c = (c.requires, sound_node (goal.at.mode_by-m-requires c).Else-not-sound)
 
 pub returns-in_default : goal.returns-in_default
-returns-in_default c = record { how = λ t s a. node_sound t (c.kind_at-kind.ensures.how _ s (stands a)) (c.value_at-value.ensures.how _ s (stands a)) (c.count_at.ensures.how _ s (stands a)) (sym c.sound.ensures ∙ c.if-not-sound.false) (c.mode_by-m.ensures.how _ s (stands a)) ∙ kids_at c.kids_fit-r.ensures (kids_not _ c.in-Stand.in-Stand-own.keys2) t s a }
+returns-in_default c = record { how = λ t s a. node_sound t (c.kind_at-kind.ensures.how _ s (stands a)) (c.value_at-value.ensures.how _ s (stands a)) (c.count_at.ensures.how _ s (stands a)) (sym c.sound.ensures ∙ c.if-not-sound.false) (c.mode_by-m.ensures.how _ s (stands a)) ∙ kids_at c.kids_fit-r.ensures c.in_default.is t s a }
 
 pub serves_by-serves-requires : goal.serves_by-serves-requires
 serves_by-serves-requires c = (c.requires, sound_node (goal.at.serves_by-serves-requires c).Else-not-sound, c.mode_by-m.ensures, fit_begins c.kids_fit-r.ensures c.in-Stand.is, fit_items c.kids_fit-r.ensures c.in-Stand.is)

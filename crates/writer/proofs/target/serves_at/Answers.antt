@@ -47,3 +47,12 @@ returns-in-20 c = serves_arm c.kind_at.ensures c.in-20.is c.function_serves.ensu
 pub returns-in_default : goal.returns-in_default
 unfolding serves_as
 returns-in_default c = serves_arm c.kind_at.ensures refl (record { how = λ t s a. search tests })
+
+pub kid_of-requires-clause-somewhere : goal.kid_of-requires-clause-somewhere
+kid_of-requires-clause-somewhere c = some_place c.requires
+
+pub kid_of-requires-in-43-clause-somewhere : goal.kid_of-requires-in-43-clause-somewhere
+kid_of-requires-in-43-clause-somewhere c = some_place c.requires
+
+pub kid_of-requires-in-20-clause-somewhere : goal.kid_of-requires-in-20-clause-somewhere
+kid_of-requires-in-20-clause-somewhere c = some_place c.requires
