@@ -1,5 +1,5 @@
 -- The cycle of `writer::write_node`, the loop over a node's children from the last, and `writer::write_tree`, the loop along a chain of operators. Assumes nothing.
-use mathlib.Core.Path.{◌≡◌, refl}
+use mathlib.Core.Path.{refl}
 use mathlib.Core.List.{List, ◌∷◌, ◌++◌}
 use Prim.Native.Nat.{ℕ, ◌≤◌}
 use native.Mathlib.Omega.{arith}

@@ -35,7 +35,7 @@ module _ (c : Else-kind_at-ne-FUNCTION_DEF) where
 -- it serves
 module _ (c : Else-not-serves_of) where
   served : true ≡ serves (both (goal.at.Else-not-serves_of c).Else-kind_at-ne-FUNCTION_DEF).second ((both (goal.at.Else-not-serves_of c).Else-kind_at-ne-FUNCTION_DEF).first ∷ (both (goal.at.Else-not-serves_of c).Else-kind_at-ne-FUNCTION_DEF).rest)
-  served = sym (c.if-not-serves_of.false) ∙ c.serves_of.ensures.how _ _ (both (goal.at.Else-not-serves_of c).Else-kind_at-ne-FUNCTION_DEF).last
+  served = sym c.if-not-serves_of.false ∙ c.serves_of.ensures.how _ _ (both (goal.at.Else-not-serves_of c).Else-kind_at-ne-FUNCTION_DEF).last
 
 -- it was asked whether the first can be a target
 module _ (c : After-target_by) where
@@ -64,7 +64,7 @@ serves_of-requires c = two_last (pair (goal.at.serves_of-requires c).Start)
 
 pub returns-then-not-serves_of : goal.returns-then-not-serves_of
 returns-then-not-serves_of c = let y = both (goal.at.returns-then-not-serves_of c).Else-kind_at-ne-FUNCTION_DEF in
-    says_one y.here (form_is y.first y.second y.rest (function (goal.at.returns-then-not-serves_of c).Else-kind_at-ne-FUNCTION_DEF) (sym (c.if-not-serves_of.true) ∙ c.serves_of.ensures.how _ _ y.last) refl refl)
+    says_one y.here (form_is y.first y.second y.rest (function (goal.at.returns-then-not-serves_of c).Else-kind_at-ne-FUNCTION_DEF) (sym c.if-not-serves_of.true ∙ c.serves_of.ensures.how _ _ y.last) refl refl)
 
 pub overflow_sub-h-2 : goal.overflow_sub-h-2
 overflow_sub-h-2 c = omega (arith, two_room (pair (goal.at.overflow_sub-h-2 c).Start))
@@ -79,7 +79,7 @@ pub target_by-requires : goal.target_by-requires
 target_by-requires c = two_first (pair (goal.at.target_by-requires c).Start) c.begin_of-target.ensures
 
 pub returns-then-not-target_by : goal.returns-then-not-target_by
-returns-then-not-target_by c = by_name (goal.at.returns-then-not-target_by c).After-target_by (c.if-not-target_by.true) refl
+returns-then-not-target_by c = by_name (goal.at.returns-then-not-target_by c).After-target_by c.if-not-target_by.true refl
 
 pub overflow_sub-h-4 : goal.overflow_sub-h-4
 overflow_sub-h-4 c = omega (arith, two_room (pair (goal.at.overflow_sub-h-4 c).Start))
@@ -89,8 +89,8 @@ class_of-requires c = two_last (pair (goal.at.class_of-requires c).Start)
 
 pub returns-then-class_of-eq-NAMED : goal.returns-then-class_of-eq-NAMED
 returns-then-class_of-eq-NAMED c = let y = both (goal.at.returns-then-class_of-eq-NAMED c).Else-kind_at-ne-FUNCTION_DEF in
-    by_name (goal.at.returns-then-class_of-eq-NAMED c).After-target_by (c.if-not-target_by.false) (some_name y.second (function (goal.at.returns-then-class_of-eq-NAMED c).Else-kind_at-ne-FUNCTION_DEF) (c.class_of.ensures.how _ _ y.last) c.if-class_of-eq-NAMED.true)
+    by_name (goal.at.returns-then-class_of-eq-NAMED c).After-target_by c.if-not-target_by.false (some_name y.second (function (goal.at.returns-then-class_of-eq-NAMED c).Else-kind_at-ne-FUNCTION_DEF) (c.class_of.ensures.how _ _ y.last) c.if-class_of-eq-NAMED.true)
 
 pub returns : goal.returns
 returns c = let y = both (goal.at.returns c).Else-kind_at-ne-FUNCTION_DEF in
-    by_name (goal.at.returns c).After-target_by (c.if-not-target_by.false) (zero_name y.second (function (goal.at.returns c).Else-kind_at-ne-FUNCTION_DEF) (c.class_of.ensures.how _ _ y.last) c.if-class_of-eq-NAMED.false)
+    by_name (goal.at.returns c).After-target_by c.if-not-target_by.false (zero_name y.second (function (goal.at.returns c).Else-kind_at-ne-FUNCTION_DEF) (c.class_of.ensures.how _ _ y.last) c.if-class_of-eq-NAMED.false)

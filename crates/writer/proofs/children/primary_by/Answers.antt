@@ -46,7 +46,7 @@ serves_of-requires c = two_last (pair (goal.at.serves_of-requires c).Start)
 
 pub returns-then-not-serves_of : goal.returns-then-not-serves_of
 returns-then-not-serves_of c = let y = both (goal.at.returns-then-not-serves_of c).After-serves_of in
-    tells_one y.here (rw (path (goal.at.returns-then-not-serves_of c).After-serves_of (c.if-not-serves_of.true)) (sym (and-false (target_atom (head_kind (more y.first (more y.second none)))))))
+    tells_one y.here (rw (path (goal.at.returns-then-not-serves_of c).After-serves_of c.if-not-serves_of.true) (sym (and-false (target_atom (head_kind (more y.first (more y.second none)))))))
 
 pub overflow_sub-h-2 : goal.overflow_sub-h-2
 overflow_sub-h-2 c = omega (arith, two_room (pair (goal.at.overflow_sub-h-2 c).Start))
@@ -60,4 +60,4 @@ kind_at-requires-2 c = on_place (two_first (pair (goal.at.kind_at-requires-2 c).
 pub returns : goal.returns
 returns c = let y = both (goal.at.returns c).After-serves_of in
     let k = c.kind_at-2.ensures.how _ _ (stands (c.begin_of-atom.ensures.how _ _ y.last)) in
-    tells_one y.here (c.target_atom.ensures ∙ rw (path (goal.at.returns c).After-serves_of (c.if-not-serves_of.false), ← head_is (more y.first (more y.second none)), ← k) (sym (and-true _)))
+    tells_one y.here (c.target_atom.ensures ∙ rw (path (goal.at.returns c).After-serves_of c.if-not-serves_of.false, ← head_is (more y.first (more y.second none)), ← k) (sym (and-true _)))

@@ -1,5 +1,4 @@
 -- What the loops of `writer::legal::kids_fit` keep, and what falls. Assumes nothing.
-use Prim.Native.Nat.{◌-◌}
 use Rattle.writer.proofs.Walk.{Walk}
 use Rattle.writer.proofs.legal.kids_fit.Given as goal
 

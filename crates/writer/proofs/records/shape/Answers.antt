@@ -1,5 +1,4 @@
 -- `writer::records::shape` meets its contract. Assumes nothing.
-use Prim.Native.Nat.{◌-◌}
 use native.Mathlib.Omega.{arith}
 use Rattle.writer.proofs.Laws.{at_many}
 use Rattle.writer.proofs.Shaping.{shaping_start, shaping_bad, shaping_next, shaping_odd, shaping_end}

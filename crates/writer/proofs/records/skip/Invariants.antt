@@ -1,6 +1,6 @@
 -- What the loops of `writer::records::skip` keep, and what falls. Assumes nothing.
 use mathlib.Core.List.{List, ◌∷◌}
-use Prim.Native.Nat.{ℕ, ◌-◌}
+use Prim.Native.Nat.{ℕ}
 use Rattle.tree.specs.Tree.{Tree}
 use Rattle.writer.specs.Stack.{At}
 use Rattle.writer.proofs.Laws.{Over}

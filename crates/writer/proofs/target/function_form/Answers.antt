@@ -15,18 +15,18 @@ use Rattle.writer.proofs.target.function_form.Goals as goal
 
 -- the target, of the function whose signature has the name that was found
 module _ (c : After-value_at-name) where
-  function-behind : Behind c.args.records.now c.args.p c.skip-target.result c.value_at-name.result
-  function-behind =
+  function_behind : Behind c.args.records.now c.args.p c.skip-target.result c.value_at-name.result
+  function_behind =
       behind c.kid_of-function.ensures c.kid_of-signature.ensures c.kind_at.ensures c.if-kind_at-ne-FUNCTION_DEF.false c.if-signature-eq0.false c.skip-target.ensures c.value_at-name.ensures
 
   found_target : Somewhere c.args.records.now c.skip-target.result
-  found_target = target_place function-behind c.requires
+  found_target = target_place function_behind c.requires
 
 -- the name is the target's: then by whether there is one, and by whether the target can be one
 module _ (c : After-is_target) where
-  by-target : {a z : Bool} → a ≡ c.is_target.result → z ≡ eqb c.value_at-name.result 0 → Says c.args.records.now c.args.p (λ m. function_form (children_in m)) (cond a (cond z 1 2) 0)
-  by-target =
-      named (function-behind (goal.at.After-is_target c).After-value_at-name) c.gives_name_at.ensures (c.if-not-gives_name_at.false) c.is_target.ensures
+  by_target : {a z : Bool} → a ≡ c.is_target.result → z ≡ eqb c.value_at-name.result 0 → Says c.args.records.now c.args.p (λ m. function_form (children_in m)) (cond a (cond z 1 2) 0)
+  by_target =
+      named (function_behind (goal.at.After-is_target c).After-value_at-name) c.gives_name_at.ensures c.if-not-gives_name_at.false c.is_target.ensures
 
 pub returns-then-kind_at-ne-FUNCTION_DEF : goal.returns-then-kind_at-ne-FUNCTION_DEF
 unfolding function_form
@@ -41,16 +41,16 @@ pub gives_name_at-requires : goal.gives_name_at-requires
 gives_name_at-requires c = found_target (goal.at.gives_name_at-requires c).After-value_at-name
 
 pub returns-then-not-gives_name_at : goal.returns-then-not-gives_name_at
-returns-then-not-gives_name_at c = unnamed (function-behind (goal.at.returns-then-not-gives_name_at c).After-value_at-name) c.gives_name_at.ensures (c.if-not-gives_name_at.true)
+returns-then-not-gives_name_at c = unnamed (function_behind (goal.at.returns-then-not-gives_name_at c).After-value_at-name) c.gives_name_at.ensures c.if-not-gives_name_at.true
 
 pub is_target-requires : goal.is_target-requires
 is_target-requires c = found_target (goal.at.is_target-requires c).After-value_at-name
 
 pub returns-then-not-is_target : goal.returns-then-not-is_target
-returns-then-not-is_target c = by-target (goal.at.returns-then-not-is_target c).After-is_target (sym (c.if-not-is_target.true)) refl
+returns-then-not-is_target c = by_target (goal.at.returns-then-not-is_target c).After-is_target (sym c.if-not-is_target.true) refl
 
 pub returns-then-name-eq0 : goal.returns-then-name-eq0
-returns-then-name-eq0 c = by-target (goal.at.returns-then-name-eq0 c).After-is_target (sym (c.if-not-is_target.false)) (sym (eq-eqb _ _ c.if-name-eq0.true))
+returns-then-name-eq0 c = by_target (goal.at.returns-then-name-eq0 c).After-is_target (sym c.if-not-is_target.false) (sym (eq-eqb _ _ c.if-name-eq0.true))
 
 pub returns : goal.returns
-returns c = by-target (goal.at.returns c).After-is_target (sym (c.if-not-is_target.false)) (sym (ne_eqb _ _ c.if-name-eq0.false))
+returns c = by_target (goal.at.returns c).After-is_target (sym c.if-not-is_target.false) (sym (ne_eqb _ _ c.if-name-eq0.false))
