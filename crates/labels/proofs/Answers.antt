@@ -10,7 +10,7 @@ use Rattle.tree.specs.Decode.{decode}
 use Rattle.grammar.specs.Reading.Limit.{no_statement}
 use Rattle.grammar.specs.Reading.Result.{ifb}
 use Rattle.tables.specs.Check.{legal_tree}
-use Rattle.tables.specs.Answer.{readable_is}
+use Rattle.tables.proofs.Answer.{readable_is}
 use Rattle.writer.specs.Stack.{At}
 use Rattle.writer.proofs.Entry.{at_small}
 use Rattle.labels.specs.declared.Labels.TheVariants.{Refused}

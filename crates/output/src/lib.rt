@@ -1,4 +1,6 @@
 // The text at the output's end: its move to the front, and what is answered of it.
+#![tactic(auto)]
+
 ghost use Rattle.std.specs.Prelude.{◌≡◌, ◌++◌, ◌≤◌, length, drop, replicate, get_or};
 ghost use Rattle.output.specs.Text.{Held, Fronted};
 

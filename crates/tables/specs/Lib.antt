@@ -8,8 +8,5 @@ pub mod Sound
 pub mod Tokens
 pub mod Children
 pub mod Check
-pub mod Valid
 pub mod Layout
-pub mod Same
 pub mod Answer
-pub mod Examples

@@ -1,6 +1,5 @@
--- The operators by the numbers that records hold, and the range of their levels. The tokens of the numbers are the crate operator's. Assumes nothing.
-use Rattle.std.specs.Prelude.{ℕ, ◌≤◌, eqb}
-use Rattle.std.proofs.Common.{arith}
+-- The operators by the numbers that records hold, and the number of their levels. The tokens of the numbers are the crate operator's. Definitions; they assume nothing.
+use Rattle.std.specs.Prelude.{ℕ, eqb}
 use Rattle.operator.specs.Operator.{precedence_level, no_token, level_count}
 use Rattle.operator.specs.declared.BinaryOp.{BinaryOp}
 use Rattle.operator.specs.declared.BinaryOp.TheVariants.{Mul, Div, Mod, Add, Sub, LShift, RShift, BitAnd, BitXor, BitOr, LT, GT, LE, GE, EQ, NE, And, Or}
@@ -40,28 +39,3 @@ binary_of number =
 -- from 1, the tightest, to the number of levels
 unfoldable pub level : ℕ → ℕ
 level number = precedence_level (binary_of number)
-
--- every level is in range
-op_range : (op : BinaryOp) → (1 ≤ precedence_level op) × (precedence_level op ≤ Levels)
-op_range Mul = omega arith
-op_range Div = omega arith
-op_range Mod = omega arith
-op_range Add = omega arith
-op_range Sub = omega arith
-op_range LShift = omega arith
-op_range RShift = omega arith
-op_range BitAnd = omega arith
-op_range BitXor = omega arith
-op_range BitOr = omega arith
-op_range LT = omega arith
-op_range GT = omega arith
-op_range LE = omega arith
-op_range GE = omega arith
-op_range EQ = omega arith
-op_range NE = omega arith
-op_range And = omega arith
-op_range Or = omega arith
-
-pub level_range : (number : ℕ) → (1 ≤ level number) × (level number ≤ Levels)
-unfolding level
-level_range number = op_range (binary_of number)

@@ -1,1 +1,2 @@
-// Definitions and theorems only, in specs/: the tables by which the writer decides and writes, and that they say what the crate grammar's definitions say.
+// Definitions in specs/ and theorems in proofs/ only: the tables by which the writer decides and writes, and that they say what the crate grammar's definitions say.
+#![tactic(auto)]

@@ -12,7 +12,8 @@ use Rattle.grammar.specs.Reading.Limit.{no_statement}
 use Rattle.grammar.specs.Canonical.Writing.{bare, write_stmt}
 use Rattle.grammar.specs.declared.Written.TheVariants.{Refused}
 use Rattle.tables.specs.Check.{legal_tree}
-use Rattle.tables.specs.Answer.{run_out, illegal_tree, legal_run}
+use Rattle.tables.specs.Answer.{run_out}
+use Rattle.tables.proofs.Answer.{illegal_tree, legal_run}
 use Rattle.writer.specs.Stack.{At, ShapeAs, Shape}
 
 -- what the shape says

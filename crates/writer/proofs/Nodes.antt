@@ -12,7 +12,7 @@ use Rattle.tree.specs.Maybe.{just}
 use Rattle.tree.specs.Records.{back}
 use Rattle.tables.specs.Form.{place_of, base, deeper}
 use Rattle.tables.specs.Layout.{form_of, text, texts, within, withins, emit, opened, closed}
-use Rattle.tables.specs.Same.Depth.{deeper_base}
+use Rattle.tables.proofs.Same.Depth.{deeper_base}
 use Rattle.writer.specs.Post.{StepAs, WroteTree}
 use Rattle.writer.specs.Stack.{At, Says}
 use Rattle.tables.specs.Children.{kind_in, value_in, children_in}

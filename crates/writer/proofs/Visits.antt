@@ -17,9 +17,7 @@ use Rattle.tables.specs.Class.{class}
 use Rattle.tables.specs.Children.{kind_in, value_in, children_in}
 use Rattle.tables.specs.Check.{class_of, mode_of, begins_labelled, legal_tree}
 use Rattle.writer.specs.declared.legal.Children.{Children}
-use Rattle.writer.specs.declared.legal.Children.TheVariants as Children
 use Rattle.writer.specs.declared.legal.Judged.{Judged}
-use Rattle.writer.specs.declared.legal.Judged.TheVariants as Judged
 use Rattle.writer.specs.Stack.{At, Skipped}
 use Rattle.writer.specs.Standing.{serves, no_word, far, word, entry, Entry, Kept, On, AtNode, Keeps, Tells}
 use Rattle.writer.specs.Verdict.{First, Items, KidsFitAs, KidsFit, VisitedAs, Visited, Whole}

@@ -14,7 +14,6 @@ use Rattle.tables.specs.Kinds.{target_item}
 use Rattle.tables.specs.Demand.{demand}
 use Rattle.tables.specs.Check.{kids_fit}
 use Rattle.writer.specs.declared.legal.Children.{Children}
-use Rattle.writer.specs.declared.legal.Children.TheVariants as Children
 use Rattle.writer.specs.Stack.{At, Skipped}
 use Rattle.writer.specs.Standing.{Kept, On, AtNode, Tells}
 use Rattle.writer.specs.Verdict.{KidFits, FirstAs, KidsFitAs, KidsFit}

@@ -4,11 +4,8 @@ use Rattle.tree.specs.Tree.{Tree, Forest, none, more}
 use Rattle.tree.specs.Maybe.{just}
 use Rattle.grammar.specs.Canonical.Write.{target_items}
 use Rattle.writer.specs.declared.target.Fitting.{Fitting}
-use Rattle.writer.specs.declared.target.Fitting.TheVariants as Fitting
 use Rattle.writer.specs.declared.legal.Children.{Children}
-use Rattle.writer.specs.declared.legal.Children.TheVariants as Children
 use Rattle.writer.specs.declared.legal.Judged.{Judged}
-use Rattle.writer.specs.declared.legal.Judged.TheVariants as Judged
 use Rattle.tables.specs.Children.{kind_in, value_in, children_in}
 use Rattle.tables.specs.Demand.{fits}
 use Rattle.tables.specs.Check.{class_of, banned, kids_fit, node_fits, legal_tree}

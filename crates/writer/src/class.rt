@@ -97,6 +97,7 @@ pub const ARGUMENT: u64 = 52;
 // No place takes it.
 pub const NOTHING: u64 = 99;
 
+#[tactic(auto, unfolding(tables::specs::Class::binary_class))]
 fn binary_class(value: u64) -> u64
     ensures { result ≡ binary_class_def value }
 {
@@ -104,6 +105,7 @@ fn binary_class(value: u64) -> u64
 }
 
 // An assignment by its own keyword.
+#[tactic(auto, unfolding(tables::specs::Class::keyword_class))]
 fn keyword_class(value: u64) -> u64
     ensures { result ≡ keyword_class_def value }
 {
@@ -111,6 +113,7 @@ fn keyword_class(value: u64) -> u64
 }
 
 // One that `fun` with a target gives, and the signature has the target's name: `let` by itself, the others only under a group's modifier.
+#[tactic(auto, unfolding(tables::specs::Class::named_class))]
 fn named_class(value: u64) -> u64
     ensures { result ≡ named_class_def value }
 {
@@ -124,6 +127,7 @@ fn named_class(value: u64) -> u64
 }
 
 // An assignment with the mode that function_form gives.
+#[tactic(auto, unfolding(tables::specs::Class::assignment_class))]
 fn assignment_class(value: u64, mode: u64) -> u64
     ensures { result ≡ assignment_class_def value mode }
 {
@@ -134,6 +138,7 @@ fn assignment_class(value: u64, mode: u64) -> u64
     }
 }
 
+#[tactic(auto, unfolding(tables::specs::Class::body_class))]
 fn body_class(mode: u64) -> u64
     ensures { result ≡ body_class_def mode }
 {
@@ -145,6 +150,7 @@ fn body_class(mode: u64) -> u64
 }
 
 // Atoms, access items and patterns.
+#[tactic(auto, unfolding(tables::specs::Class::later_class))]
 fn later_class(kind: u64) -> u64
     ensures { result ≡ later_class_def kind }
 {
@@ -160,6 +166,7 @@ fn later_class(kind: u64) -> u64
     NOTHING
 }
 
+#[tactic(auto, unfolding(tables::specs::Class::class))]
 pub fn class(kind: u64, value: u64, mode: u64) -> u64
     ensures { result ≡ class_def kind value mode }
 {
@@ -198,6 +205,7 @@ pub fn class(kind: u64, value: u64, mode: u64) -> u64
 }
 
 // A list of n defaults: of these there is one at most.
+#[tactic(auto, unfolding(tables::specs::Class::default_list))]
 fn default_list(n: u64) -> u64
     ensures { result ≡ default_list_def n }
 {
@@ -208,6 +216,7 @@ fn default_list(n: u64) -> u64
 }
 
 // A list of n members that are no expressions, the last one of the class c.
+#[tactic(auto, unfolding(tables::specs::Class::plain_list))]
 fn plain_list(n: u64, c: u64) -> u64
     ensures { result ≡ plain_list_def n c }
 {
@@ -221,6 +230,7 @@ fn plain_list(n: u64, c: u64) -> u64
 }
 
 // A list of one expression that is no operand.
+#[tactic(auto, unfolding(tables::specs::Class::argument_list))]
 fn argument_list(c: u64) -> u64
     ensures { result ≡ argument_list_def c }
 {
@@ -232,6 +242,7 @@ fn argument_list(c: u64) -> u64
 }
 
 // A list of n members, the last one of the class c.
+#[tactic(auto, unfolding(tables::specs::Class::list_class))]
 pub fn list_class(n: u64, c: u64) -> u64
     ensures { result ≡ list_class_def n c }
 {

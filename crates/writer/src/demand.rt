@@ -88,6 +88,7 @@ const BRANCHES: u64 = 101 * (class::LISTS + class::BRANCH);
 const PATTERNS: u64 = 101 * (class::LISTS + class::PATTERN);
 
 // What a list of a class demands of its members: their class.
+#[tactic(auto, unfolding(tables::specs::Demand::of_members))]
 fn of_members(list: u64) -> u64
     ensures { result ≡ of_members_def list }
 {
@@ -107,12 +108,14 @@ fn of_members(list: u64) -> u64
 }
 
 // An operator's left side is of its own level or tighter, its right side tighter.
+#[tactic(auto, unfolding(tables::specs::Demand::left_side))]
 fn left_side(value: u64) -> u64
     ensures { result ≡ left_side_def value }
 {
     100 * level(value) + UNARY
 }
 
+#[tactic(auto, unfolding(tables::specs::Demand::right_side))]
 fn right_side(value: u64) -> u64
     ensures { result ≡ right_side_def value }
 {
@@ -120,6 +123,7 @@ fn right_side(value: u64) -> u64
 }
 
 // An assignment's right side has a name where `fun` with the target can give it.
+#[tactic(auto, unfolding(tables::specs::Demand::assigned))]
 fn assigned(value: u64, mode: u64) -> u64
     ensures { result ≡ assigned_def value mode }
 {
@@ -133,6 +137,7 @@ fn assigned(value: u64, mode: u64) -> u64
 }
 
 // Inside a group, whose mode is 0 or 1 + the action of the assignment in it.
+#[tactic(auto, unfolding(tables::specs::Demand::inside))]
 fn inside(value: u64, mode: u64) -> u64
     ensures { result ≡ inside_def value mode }
 {
@@ -149,6 +154,7 @@ fn inside(value: u64, mode: u64) -> u64
 }
 
 // A default and a variadic parameter, mode 3, don't stand together.
+#[tactic(auto, unfolding(tables::specs::Demand::defaults))]
 fn defaults(mode: u64) -> u64
     ensures { result ≡ defaults_def mode }
 {
@@ -158,6 +164,7 @@ fn defaults(mode: u64) -> u64
     DEFAULTS
 }
 
+#[tactic(auto, unfolding(tables::specs::Demand::first_demand))]
 fn first_demand(kind: u64, value: u64, mode: u64) -> u64
     ensures { result ≡ first_demand_def kind value mode }
 {
@@ -199,6 +206,7 @@ fn first_demand(kind: u64, value: u64, mode: u64) -> u64
     }
 }
 
+#[tactic(auto, unfolding(tables::specs::Demand::second_demand))]
 fn second_demand(kind: u64, value: u64, mode: u64) -> u64
     ensures { result ≡ second_demand_def kind value mode }
 {
@@ -220,6 +228,7 @@ fn second_demand(kind: u64, value: u64, mode: u64) -> u64
     }
 }
 
+#[tactic(auto, unfolding(tables::specs::Demand::third_demand))]
 fn third_demand(kind: u64) -> u64
     ensures { result ≡ third_demand_def kind }
 {
@@ -231,6 +240,7 @@ fn third_demand(kind: u64) -> u64
 }
 
 // What a node demands of its child number j.
+#[tactic(auto, unfolding(tables::specs::Demand::demand))]
 pub fn demand(kind: u64, value: u64, mode: u64, j: u64) -> u64
     ensures { result ≡ demand_def kind value mode j }
 {
@@ -245,6 +255,7 @@ pub fn demand(kind: u64, value: u64, mode: u64, j: u64) -> u64
 }
 
 // Whether a class meets a demand.
+#[tactic(auto, unfolding(tables::specs::Demand::fits))]
 pub fn fits(demand: u64, class: u64) -> bool
     ensures { result ≡ fits_def demand class }
 {

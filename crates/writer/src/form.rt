@@ -34,6 +34,7 @@ pub const LEADING: u64 = 8;
 pub const FUN: u64 = 9;
 
 // Whether `fun` gives an assignment's action at its place: `let`, or that of the group around it.
+#[tactic(auto, unfolding(tables::specs::Form::fun_gives))]
 pub fn fun_gives(place: u64, value: u64) -> bool
     ensures { result ≡ fun_gives_def place value }
 {
@@ -44,6 +45,7 @@ pub fn fun_gives(place: u64, value: u64) -> bool
     }
 }
 
+#[tactic(auto, unfolding(tables::specs::Form::first_place))]
 fn first_place(kind: u64, value: u64, form: u64) -> u64
     ensures { result ≡ first_place_def kind value form }
 {
@@ -61,6 +63,7 @@ fn first_place(kind: u64, value: u64, form: u64) -> u64
     }
 }
 
+#[tactic(auto, unfolding(tables::specs::Form::second_place))]
 fn second_place(kind: u64, form: u64) -> u64
     ensures { result ≡ second_place_def kind form }
 {
@@ -73,6 +76,7 @@ fn second_place(kind: u64, form: u64) -> u64
 }
 
 // The place of the child number j, from 1.
+#[tactic(auto, unfolding(tables::specs::Form::place_of))]
 pub fn place_of(kind: u64, value: u64, form: u64, j: u64) -> u64
     ensures { result ≡ place_of_def kind value form j }
 {
@@ -84,6 +88,7 @@ pub fn place_of(kind: u64, value: u64, form: u64, j: u64) -> u64
 }
 
 // The depth that a node takes at least.
+#[tactic(auto, unfolding(tables::specs::Form::base))]
 pub fn base(kind: u64) -> u64
     ensures { result ≡ base_def kind }
 {
@@ -114,6 +119,7 @@ pub fn base(kind: u64) -> u64
     }
 }
 
+#[tactic(auto, unfolding(tables::specs::Form::first_deeper))]
 fn first_deeper(kind: u64, form: u64) -> u64
     ensures { result ≡ first_deeper_def kind form }
 {
@@ -135,6 +141,7 @@ fn first_deeper(kind: u64, form: u64) -> u64
     }
 }
 
+#[tactic(auto, unfolding(tables::specs::Form::second_deeper))]
 fn second_deeper(kind: u64, form: u64) -> u64
     ensures { result ≡ second_deeper_def kind form }
 {
@@ -150,6 +157,7 @@ fn second_deeper(kind: u64, form: u64) -> u64
 }
 
 // How much deeper the child number j is: never more than the node's base.
+#[tactic(auto, unfolding(tables::specs::Form::deeper))]
 pub fn deeper(kind: u64, form: u64, j: u64) -> u64
     ensures { result ≡ deeper_def kind form j }
 {

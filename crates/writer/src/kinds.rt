@@ -21,6 +21,7 @@ pub fn target_atom(kind: u64) -> bool
 }
 
 // A path of members and indexes goes on a target.
+#[tactic(auto, unfolding(tables::specs::Kinds::target_item))]
 pub fn target_item(kind: u64) -> bool
     ensures { result ≡ target_item_def kind }
 {
@@ -32,6 +33,7 @@ pub fn target_item(kind: u64) -> bool
 }
 
 // Whether a signature's name, 0 or 1 + it, is 1 + this one.
+#[tactic(auto, unfolding(tables::specs::Kinds::name_is))]
 fn name_is(value: u64, name: u64) -> bool
     ensures { result ≡ name_is_def value name }
 {
@@ -42,6 +44,7 @@ fn name_is(value: u64, name: u64) -> bool
 }
 
 // Whether a signature's name, 0 or 1 + it, is the one that a target of this kind and value gives.
+#[tactic(auto, unfolding(tables::specs::Kinds::gives_name))]
 pub fn gives_name(kind: u64, value: u64, name: u64) -> bool
     ensures { result ≡ gives_name_def kind value name }
 {
@@ -52,6 +55,7 @@ pub fn gives_name(kind: u64, value: u64, name: u64) -> bool
 }
 
 // Whether a node begins with its first child, where a label could be the first token.
+#[tactic(auto, unfolding(tables::specs::Kinds::passes))]
 pub fn passes(kind: u64) -> bool
     ensures { result ≡ passes_def kind }
 {
@@ -64,6 +68,7 @@ pub fn passes(kind: u64) -> bool
 }
 
 // Whether the children of a node may not begin with a label: what begins a statement, and the value of a break without one.
+#[tactic(auto, unfolding(tables::specs::Kinds::unlabelled))]
 pub fn unlabelled(kind: u64, value: u64) -> bool
     ensures { result ≡ unlabelled_def kind value }
 {
@@ -76,6 +81,7 @@ pub fn unlabelled(kind: u64, value: u64) -> bool
 }
 
 // Whether a child of the node may end in a tuple of one member: `)` comes behind it, or it is the node's own parent that decides.
+#[tactic(auto, unfolding(tables::specs::Kinds::closed))]
 pub fn closed(kind: u64) -> bool
     ensures { result ≡ closed_def kind }
 {

@@ -1,4 +1,6 @@
 // The writer of canonical tokens: a statement's records in, its tokens' words out.
+#![tactic(auto)]
+
 ghost use Rattle.std.specs.Prelude.{length};
 ghost use Rattle.grammar.specs.Contract.{Writes};
 ghost use Rattle.output.specs.Text.{Held};

@@ -15,6 +15,7 @@ pub const LEVELS: u64 = PRECEDENCE_START;
 
 pub const LAST_BINARY: u64 = 17;
 
+#[tactic(auto, unfolding(tables::specs::Operators::binary_of))]
 fn binary_of(number: u64) -> BinaryOp
     ensures { result ≡ binary_of_def number }
 {
@@ -41,12 +42,14 @@ fn binary_of(number: u64) -> BinaryOp
 }
 
 // From 1, the tightest, to LEVELS.
+#[tactic(auto, unfolding(tables::specs::Operators::level))]
 pub fn level(number: u64) -> u64
     ensures { result ≡ level_def number }
 {
     precedence_level(binary_of(number))
 }
 
+#[tactic(auto, unfolding(operator::specs::Operator::op_token))]
 pub fn op_token(number: u64) -> u64
     ensures { result ≡ op_token_def number }
 {
@@ -73,6 +76,7 @@ pub fn op_token(number: u64) -> u64
     }
 }
 
+#[tactic(auto, unfolding(operator::specs::Operator::unary_token))]
 pub fn unary_token(number: u64) -> u64
     ensures { result ≡ unary_token_def number }
 {
@@ -86,6 +90,7 @@ pub fn unary_token(number: u64) -> u64
 }
 
 // An assignment's token: the plain one, or at 1 + a binary operator's number the one with that operator.
+#[tactic(auto, unfolding(operator::specs::Operator::assign_token))]
 pub fn assign_token(place: u64) -> u64
     ensures { result ≡ assign_token_def place }
 {

@@ -15,6 +15,7 @@ const LABEL: u64 = 4294967296;
 const NAMED: u64 = 8589934591;
 
 // The largest value that a record of a kind has, where there is one.
+#[tactic(auto, unfolding(tables::specs::Sound::top))]
 fn top(kind: u64) -> u64
     ensures { result ≡ top_def kind }
 {
@@ -44,6 +45,7 @@ fn top(kind: u64) -> u64
 }
 
 // Whether a value is too large for its kind. A signature's name is compared with its target's, and the bits of a number may be any.
+#[tactic(auto, unfolding(tables::specs::Sound::exceeds))]
 fn exceeds(kind: u64, value: u64) -> bool
     ensures { result ≡ exceeds_def kind value }
 {
@@ -56,6 +58,7 @@ fn exceeds(kind: u64, value: u64) -> bool
 }
 
 // How many children a node of a kind has, lists aside.
+#[tactic(auto, unfolding(tables::specs::Sound::arity))]
 fn arity(kind: u64) -> u64
     ensures { result ≡ arity_def kind }
 {
@@ -91,6 +94,7 @@ fn arity(kind: u64) -> u64
 }
 
 // Whether a record of a node with n children has numbers of its kind's range.
+#[tactic(auto, unfolding(tables::specs::Sound::sound))]
 pub fn sound(kind: u64, value: u64, n: u64) -> bool
     ensures { result ≡ sound_def kind value n }
 {

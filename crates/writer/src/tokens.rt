@@ -8,6 +8,7 @@ use crate::operators::{NO_TOKEN, assign_token, keyword_of, op_token, unary_token
 use token::kind;
 use tree::node;
 
+#[tactic(auto, unfolding(tables::specs::Tokens::label_token))]
 fn label_token(value: u64) -> u64
     ensures { result ≡ label_token_def value }
 {
@@ -15,6 +16,7 @@ fn label_token(value: u64) -> u64
 }
 
 // A name's access, where read-only has no keyword.
+#[tactic(auto, unfolding(tables::specs::Tokens::access_token))]
 fn access_token(value: u64) -> u64
     ensures { result ≡ access_token_def value }
 {
@@ -22,6 +24,7 @@ fn access_token(value: u64) -> u64
 }
 
 // A group's modifier, 0 or 1 + its action.
+#[tactic(auto, unfolding(tables::specs::Tokens::modifier_token))]
 fn modifier_token(value: u64) -> u64
     ensures { result ≡ modifier_token_def value }
 {
@@ -32,6 +35,7 @@ fn modifier_token(value: u64) -> u64
 }
 
 // What an assignment begins with: `fun`, or its keyword where it stands by itself and its action has one.
+#[tactic(auto, unfolding(tables::specs::Tokens::assignment_token))]
 fn assignment_token(value: u64, form: u64) -> u64
     ensures { result ≡ assignment_token_def value form }
 {
@@ -45,6 +49,7 @@ fn assignment_token(value: u64, form: u64) -> u64
 }
 
 // The first token before the children, of atoms, access items and patterns.
+#[tactic(auto, unfolding(tables::specs::Tokens::later_first_token))]
 fn later_first_token(kind: u64, value: u64, form: u64) -> u64
     ensures { result ≡ later_first_token_def kind value form }
 {
@@ -70,6 +75,7 @@ fn later_first_token(kind: u64, value: u64, form: u64) -> u64
 }
 
 // The same of any kind.
+#[tactic(auto, unfolding(tables::specs::Tokens::first_token))]
 pub fn first_token(kind: u64, value: u64, form: u64) -> u64
     ensures { result ≡ first_token_def kind value form }
 {
@@ -97,6 +103,7 @@ pub fn first_token(kind: u64, value: u64, form: u64) -> u64
 }
 
 // The second token before the children.
+#[tactic(auto, unfolding(tables::specs::Tokens::second_token))]
 pub fn second_token(kind: u64, value: u64) -> u64
     ensures { result ≡ second_token_def kind value }
 {
@@ -119,6 +126,7 @@ pub fn second_token(kind: u64, value: u64) -> u64
 }
 
 // The third one: behind a default's name.
+#[tactic(auto, unfolding(tables::specs::Tokens::third_token))]
 pub fn third_token(kind: u64) -> u64
     ensures { result ≡ third_token_def kind }
 {
@@ -126,6 +134,7 @@ pub fn third_token(kind: u64) -> u64
 }
 
 // The token behind the member number j of n of a list.
+#[tactic(auto, unfolding(tables::specs::Tokens::between))]
 fn between(form: u64, n: u64, j: u64) -> u64
     ensures { result ≡ between_def form n j }
 {
@@ -139,6 +148,7 @@ fn between(form: u64, n: u64, j: u64) -> u64
     }
 }
 
+#[tactic(auto, unfolding(tables::specs::Tokens::assigns))]
 fn assigns(value: u64, form: u64) -> u64
     ensures { result ≡ assigns_def value form }
 {
@@ -146,6 +156,7 @@ fn assigns(value: u64, form: u64) -> u64
 }
 
 // The token behind the first child of a node that is no list.
+#[tactic(auto, unfolding(tables::specs::Tokens::first_after))]
 fn first_after(kind: u64, value: u64, form: u64) -> u64
     ensures { result ≡ first_after_def kind value form }
 {
@@ -163,6 +174,7 @@ fn first_after(kind: u64, value: u64, form: u64) -> u64
 }
 
 // The token behind the child number j of n.
+#[tactic(auto, unfolding(tables::specs::Tokens::after_token))]
 pub fn after_token(kind: u64, value: u64, form: u64, n: u64, j: u64) -> u64
     ensures { result ≡ after_token_def kind value form n j }
 {
@@ -177,6 +189,7 @@ pub fn after_token(kind: u64, value: u64, form: u64, n: u64, j: u64) -> u64
 }
 
 // The first token behind all children.
+#[tactic(auto, unfolding(tables::specs::Tokens::behind_token))]
 pub fn behind_token(kind: u64, form: u64) -> u64
     ensures { result ≡ behind_token_def kind form }
 {
@@ -206,6 +219,7 @@ pub fn behind_token(kind: u64, form: u64) -> u64
 }
 
 // The last token behind all children.
+#[tactic(auto, unfolding(tables::specs::Tokens::last_token))]
 pub fn last_token(kind: u64) -> u64
     ensures { result ≡ last_token_def kind }
 {
@@ -218,6 +232,7 @@ pub fn last_token(kind: u64) -> u64
 }
 
 // A name in a node's value: with its access in parameters and fields.
+#[tactic(auto, unfolding(tables::specs::Tokens::name_in))]
 fn name_in(kind: u64, value: u64) -> u64
     ensures { result ≡ name_in_def kind value }
 {
@@ -229,6 +244,7 @@ fn name_in(kind: u64, value: u64) -> u64
     }
 }
 
+#[tactic(auto, unfolding(tables::specs::Tokens::label_in))]
 fn label_in(value: u64) -> u64
     ensures { result ≡ label_in_def value }
 {
@@ -239,6 +255,7 @@ fn label_in(value: u64) -> u64
 }
 
 // The value of a token of a node.
+#[tactic(auto, unfolding(tables::specs::Tokens::carried))]
 pub fn carried(kind: u64, value: u64, token: u64) -> u64
     ensures { result ≡ carried_def kind value token }
 {

@@ -1,0 +1,40 @@
+-- What the loops of the cycle `writer::write_node` and `writer::write_tree` keep, and what falls along its calls. Assumes nothing.
+use mathlib.Core.Path.{◌≡◌}
+use mathlib.Core.List.{List, ◌∷◌}
+use Prim.Native.Nat.{ℕ, ◌+◌, ◌*◌}
+use lib.ListN.{length}
+use Rattle.tree.specs.Tree.{Tree}
+use Rattle.tables.specs.Layout.{text, within, closed}
+use Rattle.output.specs.Text.{Holds}
+use Rattle.writer.specs.Stack.{At}
+use Rattle.writer.proofs.Nodes.{Left}
+use Rattle.writer.proofs.Sides.{Stage}
+use Rattle.writer.proofs.+write_node_write_tree.Given as goal
+
+abbrev pub decreases-write_node : goal.decreases-write_node
+decreases-write_node l = 2 * l.p
+
+abbrev pub decreases-write_tree : goal.decreases-write_tree
+decreases-write_tree l = 2 * l.from + 1
+
+-- of `write_node`: whatever tree ends at p, where the loop stands in its root's children. It began with the text at a₀, what stands behind them included
+pub record Children (L O₀ : List ℕ) (d place p k v m n a₀ : ℕ) (O : List ℕ) (j q a : ℕ) : Type 0 where
+  pub go : (t : Tree) (s : List Tree) (X : List ℕ) → At L p (t ∷ s) → Holds a₀ O₀ (closed k v m X) → Left L s (text t place X) (within t place d) d k v m n p O j q a
+  pub kept : length O ≡ length O₀
+
+abbrev pub invariant-write_node-loop-j : goal.invariant-write_node-loop-j
+invariant-write_node-loop-j l = Children l.records l.initial.output l.depth l.place l.p l.kind l.value l.form l.n l.initial.a l.output l.j l.q l.a
+
+abbrev pub decreases-write_node-loop-j : goal.decreases-write_node-loop-j
+decreases-write_node-loop-j l = l.j
+
+-- of `write_tree`: whatever tree ends at `from`, where the loop stands in it
+pub record Chain (L O₀ : List ℕ) (d place from end : ℕ) (O : List ℕ) (at p a : ℕ) : Type 0 where
+  pub go : (t : Tree) (s : List Tree) (X : List ℕ) → At L from (t ∷ s) → Holds end O₀ X → Stage L s (text t place X) (within t place d) d from O at p a
+  pub kept : length O ≡ length O₀
+
+abbrev pub invariant-write_tree-loop-p : goal.invariant-write_tree-loop-p
+invariant-write_tree-loop-p l = Chain l.records l.initial.output l.depth l.place l.from l.end l.output l.at l.p l.a
+
+abbrev pub decreases-write_tree-loop-p : goal.decreases-write_tree-loop-p
+decreases-write_tree-loop-p l = l.p
