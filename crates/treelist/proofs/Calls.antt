@@ -15,10 +15,10 @@ use Rattle.grammar.proofs.Promise.{outcome}
 use Rattle.grammar.specs.declared.Answer.{Answer}
 use Rattle.grammar.specs.declared.Answer.TheVariants.{Tree as ATree, Error as AError, End, Stopped, Refused}
 use Rattle.grammar.specs.declared.Reader.{Reader}
-use Rattle.agreement.specs.Answers.{seen, is_last}
-use Rattle.agreement.specs.Laws.Calls.{is_refused}
-use Rattle.agreement.specs.Laws.Trees.{outcome_of_tree}
-use Rattle.agreement.specs.Corollaries.{left_over, Falls, stands, refuses, falls, progress}
+use Rattle.agreement.specs.Answers.{seen, is_last, is_refused}
+use Rattle.agreement.specs.Corollaries.{left_over, Falls, stands, refuses, falls}
+use Rattle.agreement.proofs.Laws.Trees.{outcome_of_tree}
+use Rattle.agreement.proofs.Corollaries.{progress}
 use Rattle.treelist.specs.Printing.{Holds}
 
 -- a tree's records stand in the store
