@@ -1,4 +1,6 @@
 // The reading functions that call one another: words of tokens in, records of trees out, and errors that wait.
+#![tactic(auto)]
+
 ghost use Rattle.std.specs.Prelude.{◌≡◌, true, ◌+◌, ◌≤◌, length, drop};
 ghost use Rattle.operator.specs.Operator.{level_count};
 ghost use Rattle.tree.specs.Tree.{none, records};
@@ -38,7 +40,7 @@ use tree::{emit, word};
 // and go on with one less; the others hand on what they are given.
 
 // `parse_unary_expr`.
-#[cycle(arm_atom_begin_binop_block_body_call_catch_cond_def_dest_dots_each_expr_fun_group_index_item_jump_key_label_lhs_list_loops_param_part_path_prim_rhs_sig_stmt_sync_table_tail_term_tuple_turn_unop_val_whiles)]
+#[cycle(reading)]
 fn unop(
     tokens: &[u64],
     store: &mut [u64],
@@ -71,7 +73,7 @@ fn unop(
 }
 
 // `parse_primary_expr`.
-#[cycle(arm_atom_begin_binop_block_body_call_catch_cond_def_dest_dots_each_expr_fun_group_index_item_jump_key_label_lhs_list_loops_param_part_path_prim_rhs_sig_stmt_sync_table_tail_term_tuple_turn_unop_val_whiles)]
+#[cycle(reading)]
 fn term(
     tokens: &[u64],
     store: &mut [u64],
@@ -109,7 +111,7 @@ fn term(
 }
 
 // `parse_unpack_expr`.
-#[cycle(arm_atom_begin_binop_block_body_call_catch_cond_def_dest_dots_each_expr_fun_group_index_item_jump_key_label_lhs_list_loops_param_part_path_prim_rhs_sig_stmt_sync_table_tail_term_tuple_turn_unop_val_whiles)]
+#[cycle(reading)]
 fn dots(
     tokens: &[u64],
     store: &mut [u64],
@@ -146,7 +148,7 @@ fn dots(
 }
 
 // `parse_primary`.
-#[cycle(arm_atom_begin_binop_block_body_call_catch_cond_def_dest_dots_each_expr_fun_group_index_item_jump_key_label_lhs_list_loops_param_part_path_prim_rhs_sig_stmt_sync_table_tail_term_tuple_turn_unop_val_whiles)]
+#[cycle(reading)]
 fn prim(
     tokens: &[u64],
     store: &mut [u64],
@@ -167,7 +169,7 @@ fn prim(
 }
 
 // The access items behind an atom, and what they make of it. `calls`: invocations are allowed.
-#[cycle(arm_atom_begin_binop_block_body_call_catch_cond_def_dest_dots_each_expr_fun_group_index_item_jump_key_label_lhs_list_loops_param_part_path_prim_rhs_sig_stmt_sync_table_tail_term_tuple_turn_unop_val_whiles)]
+#[cycle(reading)]
 fn path(
     tokens: &[u64],
     store: &mut [u64],
@@ -208,7 +210,7 @@ fn path(
 }
 
 // One access item, behind its first token, of the kind k: a member, an index, an invocation or a table.
-#[cycle(arm_atom_begin_binop_block_body_call_catch_cond_def_dest_dots_each_expr_fun_group_index_item_jump_key_label_lhs_list_loops_param_part_path_prim_rhs_sig_stmt_sync_table_tail_term_tuple_turn_unop_val_whiles)]
+#[cycle(reading)]
 fn part(
     tokens: &[u64],
     store: &mut [u64],
@@ -243,7 +245,7 @@ fn part(
 }
 
 // `parse_atom`.
-#[cycle(arm_atom_begin_binop_block_body_call_catch_cond_def_dest_dots_each_expr_fun_group_index_item_jump_key_label_lhs_list_loops_param_part_path_prim_rhs_sig_stmt_sync_table_tail_term_tuple_turn_unop_val_whiles)]
+#[cycle(reading)]
 fn atom(
     tokens: &[u64],
     store: &mut [u64],
@@ -268,7 +270,7 @@ fn atom(
 }
 
 // `parse_group_expr`, behind `(`.
-#[cycle(arm_atom_begin_binop_block_body_call_catch_cond_def_dest_dots_each_expr_fun_group_index_item_jump_key_label_lhs_list_loops_param_part_path_prim_rhs_sig_stmt_sync_table_tail_term_tuple_turn_unop_val_whiles)]
+#[cycle(reading)]
 fn group(
     tokens: &[u64],
     store: &mut [u64],
@@ -306,7 +308,7 @@ fn group(
 }
 
 // `parse_indexing_expr`, behind `[`.
-#[cycle(arm_atom_begin_binop_block_body_call_catch_cond_def_dest_dots_each_expr_fun_group_index_item_jump_key_label_lhs_list_loops_param_part_path_prim_rhs_sig_stmt_sync_table_tail_term_tuple_turn_unop_val_whiles)]
+#[cycle(reading)]
 fn index(
     tokens: &[u64],
     store: &mut [u64],
@@ -327,7 +329,7 @@ fn index(
 }
 
 // `parse_invocation`, behind `(`.
-#[cycle(arm_atom_begin_binop_block_body_call_catch_cond_def_dest_dots_each_expr_fun_group_index_item_jump_key_label_lhs_list_loops_param_part_path_prim_rhs_sig_stmt_sync_table_tail_term_tuple_turn_unop_val_whiles)]
+#[cycle(reading)]
 fn call(
     tokens: &[u64],
     store: &mut [u64],
@@ -367,7 +369,7 @@ fn call(
 }
 
 // `parse_table_literal`, behind `{`: the items and their list.
-#[cycle(arm_atom_begin_binop_block_body_call_catch_cond_def_dest_dots_each_expr_fun_group_index_item_jump_key_label_lhs_list_loops_param_part_path_prim_rhs_sig_stmt_sync_table_tail_term_tuple_turn_unop_val_whiles)]
+#[cycle(reading)]
 fn table(
     tokens: &[u64],
     store: &mut [u64],
@@ -413,7 +415,7 @@ fn table(
 }
 
 // One `TableItem`.
-#[cycle(arm_atom_begin_binop_block_body_call_catch_cond_def_dest_dots_each_expr_fun_group_index_item_jump_key_label_lhs_list_loops_param_part_path_prim_rhs_sig_stmt_sync_table_tail_term_tuple_turn_unop_val_whiles)]
+#[cycle(reading)]
 fn item(
     tokens: &[u64],
     store: &mut [u64],
@@ -442,7 +444,7 @@ fn item(
 }
 
 // `parse_table_field`.
-#[cycle(arm_atom_begin_binop_block_body_call_catch_cond_def_dest_dots_each_expr_fun_group_index_item_jump_key_label_lhs_list_loops_param_part_path_prim_rhs_sig_stmt_sync_table_tail_term_tuple_turn_unop_val_whiles)]
+#[cycle(reading)]
 fn key(
     tokens: &[u64],
     store: &mut [u64],
@@ -471,7 +473,7 @@ fn key(
 }
 
 // `parse_binop_expr_levels`, by climbing: one loop takes the operators of every level up to this one, and reads the right side of each at the level below its own.
-#[cycle(arm_atom_begin_binop_block_body_call_catch_cond_def_dest_dots_each_expr_fun_group_index_item_jump_key_label_lhs_list_loops_param_part_path_prim_rhs_sig_stmt_sync_table_tail_term_tuple_turn_unop_val_whiles)]
+#[cycle(reading)]
 fn binop(
     tokens: &[u64],
     store: &mut [u64],
@@ -521,7 +523,7 @@ fn binop(
 }
 
 // `parse_tuple_expr`.
-#[cycle(arm_atom_begin_binop_block_body_call_catch_cond_def_dest_dots_each_expr_fun_group_index_item_jump_key_label_lhs_list_loops_param_part_path_prim_rhs_sig_stmt_sync_table_tail_term_tuple_turn_unop_val_whiles)]
+#[cycle(reading)]
 fn tuple(
     tokens: &[u64],
     store: &mut [u64],
@@ -559,7 +561,7 @@ fn tuple(
 }
 
 // The members of a tuple, after the first; a last comma counts only before `CloseParen`.
-#[cycle(arm_atom_begin_binop_block_body_call_catch_cond_def_dest_dots_each_expr_fun_group_index_item_jump_key_label_lhs_list_loops_param_part_path_prim_rhs_sig_stmt_sync_table_tail_term_tuple_turn_unop_val_whiles)]
+#[cycle(reading)]
 fn tail(
     tokens: &[u64],
     store: &mut [u64],
@@ -605,7 +607,7 @@ fn tail(
 }
 
 // `parse_assignment_expr`, and so `parse_expr_variant` and `parse_expr`.
-#[cycle(arm_atom_begin_binop_block_body_call_catch_cond_def_dest_dots_each_expr_fun_group_index_item_jump_key_label_lhs_list_loops_param_part_path_prim_rhs_sig_stmt_sync_table_tail_term_tuple_turn_unop_val_whiles)]
+#[cycle(reading)]
 fn expr(
     tokens: &[u64],
     store: &mut [u64],
@@ -652,7 +654,7 @@ fn expr(
 }
 
 // The right side of an assignment.
-#[cycle(arm_atom_begin_binop_block_body_call_catch_cond_def_dest_dots_each_expr_fun_group_index_item_jump_key_label_lhs_list_loops_param_part_path_prim_rhs_sig_stmt_sync_table_tail_term_tuple_turn_unop_val_whiles)]
+#[cycle(reading)]
 fn rhs(
     tokens: &[u64],
     store: &mut [u64],
@@ -672,7 +674,7 @@ fn rhs(
 }
 
 // A list up to `End`, and one token, unseen: behind a control that was not last it may be any.
-#[cycle(arm_atom_begin_binop_block_body_call_catch_cond_def_dest_dots_each_expr_fun_group_index_item_jump_key_label_lhs_list_loops_param_part_path_prim_rhs_sig_stmt_sync_table_tail_term_tuple_turn_unop_val_whiles)]
+#[cycle(reading)]
 fn body(
     tokens: &[u64],
     store: &mut [u64],
@@ -690,7 +692,7 @@ fn body(
 }
 
 // `parse_block_expr`, behind `begin`, with a label, 0 or 1 + its name.
-#[cycle(arm_atom_begin_binop_block_body_call_catch_cond_def_dest_dots_each_expr_fun_group_index_item_jump_key_label_lhs_list_loops_param_part_path_prim_rhs_sig_stmt_sync_table_tail_term_tuple_turn_unop_val_whiles)]
+#[cycle(reading)]
 fn block(
     tokens: &[u64],
     store: &mut [u64],
@@ -709,7 +711,7 @@ fn block(
 }
 
 // `parse_expr_label`, behind the label.
-#[cycle(arm_atom_begin_binop_block_body_call_catch_cond_def_dest_dots_each_expr_fun_group_index_item_jump_key_label_lhs_list_loops_param_part_path_prim_rhs_sig_stmt_sync_table_tail_term_tuple_turn_unop_val_whiles)]
+#[cycle(reading)]
 fn begin(
     tokens: &[u64],
     store: &mut [u64],
@@ -739,7 +741,7 @@ fn begin(
 }
 
 // `parse_if_expr`, behind `if`. Any token but `End` and `Else` behind a branch acts as `Elif`.
-#[cycle(arm_atom_begin_binop_block_body_call_catch_cond_def_dest_dots_each_expr_fun_group_index_item_jump_key_label_lhs_list_loops_param_part_path_prim_rhs_sig_stmt_sync_table_tail_term_tuple_turn_unop_val_whiles)]
+#[cycle(reading)]
 fn cond(
     tokens: &[u64],
     store: &mut [u64],
@@ -782,7 +784,7 @@ fn cond(
 }
 
 // One branch of a conditional: the condition, `then`, and the list up to `Elif`, `Else` or `End`.
-#[cycle(arm_atom_begin_binop_block_body_call_catch_cond_def_dest_dots_each_expr_fun_group_index_item_jump_key_label_lhs_list_loops_param_part_path_prim_rhs_sig_stmt_sync_table_tail_term_tuple_turn_unop_val_whiles)]
+#[cycle(reading)]
 fn arm(
     tokens: &[u64],
     store: &mut [u64],
@@ -808,7 +810,7 @@ fn arm(
 }
 
 // `parse_function_decl_expr`, behind `fun`: with a target it is an assignment, as after `let`.
-#[cycle(arm_atom_begin_binop_block_body_call_catch_cond_def_dest_dots_each_expr_fun_group_index_item_jump_key_label_lhs_list_loops_param_part_path_prim_rhs_sig_stmt_sync_table_tail_term_tuple_turn_unop_val_whiles)]
+#[cycle(reading)]
 fn fun(
     tokens: &[u64],
     store: &mut [u64],
@@ -842,7 +844,7 @@ fn fun(
 }
 
 // `parse_function_assignment_target`: no invocation in its path.
-#[cycle(arm_atom_begin_binop_block_body_call_catch_cond_def_dest_dots_each_expr_fun_group_index_item_jump_key_label_lhs_list_loops_param_part_path_prim_rhs_sig_stmt_sync_table_tail_term_tuple_turn_unop_val_whiles)]
+#[cycle(reading)]
 fn dest(
     tokens: &[u64],
     store: &mut [u64],
@@ -867,7 +869,7 @@ fn dest(
 }
 
 // `parse_function_def`; name is what the signature has for a name, 0 or 1 + it.
-#[cycle(arm_atom_begin_binop_block_body_call_catch_cond_def_dest_dots_each_expr_fun_group_index_item_jump_key_label_lhs_list_loops_param_part_path_prim_rhs_sig_stmt_sync_table_tail_term_tuple_turn_unop_val_whiles)]
+#[cycle(reading)]
 fn def(
     tokens: &[u64],
     store: &mut [u64],
@@ -905,7 +907,7 @@ fn def(
 }
 
 // `parse_function_param_list`: the children of the signature.
-#[cycle(arm_atom_begin_binop_block_body_call_catch_cond_def_dest_dots_each_expr_fun_group_index_item_jump_key_label_lhs_list_loops_param_part_path_prim_rhs_sig_stmt_sync_table_tail_term_tuple_turn_unop_val_whiles)]
+#[cycle(reading)]
 fn sig(
     tokens: &[u64],
     store: &mut [u64],
@@ -949,7 +951,7 @@ fn sig(
 }
 
 // One parameter, up to what must be a comma or `)`; a default takes commas into a tuple.
-#[cycle(arm_atom_begin_binop_block_body_call_catch_cond_def_dest_dots_each_expr_fun_group_index_item_jump_key_label_lhs_list_loops_param_part_path_prim_rhs_sig_stmt_sync_table_tail_term_tuple_turn_unop_val_whiles)]
+#[cycle(reading)]
 fn param(
     tokens: &[u64],
     store: &mut [u64],
@@ -984,7 +986,7 @@ fn param(
 }
 
 // `parse_stmt`, whose callers have passed over separators.
-#[cycle(arm_atom_begin_binop_block_body_call_catch_cond_def_dest_dots_each_expr_fun_group_index_item_jump_key_label_lhs_list_loops_param_part_path_prim_rhs_sig_stmt_sync_table_tail_term_tuple_turn_unop_val_whiles)]
+#[cycle(reading)]
 pub fn stmt(
     tokens: &[u64],
     store: &mut [u64],
@@ -1040,7 +1042,7 @@ pub fn stmt(
 }
 
 // `parse_stmt_label`, behind the label, 1 + its name.
-#[cycle(arm_atom_begin_binop_block_body_call_catch_cond_def_dest_dots_each_expr_fun_group_index_item_jump_key_label_lhs_list_loops_param_part_path_prim_rhs_sig_stmt_sync_table_tail_term_tuple_turn_unop_val_whiles)]
+#[cycle(reading)]
 fn label(
     tokens: &[u64],
     store: &mut [u64],
@@ -1080,7 +1082,7 @@ fn label(
 }
 
 // `parse_loop`, behind `loop`, with a label, 0 or 1 + its name.
-#[cycle(arm_atom_begin_binop_block_body_call_catch_cond_def_dest_dots_each_expr_fun_group_index_item_jump_key_label_lhs_list_loops_param_part_path_prim_rhs_sig_stmt_sync_table_tail_term_tuple_turn_unop_val_whiles)]
+#[cycle(reading)]
 fn loops(
     tokens: &[u64],
     store: &mut [u64],
@@ -1099,7 +1101,7 @@ fn loops(
 }
 
 // `parse_while_loop`, behind `while`; and the same behind `in` of a for loop, whose record has another word.
-#[cycle(arm_atom_begin_binop_block_body_call_catch_cond_def_dest_dots_each_expr_fun_group_index_item_jump_key_label_lhs_list_loops_param_part_path_prim_rhs_sig_stmt_sync_table_tail_term_tuple_turn_unop_val_whiles)]
+#[cycle(reading)]
 fn whiles(
     tokens: &[u64],
     store: &mut [u64],
@@ -1127,7 +1129,7 @@ fn whiles(
 }
 
 // `parse_for_loop`, behind `for`.
-#[cycle(arm_atom_begin_binop_block_body_call_catch_cond_def_dest_dots_each_expr_fun_group_index_item_jump_key_label_lhs_list_loops_param_part_path_prim_rhs_sig_stmt_sync_table_tail_term_tuple_turn_unop_val_whiles)]
+#[cycle(reading)]
 fn each(
     tokens: &[u64],
     store: &mut [u64],
@@ -1163,7 +1165,7 @@ fn each(
 }
 
 // `parse_lvalue_list`.
-#[cycle(arm_atom_begin_binop_block_body_call_catch_cond_def_dest_dots_each_expr_fun_group_index_item_jump_key_label_lhs_list_loops_param_part_path_prim_rhs_sig_stmt_sync_table_tail_term_tuple_turn_unop_val_whiles)]
+#[cycle(reading)]
 fn lhs(
     tokens: &[u64],
     store: &mut [u64],
@@ -1193,7 +1195,7 @@ fn lhs(
 }
 
 // The value of a break or return, or `Absent`.
-#[cycle(arm_atom_begin_binop_block_body_call_catch_cond_def_dest_dots_each_expr_fun_group_index_item_jump_key_label_lhs_list_loops_param_part_path_prim_rhs_sig_stmt_sync_table_tail_term_tuple_turn_unop_val_whiles)]
+#[cycle(reading)]
 fn val(
     tokens: &[u64],
     store: &mut [u64],
@@ -1218,7 +1220,7 @@ fn val(
 }
 
 // `try_parse_control_flow`, behind its token, of the kind k.
-#[cycle(arm_atom_begin_binop_block_body_call_catch_cond_def_dest_dots_each_expr_fun_group_index_item_jump_key_label_lhs_list_loops_param_part_path_prim_rhs_sig_stmt_sync_table_tail_term_tuple_turn_unop_val_whiles)]
+#[cycle(reading)]
 fn jump(
     tokens: &[u64],
     store: &mut [u64],
@@ -1255,7 +1257,7 @@ fn jump(
 }
 
 // `synchronize_stmt`: an expression that reads is dropped and ends it; one that fails, and a lexer error, are passed over.
-#[cycle(arm_atom_begin_binop_block_body_call_catch_cond_def_dest_dots_each_expr_fun_group_index_item_jump_key_label_lhs_list_loops_param_part_path_prim_rhs_sig_stmt_sync_table_tail_term_tuple_turn_unop_val_whiles)]
+#[cycle(reading)]
 pub fn sync(
     tokens: &[u64],
     store: &mut [u64],
@@ -1302,7 +1304,7 @@ pub fn sync(
 
 // `catch_error_and_sync`: an error of a statement of a list is caught, but for the end of the tokens. It waits at the back,
 // and reading goes on where it can.
-#[cycle(arm_atom_begin_binop_block_body_call_catch_cond_def_dest_dots_each_expr_fun_group_index_item_jump_key_label_lhs_list_loops_param_part_path_prim_rhs_sig_stmt_sync_table_tail_term_tuple_turn_unop_val_whiles)]
+#[cycle(reading)]
 fn catch(
     tokens: &[u64],
     store: &mut [u64],
@@ -1329,7 +1331,7 @@ fn catch(
 }
 
 // One place of a statement list, where a token of this kind stands that does not end it, after n statements.
-#[cycle(arm_atom_begin_binop_block_body_call_catch_cond_def_dest_dots_each_expr_fun_group_index_item_jump_key_label_lhs_list_loops_param_part_path_prim_rhs_sig_stmt_sync_table_tail_term_tuple_turn_unop_val_whiles)]
+#[cycle(reading)]
 fn turn(
     tokens: &[u64],
     store: &mut [u64],
@@ -1363,7 +1365,7 @@ fn turn(
 }
 
 // `parse_stmt_list`, by the number of its ends.
-#[cycle(arm_atom_begin_binop_block_body_call_catch_cond_def_dest_dots_each_expr_fun_group_index_item_jump_key_label_lhs_list_loops_param_part_path_prim_rhs_sig_stmt_sync_table_tail_term_tuple_turn_unop_val_whiles)]
+#[cycle(reading)]
 fn list(
     tokens: &[u64],
     store: &mut [u64],

@@ -28,6 +28,9 @@ only_stop {r = Done p a w} m n = absurd (m p a w refl)
 only_stop {r = Fail f} m n = absurd (n f refl)
 only_stop {r = Stop k} m n = refl
 
+pub is_stop : {r : Step} {n : ℕ} → r ≡ Stop n → OneOf (2 ∷ []) (tag_of the_type r)
+is_stop e = rw e refl
+
 pub not_at : {s : Found} → ((p v : ℕ) → s ≡ At p v → ⊥) → OneOf (1 ∷ []) (tag_of found.the_type s)
 not_at {s = At p v} n = absurd (n p v refl)
 not_at {s = Not r} n = refl

@@ -1,0 +1,107 @@
+-- What is left to show of `cycle::binop` in its cycle of calls. Assumes nothing.
+use mathlib.Core.Path.{refl, ◌∙◌}
+use Prim.Native.Nat.{◌-◌}
+use native.Mathlib.Omega.{arith}
+use lib.ListN.{length, drop, length-drop}
+use Rattle.scan.proofs.Laws.{way, here, link, goes, done, undone, did_not, taken, not_taken, fails, fails_unseen, as_agrees, anew, prefix, rebased, relabel, home}
+use Rattle.nodes.proofs.Made.{made_two}
+use Rattle.cycle.proofs.Climb.{binop_step, climb_looks, climb_ends, climb_takes}
+use Rattle.cycle.proofs.PathsExpr.{binop_unary}
+use Rattle.scan.proofs.Variants.{not_done}
+use Rattle.cycle.proofs.+reading.Goals as goal
+
+pub binop-returns-then-level-eq-PRECEDENCE_END : goal.binop-returns-then-level-eq-PRECEDENCE_END
+binop-returns-then-level-eq-PRECEDENCE_END t c = as_agrees (binop_unary _ _ _ _ c.if-level-eq-PRECEDENCE_END.true) c.unop.ensures
+
+pub binop-returns-in_default : goal.binop-returns-in_default
+binop-returns-in_default t c = anew c.again.ensures (did_not (fails _ (way _ (binop_step _ _ _ _ c.if-level-eq-PRECEDENCE_END.false)) (undone (not_done c.in_default.not-Done) c.unop-first.ensures) refl (omega arith)))
+
+pub binop-loop-kind-init : goal.binop-loop-kind-init
+binop-loop-kind-init t c = let f = done c.in-Done.is c.unop-first.ensures in
+    record {
+      fuel = length (drop c.in-Done.p0 c.args.tokens.now);
+      enough = rw length-drop (omega arith);
+      run = λ t x. record { what = t; same = here; moved = omega arith; room = f.room; text = x };
+      kept = refl;
+    }
+
+pub binop-look-requires : goal.binop-look-requires
+binop-look-requires t c = let f = done c.in-Done.is c.unop-first.ensures in
+    let i = c.loop-kind.invariant in
+    let g = i.run f.what (rebased f (omega (arith, c.requires))) in
+    g.moved.within
+
+pub binop-returns-then-l-eq0 : goal.binop-returns-then-l-eq0
+binop-returns-then-l-eq0 t c = let f = done c.in-Done.is c.unop-first.ensures in
+    let path = goes _ (way _ (binop_step _ _ _ _ c.if-level-eq-PRECEDENCE_END.false)) f.same in
+    let i = c.loop-kind.invariant in
+    let g = i.run f.what (rebased f (omega (arith, c.requires))) in
+    let tk = taken c.in-Token.is c.look.ensures in
+    record { how = home path (prefix f (omega arith)) f.moved.more (relabel g g.what refl (link g.same (way _ (climb_ends _ _ g.what _ i.fuel _ i.enough tk c.op_level-l.ensures (λ h. absurd (h c.if-l-eq0.true))))) g.moved g.room) }
+
+pub binop-returns-then-level-l : goal.binop-returns-then-level-l
+binop-returns-then-level-l t c = let f = done c.in-Done.is c.unop-first.ensures in
+    let path = goes _ (way _ (binop_step _ _ _ _ c.if-level-eq-PRECEDENCE_END.false)) f.same in
+    let i = c.loop-kind.invariant in
+    let g = i.run f.what (rebased f (omega (arith, c.requires))) in
+    let tk = taken c.in-Token.is c.look.ensures in
+    record { how = home path (prefix f (omega arith)) f.moved.more (relabel g g.what refl (link g.same (way _ (climb_ends _ _ g.what _ i.fuel _ i.enough tk c.op_level-l.ensures (λ h. c.if-level-l.true)))) g.moved g.room) }
+
+pub binop-overflow_sub-l : goal.binop-overflow_sub-l
+binop-overflow_sub-l t c = let n = c.if-l-eq0.false in
+    omega arith
+
+pub binop-overflow_add-p : goal.binop-overflow_add-p
+binop-overflow_add-p t c = let tk = taken c.in-Token.is c.look.ensures in
+    omega arith
+
+pub binop-binop-r-requires : goal.binop-binop-r-requires
+binop-binop-r-requires t c = let f = done c.in-Done.is c.unop-first.ensures in
+    let i = c.loop-kind.invariant in
+    let g = i.run f.what (rebased f (omega (arith, c.requires))) in
+    let tk = taken c.in-Token.is c.look.ensures in
+    let n = c.if-l-eq0.false in
+    let m = c.if-level-l.false in
+    omega (arith, c.requires)
+
+pub binop-emit-a-requires : goal.binop-emit-a-requires
+binop-emit-a-requires t c = let f = done c.in-Done.is c.unop-first.ensures in
+    let i = c.loop-kind.invariant in
+    let g = i.run f.what (rebased f (omega (arith, c.requires))) in
+    let tk = taken c.in-Token.is c.look.ensures in
+    let w = done c.in-Done-r.is c.binop-r.ensures in
+    omega (arith, c.requires, c.unop-first.auto.store, f.moved, f.room, g.moved, g.room, i.kept, tk.within, w.moved, w.room, c.binop-r.auto.store)
+
+pub binop-loop-kind-smaller : goal.binop-loop-kind-smaller
+binop-loop-kind-smaller t c = let tk = taken c.in-Token.is c.look.ensures in
+    let w = done c.in-Done-r.is c.binop-r.ensures in
+    omega arith
+
+pub binop-loop-kind-preserved : goal.binop-loop-kind-preserved
+binop-loop-kind-preserved t c = let f = done c.in-Done.is c.unop-first.ensures in
+    let i = c.loop-kind.invariant in
+    let tk = taken c.in-Token.is c.look.ensures in
+    let w = done c.in-Done-r.is c.binop-r.ensures in
+    let e = c.emit-a.ensures in
+    record {
+      fuel = i.fuel - 1;
+      enough = omega arith;
+      run = λ u x. let g = i.run u x in made_two 13 g w e (goes _ (link g.same (way _ (climb_takes _ _ g.what _ i.fuel _ i.enough tk c.op_level-l.ensures c.if-l-eq0.false c.if-level-l.false c.op_number.ensures))) w.same) (omega arith) (omega arith) refl;
+      kept = omega arith;
+    }
+
+pub binop-returns-in_default-r : goal.binop-returns-in_default-r
+binop-returns-in_default-r t c = let f = done c.in-Done.is c.unop-first.ensures in
+    let path = goes _ (way _ (binop_step _ _ _ _ c.if-level-eq-PRECEDENCE_END.false)) f.same in
+    let i = c.loop-kind.invariant in
+    let g = i.run f.what (rebased f (omega (arith, c.requires))) in
+    let tk = taken c.in-Token.is c.look.ensures in
+    let on = link g.same (way _ (climb_takes _ _ g.what _ i.fuel _ i.enough tk c.op_level-l.ensures c.if-l-eq0.false c.if-level-l.false (refl))) in
+    anew c.again-in_default-r.ensures (did_not (fails _ (link path on) (undone (not_done c.in_default-r.not-Done) c.binop-r.ensures) (prefix g (omega (arith, c.requires, c.unop-first.auto.store, f.moved, f.room, g.moved, g.room, tk.within)) ∙ prefix f (omega (arith, c.requires, c.unop-first.auto.store, f.moved, f.room, g.moved, g.room, tk.within))) (omega (arith, c.requires, c.unop-first.auto.store, f.moved, f.room, g.moved, g.room, tk.within))))
+
+pub binop-returns-in-Not : goal.binop-returns-in-Not
+binop-returns-in-Not t c = let f = done c.in-Done.is c.unop-first.ensures in
+    let path = goes _ (way _ (binop_step _ _ _ _ c.if-level-eq-PRECEDENCE_END.false)) f.same in
+    let i = c.loop-kind.invariant in
+    let g = i.run f.what (rebased f (omega (arith, c.requires))) in
+    did_not (fails_unseen (link path g.same) (climb_looks _ _ g.what _ _ i.fuel _ i.enough) (not_taken c.in-Not.is c.look.ensures) (prefix g (omega arith) ∙ prefix f (omega arith)) (omega arith))

@@ -1,0 +1,55 @@
+-- What is left to show of `cycle::label` in its cycle of calls. Assumes nothing.
+use mathlib.Core.Path.{refl, sym, ◌∙◌}
+use mathlib.Core.List.{[], append-nil}
+use native.Mathlib.Omega.{arith}
+use Rattle.tree.specs.Node
+use Rattle.scan.proofs.Laws.{way, here, did_not, taken, not_taken, fails_unseen, later, continued}
+use Rattle.nodes.proofs.Made.{over_two}
+use Rattle.cycle.proofs.PathsStmt.{stmt_label_looks, while_as, label_loop, label_while, label_for, label_alone}
+use Rattle.cycle.proofs.Writing.{fails_with}
+use Rattle.grammar.specs.Reading.Stmt.{stmt_list_of}
+use Rattle.cycle.proofs.+reading.Goals as goal
+
+pub label-overflow_add-pos : goal.label-overflow_add-pos
+label-overflow_add-pos t c = let tk = taken c.in-Token.is c.look.ensures in
+    omega arith
+
+pub label-loops-requires : goal.label-loops-requires
+label-loops-requires t c = let tk = taken c.in-Token.is c.look.ensures in
+    omega arith
+
+pub label-overflow_add-pos-in-58 : goal.label-overflow_add-pos-in-58
+label-overflow_add-pos-in-58 t c = let tk = taken c.in-Token.is c.look.ensures in
+    omega arith
+
+pub label-whiles-requires : goal.label-whiles-requires
+label-whiles-requires t c = let tk = taken c.in-Token.is c.look.ensures in
+    omega arith
+
+pub label-overflow_add-pos-in-59 : goal.label-overflow_add-pos-in-59
+label-overflow_add-pos-in-59 t c = let tk = taken c.in-Token.is c.look.ensures in
+    omega arith
+
+pub label-each-requires : goal.label-each-requires
+label-each-requires t c = let tk = taken c.in-Token.is c.look.ensures in
+    omega arith
+
+pub label-returns-in-57 : goal.label-returns-in-57
+label-returns-in-57 t c = let tk = taken c.in-Token.is c.look.ensures in
+    later (label_loop _ _ tk _ c.in-57.is) c.loops.ensures (omega arith) (omega arith) (omega arith)
+
+pub label-returns-in-58 : goal.label-returns-in-58
+label-returns-in-58 t c = let tk = taken c.in-Token.is c.look.ensures in
+    continued (λ x. Node.while_loop c.args.label x.over (stmt_list_of x.run)) [] c.whiles.ensures (way _ (label_while _ _ tk _ c.in-58.is ∙ while_as _ _ _ _)) (sym (append-nil _)) (λ x. over_two 4 _ _ _) refl (omega arith)
+
+pub label-returns-in-59 : goal.label-returns-in-59
+label-returns-in-59 t c = let tk = taken c.in-Token.is c.look.ensures in
+    later (label_for _ _ tk _ c.in-59.is) c.each.ensures (omega arith) (omega arith) (omega arith)
+
+pub label-returns-in_default : goal.label-returns-in_default
+label-returns-in_default t c = let tk = taken c.in-Token.is c.look.ensures in
+    let r = c.in_default.in_default-own.rest in
+    fails_with (label_alone _ _ tk _ r.0.0.1 r.0.1 r.1) (omega arith) (omega arith)
+
+pub label-returns-in-Not : goal.label-returns-in-Not
+label-returns-in-Not t c = did_not (fails_unseen here (stmt_label_looks _ _ _ _) (not_taken c.in-Not.is c.look.ensures) refl (omega arith))

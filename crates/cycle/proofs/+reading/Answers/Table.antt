@@ -1,0 +1,138 @@
+-- What is left to show of `cycle::table` in its cycle of calls. Assumes nothing.
+use mathlib.Core.Path.{refl, sym, ap, ◌∙◌}
+use mathlib.Core.List.{append-nil}
+use Prim.Native.Nat.{ℕ, ◌+◌, ◌*◌, ◌-◌}
+use native.Mathlib.Omega.{arith}
+use lib.ListN.{length, take, drop, length-drop}
+use Rattle.tree.specs.Tree.{none, snoc, count, records}
+use Rattle.scan.proofs.Laws.{way, here, link, goes, done, undone, did_not, taken, not_taken, shorter, fails, lacks, fails_unseen, found, unfound, gets, prefix}
+use Rattle.nodes.proofs.Made.{put, count_snoc, joined}
+use Rattle.cycle.proofs.PathsPrimary.{items_looks, items_end, items_more, items_closed, items_again}
+use Rattle.scan.proofs.Variants.{not_done}
+use Rattle.cycle.proofs.+reading.Goals as goal
+
+pub table-loop-kind-init : goal.table-loop-kind-init
+unfolding records count
+table-loop-kind-init t c = record {
+  fuel = length (drop c.args.pos c.args.tokens.now);
+  enough = rw length-drop (omega arith);
+  run = record { what = none; same = here; moved = omega arith; room = omega arith; text = sym (append-nil (take c.args.at c.args.store.now)) };
+  many = refl;
+  short = omega arith;
+  kept = refl;
+}
+
+pub table-look-requires : goal.table-look-requires
+table-look-requires t c = c.loop-kind.invariant.run.moved.within
+
+pub table-overflow_add-result : goal.table-overflow_add-result
+table-overflow_add-result t c = let tk = taken c.in-Token.is c.look.ensures in
+    omega arith
+
+pub table-list_end-requires : goal.table-list_end-requires
+table-list_end-requires t c = let g = c.loop-kind.invariant in
+    let gr = g.run in
+    let tk = taken c.in-Token.is c.look.ensures in
+    (omega (arith, c.requires, g.kept, gr.moved, gr.room, tk.within), omega (arith, c.requires, g.short, tk.within))
+
+pub table-returns-then-kind-eq-CLOSE_BRACE : goal.table-returns-then-kind-eq-CLOSE_BRACE
+table-returns-then-kind-eq-CLOSE_BRACE t c = let g = c.loop-kind.invariant in
+    let gr = g.run in
+    let tk = taken c.in-Token.is c.look.ensures in
+    let out = link gr.same (way _ (items_end _ gr.what _ g.fuel _ g.enough tk c.if-kind-eq-CLOSE_BRACE.true)) in
+    let e = c.list_end.ensures in
+    record { how = record { what = gr.what; same = out; moved = omega (arith, c.requires, gr.moved, tk.within); room = omega (arith, gr.room, e.next); text = put 1 gr.what (take c.args.at c.args.store.now) e gr.text (ap (λ (i : ℕ). 1 + 256 * i) (sym g.many)) } }
+
+pub table-item-r-requires : goal.table-item-r-requires
+table-item-r-requires t c = let g = c.loop-kind.invariant in
+    let gr = g.run in
+    let tk = taken c.in-Token.is c.look.ensures in
+    omega (arith, c.requires, g.kept, gr.moved, gr.room, tk.within)
+
+pub table-returns-in_default : goal.table-returns-in_default
+table-returns-in_default t c = let g = c.loop-kind.invariant in
+    let gr = g.run in
+    let tk = taken c.in-Token.is c.look.ensures in
+    let on = link gr.same (way _ (items_more _ gr.what _ g.fuel _ g.enough tk c.if-kind-eq-CLOSE_BRACE.false)) in
+    did_not (fails _ on (undone (not_done c.in_default.not-Done) c.item-r.ensures) (prefix gr (omega (arith, c.requires))) (omega (arith, gr.moved, gr.room)))
+
+pub table-item_end-requires : goal.table-item_end-requires
+table-item_end-requires t c = let w = done c.in-Done.is c.item-r.ensures in
+    w.moved.within
+
+pub table-overflow_add-n : goal.table-overflow_add-n
+table-overflow_add-n t c = let g = c.loop-kind.invariant in
+    let ie = found c.in-At.is c.item_end.ensures in
+    let w = done c.in-Done.is c.item-r.ensures in
+    omega (arith, c.requires, g.short, w.moved, ie.got.on, ie.got.within)
+
+pub table-list_end-requires-then-closed-eq1 : goal.table-list_end-requires-then-closed-eq1
+table-list_end-requires-then-closed-eq1 t c = let g = c.loop-kind.invariant in
+    let gr = g.run in
+    let w = done c.in-Done.is c.item-r.ensures in
+    let ie = found c.in-At.is c.item_end.ensures in
+    (omega (arith, c.requires, g.kept, gr.moved, gr.room, w.moved, w.room, ie.got.on, ie.got.within, c.item-r.auto.store), omega (arith, c.requires, g.short, w.moved, ie.got.on, ie.got.within))
+
+pub table-returns-then-closed-eq1 : goal.table-returns-then-closed-eq1
+table-returns-then-closed-eq1 t c = let g = c.loop-kind.invariant in
+    let gr = g.run in
+    let tk = taken c.in-Token.is c.look.ensures in
+    let on = link gr.same (way _ (items_more _ gr.what _ g.fuel _ g.enough tk c.if-kind-eq-CLOSE_BRACE.false)) in
+    let w = done c.in-Done.is c.item-r.ensures in
+    let next = goes _ on w.same in
+    let ie = found c.in-At.is c.item_end.ensures in
+    let got = gets _ ie.got next in
+    let e = c.list_end-then-closed-eq1.ensures in
+    let f = snoc gr.what w.what in
+    record {
+      how = record {
+        what = f;
+        same = link got (way _ (items_closed _ _ _ _ _ (ie.is ∙ c.if-closed-eq1.true)));
+        moved = omega (arith, gr.moved, w.moved, ie.got.on, ie.got.within);
+        room = omega (arith, gr.room, w.room, ie.got.on, e.next);
+        text = put 1 f (take c.args.at c.args.store.now) e (joined gr.what w.what (take c.args.at c.args.store.now) w.text gr.text) (ap (λ (i : ℕ). 1 + 256 * i) (sym (count_snoc gr.what w.what ∙ ap (λ (i : ℕ). i + 1) g.many)));
+      };
+    }
+
+pub table-overflow_add-n-in-At : goal.table-overflow_add-n-in-At
+table-overflow_add-n-in-At t c = let g = c.loop-kind.invariant in
+    let ie = found c.in-At.is c.item_end.ensures in
+    let w = done c.in-Done.is c.item-r.ensures in
+    omega (arith, c.requires, g.short, w.moved, ie.got.on, ie.got.within)
+
+pub table-loop-kind-smaller : goal.table-loop-kind-smaller
+table-loop-kind-smaller t c = let w = done c.in-Done.is c.item-r.ensures in
+    let ie = found c.in-At.is c.item_end.ensures in
+    omega (arith, w.moved, ie.got.on, ie.got.within)
+
+pub table-loop-kind-preserved : goal.table-loop-kind-preserved
+table-loop-kind-preserved t c = let g = c.loop-kind.invariant in
+    let gr = g.run in
+    let tk = taken c.in-Token.is c.look.ensures in
+    let on = link gr.same (way _ (items_more _ gr.what _ g.fuel _ g.enough tk c.if-kind-eq-CLOSE_BRACE.false)) in
+    let w = done c.in-Done.is c.item-r.ensures in
+    let next = goes _ on w.same in
+    let ie = found c.in-At.is c.item_end.ensures in
+    let got = gets _ ie.got next in
+    record {
+      fuel = g.fuel - 1;
+      enough = omega (arith, g.enough, w.moved, ie.got.on, tk.within);
+      run = record { what = snoc gr.what w.what; same = link got (way _ (items_again _ _ _ _ _ (λ i. c.if-closed-eq1.false (sym ie.is ∙ i)))); moved = omega (arith, gr.moved, w.moved, ie.got.on, ie.got.within); room = omega (arith, gr.room, w.room, ie.got.on); text = joined gr.what w.what (take c.args.at c.args.store.now) w.text gr.text };
+      many = count_snoc gr.what w.what ∙ ap (λ (i : ℕ). i + 1) g.many;
+      short = omega (arith, g.short, w.moved, ie.got.on);
+      kept = omega (arith, g.kept, c.item-r.auto.store);
+    }
+
+pub table-returns-in-Not-item_end : goal.table-returns-in-Not-item_end
+table-returns-in-Not-item_end t c = let g = c.loop-kind.invariant in
+    let gr = g.run in
+    let tk = taken c.in-Token.is c.look.ensures in
+    let on = link gr.same (way _ (items_more _ gr.what _ g.fuel _ g.enough tk c.if-kind-eq-CLOSE_BRACE.false)) in
+    let w = done c.in-Done.is c.item-r.ensures in
+    let next = goes _ on w.same in
+    did_not (lacks _ (unfound c.in-Not-item_end.is c.item_end.ensures) next (shorter _ _ _ _ gr.room.up (prefix w (omega (arith, c.requires, g.kept, gr.moved, gr.room))) ∙ prefix gr (omega (arith, c.requires))) (omega (arith, gr.moved, w.moved)))
+
+pub table-returns-in-Not : goal.table-returns-in-Not
+table-returns-in-Not t c = let g = c.loop-kind.invariant in
+    let gr = g.run in
+    did_not (fails_unseen gr.same (items_looks _ gr.what _ _ g.fuel _ g.enough) (not_taken c.in-Not.is c.look.ensures) (prefix gr (omega (arith, c.requires))) (omega (arith, gr.moved)))
