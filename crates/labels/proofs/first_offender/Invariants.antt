@@ -1,6 +1,5 @@
 -- What the loops of `labels::first_offender` keep, and what falls. Assumes nothing.
 use mathlib.Core.Path.{◌≡◌}
-use Prim.Native.Nat.{◌-◌}
 use lib.ListN.{length}
 use Rattle.labels.proofs.Pass.{Going}
 use Rattle.labels.proofs.first_offender.Given as goal

@@ -1,6 +1,6 @@
 -- What the loops of `labels::entries::any_kept` keep, and what falls. Assumes nothing.
 use mathlib.Core.Path.{◌≡◌}
-use Prim.Native.Nat.{◌-◌, ◌≤◌}
+use Prim.Native.Nat.{◌≤◌}
 use Rattle.labels.specs.Offences.{any_serves}
 use Rattle.labels.specs.Entries.{held, around}
 use Rattle.labels.proofs.entries.any_kept.Given as goal

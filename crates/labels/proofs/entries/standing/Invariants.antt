@@ -1,6 +1,6 @@
 -- What the loops of `labels::entries::standing` keep, and what falls. Assumes nothing.
 use mathlib.Core.Path.{◌≡◌}
-use Prim.Native.Nat.{◌-◌, ◌≤◌}
+use Prim.Native.Nat.{◌≤◌}
 use Rattle.labels.specs.Entries.{held, standing}
 use Rattle.labels.proofs.entries.standing.Given as goal
 
