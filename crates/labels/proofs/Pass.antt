@@ -19,7 +19,7 @@ use Rattle.labels.specs.declared.Labels.TheVariants.{Fine}
 use Rattle.labels.specs.Offences.{offence, inside, first, noted}
 use Rattle.labels.specs.Behind.{enclosing, behind, Found}
 use Rattle.labels.specs.Entries.{Entry, held, around, standing, Full, entered, Entered, Stands, Round}
-use Rattle.labels.specs.Words.{passed, last_child, other_child, two_words, behind_records}
+use Rattle.labels.proofs.Words.{passed, last_child, other_child, two_words, behind_records}
 use Rattle.labels.proofs.Kept.{standing_less, standing_more, standing_inside, Outside, entered_full, entered_outside, entered_last}
 
 -- what encloses the tree number i is among the entries: there is room for one more, or the tree lies outside of the last one

@@ -9,6 +9,7 @@ use tree::node;
 use tree::word::CHILD;
 
 // How many trees stand from the tree on behind a record with n children, or from its parent on.
+#[tactic(auto, unfolding(crate::specs::Behind::further))]
 fn further(n: u64, h: u64) -> u64
     requires { h < 18446744073709551615 }
     ensures { result ≡ further_def n h }
@@ -20,6 +21,7 @@ fn further(n: u64, h: u64) -> u64
 }
 
 // Whether the tree is the last child of a node with n children.
+#[tactic(auto, unfolding(crate::specs::Behind::is_last))]
 fn is_last(n: u64, h: u64) -> bool
     ensures { result ≡ is_last_def n h }
 {

@@ -10,6 +10,7 @@ use tree::node;
 const ENTRY: usize = 3;
 
 // Whether a node of this kind encloses its last child.
+#[tactic(auto, unfolding(crate::specs::Entries::encloses))]
 fn encloses(kind: u64) -> bool
     ensures { result ≡ encloses_def kind }
 {
@@ -34,6 +35,7 @@ fn means(label: u64, other: u64) -> bool
 }
 
 // Whether a loop or block serves a break or continue (`jump`): a loop both, a block a break.
+#[tactic(auto, unfolding(crate::specs::Entries::node_serves))]
 pub fn node_serves(jump: u64, label: u64, kind: u64, other: u64) -> bool
     ensures { result ≡ node_serves_def jump label kind other }
 {

@@ -43,6 +43,7 @@ fn offender(label: u64) -> u64
 }
 
 // The number of the offence of the record that ends at p, or 0. The first n entries are what encloses it, unless they are full.
+#[tactic(auto, unfolding(crate::specs::Offences::offence))]
 pub fn offence(records: &[u64], kept: &[u64], n: usize, p: usize) -> u64
     requires { Round records.now kept.now n p }
     ensures { result ≡ offence_def (enclosing 1 (drop p records.now)) (get_or records.now (p - 2) 0 % 256) (get_or records.now (p - 1) 0) }

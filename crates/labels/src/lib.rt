@@ -1,4 +1,6 @@
 // The check of labels: whether each break and continue of a statement has round it what it leaves or goes on with.
+#![tactic(auto)]
+
 ghost use Rattle.labels.specs.Behind.{Found};
 ghost use Rattle.labels.specs.Contract.{Checks};
 ghost use Rattle.writer.specs.Verdict.{Whole};

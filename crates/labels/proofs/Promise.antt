@@ -22,7 +22,7 @@ use Rattle.labels.specs.declared.Labels.{Labels}
 use Rattle.labels.specs.declared.Labels.TheVariants.{Fine, Refused}
 use Rattle.labels.specs.Offences.{Enclosing, any_serves, is_jump, offender, offence, offences, first, check_labels, number}
 use Rattle.labels.specs.Behind.{enclosing, behind}
-use Rattle.labels.specs.Words.{behind_records}
+use Rattle.labels.proofs.Words.{behind_records}
 
 -- the record number i of a tree offends with the number n, and none before it in store order does
 pub record First (t : Tree) (i n : ℕ) : Type 0 where
