@@ -9,7 +9,7 @@ pub mod limit;
 pub mod variant;
 
 // Why a statement failed: a lexer error, no token left, or a syntax error by its number.
-#[derive(Drop)]
+#[derive(Clone, Copy)]
 pub enum ErrorKind {
     LexerError,
     EndofTokenStream,
@@ -28,7 +28,7 @@ pub fn kind_number(kind: ErrorKind) -> u64
 }
 
 // What a call answers: a tree of so many nodes in the store, an error, the end, a stop or a refusal by its number.
-#[derive(Drop)]
+#[derive(Clone, Copy)]
 pub enum Answer {
     Tree(usize),
     Error(ErrorKind),
@@ -41,7 +41,7 @@ pub enum Answer {
 pub type Queue = [u64; limit::QUEUE];
 
 // Where a reading stands: the tokens taken so far, how many errors wait, which they are, and the number of the stop, 0 for none.
-#[derive(Drop)]
+#[derive(Clone, Copy)]
 pub struct Reader {
     pub position: usize,
     pub waiting: usize,

@@ -18,7 +18,7 @@ use writer::legal::legal;
 use writer::records::shape;
 
 // What the check answers: nothing is wrong, or a refusal by its number and the number of the record that it is for.
-#[derive(Drop)]
+#[derive(Clone, Copy)]
 pub enum Labels {
     Fine,
     Refused(u64, usize),

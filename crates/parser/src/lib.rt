@@ -1,4 +1,6 @@
 // The entries of the statement reader: the next answer, with the reader by value.
+#![tactic(auto)]
+
 ghost use Rattle.std.specs.Prelude.{◌≡◌, not, ◌&&◌, ◌||◌, [], ◌+◌, ◌*◌, ◌/◌, ◌%◌, ◌≤◌, eqb, ltb, length, take, drop};
 ghost use Rattle.tree.specs.Tree.{records};
 ghost use Rattle.grammar.specs.Reading.Limit.{depth_limit, length_limit, queue_limit};
