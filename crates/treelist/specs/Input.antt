@@ -1,6 +1,6 @@
 -- What is known of the input: of one read, by its result, and of all of them. Definitions; they assume nothing.
 use Rattle.std.specs.Prelude.{◌≡◌, List, ℕ, ◌<◌, length, take, min, Result, Ok, Err}
-use Rattle.std_io.specs.declared.io.error.Error.{Error}
+use Rattle.std.specs.declared.io.Error.{Error}
 use Rattle.treelist.specs.Lines.{progress, start, read, closed, Comes}
 use Rattle.treelist.specs.declared.lines.Scan.{Scan}
 use Rattle.treelist.specs.declared.input.Fed.{Fed}
