@@ -1,5 +1,4 @@
 -- `bytes_read`: the bytes that are left, read from where the scan stands, come to what all of them come to. Assumes nothing.
-use Prim.Native.Nat.{◌-◌}
 use native.Mathlib.Omega.{arith}
 use Rattle.treelist.proofs.Scans.{next, all_read}
 use Rattle.treelist.proofs.lines.bytes_read.Goals as goal

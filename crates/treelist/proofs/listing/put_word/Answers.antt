@@ -1,8 +1,7 @@
 -- `put_word`: the word behind the others is put. Assumes nothing.
 use mathlib.Core.List.{List}
-use Prim.Native.Nat.{ℕ, ◌-◌, ◌≤◌}
-use native.Mathlib.Omega.{arith}
-use lib.ListN.{length, take, drop}
+use Prim.Native.Nat.{ℕ}
+use lib.ListN.{length}
 use Rattle.treelist.specs.Listing.{behind, word}
 use Rattle.treelist.proofs.Texts.{put_within, put_text, part_short, word_behind}
 use Rattle.treelist.proofs.listing.put_word.Goals as goal

@@ -1,5 +1,4 @@
 -- `word_len`: the first word is the bytes that were passed and the first word of the others. Assumes nothing.
-use Prim.Native.Nat.{◌-◌}
 use native.Mathlib.Omega.{arith}
 use Rattle.treelist.proofs.Texts.{word_more, word_space, word_end}
 use Rattle.treelist.proofs.listing.word_len.Goals as goal

@@ -1,5 +1,4 @@
 -- `words_behind`: what stands behind the words that are left, from the place on, is what the definition says of the text. Assumes nothing.
-use Prim.Native.Nat.{◌-◌}
 use native.Mathlib.Omega.{arith}
 use borrow.Author.Tests.{eq-eqb, ne_eqb}
 use Rattle.treelist.proofs.Texts.{behind_none, behind_more, behind_end}
@@ -17,7 +16,7 @@ loop-i-preserved c =
     let more = behind_more c.args.text.now l.left l.i l.invariant.1 c.loop-i-test.true c.if-left-eq0.false in (
       omega arith,
       elim c.if-text-i-eq32.branch [
-        then-text-i-eq32 w ↦ rw w.left-is (rw (eq-eqb _ _ w.if-text-i-eq32.true) at more)
+        | then-text-i-eq32 w ↦ rw w.left-is (rw (eq-eqb _ _ w.if-text-i-eq32.true) at more)
         | else-text-i-eq32 w ↦ rw w.left-is (rw (ne_eqb _ _ w.if-text-i-eq32.false) at more)
       ],
     )
