@@ -64,40 +64,13 @@ fn not_read(rt: &impl Print, t: Tally, position: usize, tokens: &[u64]) -> io::R
         number: 60,
         reader: stopped_at(position, 60),
     };
+    let full = waiting_at(position, 47, 96);
+    let over = waiting_at(position, 3, 97);
+    let stopped = stopped_at(position, 62);
     let a = called(rt, t, name, at, fresh_at(position), tokens, 4000, want, &[])?;
-    let b = called(
-        rt,
-        a,
-        name,
-        at,
-        waiting_at(position, 47, 96),
-        tokens,
-        4000,
-        want,
-        &[],
-    )?;
-    let c = called(
-        rt,
-        b,
-        name,
-        at,
-        waiting_at(position, 3, 97),
-        tokens,
-        4000,
-        want,
-        &[],
-    )?;
-    called(
-        rt,
-        c,
-        name,
-        at,
-        stopped_at(position, 62),
-        tokens,
-        0,
-        want,
-        &[],
-    )
+    let b = called(rt, a, name, at, full, tokens, 4000, want, &[])?;
+    let c = called(rt, b, name, at, over, tokens, 4000, want, &[])?;
+    called(rt, c, name, at, stopped, tokens, 0, want, &[])
 }
 
 // A sheet of 65,536 semicolons.
