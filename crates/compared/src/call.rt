@@ -5,6 +5,7 @@ use crate::tally::{Tally, with_answer, with_difference};
 use crate::words::fresh_at;
 use grammar::{Reader, Stepped};
 use parser::next_stmt;
+use std::io;
 
 // Words of the store that 01 asks for each unread token.
 const SHARE: usize = 16;
@@ -17,6 +18,7 @@ const TOKENS: usize = 65536;
 
 // A call on a lent store, compared.
 fn on_store(
+    rt: &impl Print,
     t: Tally,
     name: &[u8],
     at: u64,
@@ -25,23 +27,32 @@ fn on_store(
     store: &mut [u64],
     want: Want,
     tree: &[u64],
-) -> Tally {
+) -> io::Result<Tally> {
     fill(store);
     let step = next_stmt(reader, tokens, store);
     let same = holds(store, tree);
-    parted(t, name, at, step, same, want)
+    parted(rt, t, name, at, step, same, want)
 }
 
 // The parts of a call: its answer, its reader, and whether the store holds what is expected.
-fn parted(t: Tally, name: &[u8], at: u64, step: Stepped, same: bool, want: Want) -> Tally {
+fn parted(
+    rt: &impl Print,
+    t: Tally,
+    name: &[u8],
+    at: u64,
+    step: Stepped,
+    same: bool,
+    want: Want,
+) -> io::Result<Tally> {
     let answer = step.answer;
     let after = step.reader;
     let returned = want.reader;
     let got = read(answer);
     let ask = expected(want);
     let t1 = with_answer(t);
-    let t2 = part(t1, same_answer(got, ask), name, at, b"answer", got, ask);
+    let t2 = part(rt, t1, same_answer(got, ask), name, at, b"answer", got, ask)?;
     let t3 = part(
+        rt,
         t2,
         same_reader(after, returned),
         name,
@@ -49,12 +60,13 @@ fn parted(t: Tally, name: &[u8], at: u64, step: Stepped, same: bool, want: Want)
         b"reader",
         got,
         ask,
-    );
-    part(t3, same, name, at, b"store", got, ask)
+    )?;
+    part(rt, t3, same, name, at, b"store", got, ask)
 }
 
 // A call on a store of so many words, compared. A store longer than there is room for counts as a difference.
 pub fn called(
+    rt: &impl Print,
     t: Tally,
     name: &[u8],
     at: u64,
@@ -63,13 +75,23 @@ pub fn called(
     room: usize,
     want: Want,
     tree: &[u64],
-) -> Tally {
+) -> io::Result<Tally> {
     if ROOM < room {
-        print_no_room(name, at);
-        return with_difference(t);
+        print_no_room(rt, name, at)?;
+        return Ok(with_difference(t));
     }
     let mut store = [0u64; ROOM];
-    on_store(t, name, at, reader, tokens, &mut store[0..room], want, tree)
+    on_store(
+        rt,
+        t,
+        name,
+        at,
+        reader,
+        tokens,
+        &mut store[0..room],
+        want,
+        tree,
+    )
 }
 
 // The words of store that a call asks for: 16 for each unread token.
@@ -87,6 +109,7 @@ fn needed(reader: Reader, tokens: &[u64]) -> usize {
 
 // A call on a store that is exactly long enough.
 pub fn called_full(
+    rt: &impl Print,
     t: Tally,
     name: &[u8],
     at: u64,
@@ -94,8 +117,9 @@ pub fn called_full(
     tokens: &[u64],
     want: Want,
     tree: &[u64],
-) -> Tally {
+) -> io::Result<Tally> {
     called(
+        rt,
         t,
         name,
         at,
@@ -108,17 +132,24 @@ pub fn called_full(
 }
 
 // A call on a store that is one word short, where a word of it is asked for: refused, with the reader as given and the store zero.
-pub fn called_short(t: Tally, name: &[u8], at: u64, reader: Reader, tokens: &[u64]) -> Tally {
+pub fn called_short(
+    rt: &impl Print,
+    t: Tally,
+    name: &[u8],
+    at: u64,
+    reader: Reader,
+    tokens: &[u64],
+) -> io::Result<Tally> {
     let need = needed(reader, tokens);
     if need == 0 {
-        return t;
+        return Ok(t);
     }
     let want = Want {
         case: b'r',
         number: 63,
         reader,
     };
-    called(t, name, at, reader, tokens, need - 1, want, &[])
+    called(rt, t, name, at, reader, tokens, need - 1, want, &[])
 }
 
 // Where the last of so many tokens stands.
@@ -127,12 +158,19 @@ fn before_end(count: usize) -> usize {
 }
 
 // A sheet of one statement and a token behind it, from its start: a tree, all tokens but the last taken.
-pub fn read_whole(t: Tally, name: &[u8], at: u64, tokens: &[u64], tree: &[u64]) -> Tally {
+pub fn read_whole(
+    rt: &impl Print,
+    t: Tally,
+    name: &[u8],
+    at: u64,
+    tokens: &[u64],
+    tree: &[u64],
+) -> io::Result<Tally> {
     let taken = before_end(tokens.len() / 2);
     let want = Want {
         case: b't',
         number: (tree.len() / 2) as u64,
         reader: fresh_at(taken),
     };
-    called_full(t, name, at, fresh_at(0), tokens, want, tree)
+    called_full(rt, t, name, at, fresh_at(0), tokens, want, tree)
 }

@@ -2,6 +2,7 @@
 use crate::parts::{Said, part, same_answer};
 use crate::tally::{Tally, with_check};
 use labels::{Labels, check_labels};
+use std::io;
 
 // A number of an answer, by a letter: of one where nothing is wrong, or of a refusal.
 fn said(fine: bool, number: u64) -> Said {
@@ -29,21 +30,32 @@ fn recorded(answer: Labels) -> Said {
 
 // Records get this answer, by its number, 0 where nothing is wrong, and by its record number.
 pub fn is_checked(
+    rt: &impl Print,
     t: Tally,
     name: &[u8],
     at: u64,
     records: &[u64],
     number: u64,
     record: u64,
-) -> Tally {
+) -> io::Result<Tally> {
     let answer = check_labels(records);
     let got = answered(answer);
     let there = recorded(answer);
     let want = said(number == 0, number);
     let place = said(number == 0, record);
     let a = with_check(t);
-    let b = part(a, same_answer(got, want), name, at, b"number", got, want);
+    let b = part(
+        rt,
+        a,
+        same_answer(got, want),
+        name,
+        at,
+        b"number",
+        got,
+        want,
+    )?;
     part(
+        rt,
         b,
         same_answer(there, place),
         name,

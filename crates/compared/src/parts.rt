@@ -3,19 +3,20 @@ use crate::print::print_difference;
 use crate::tally::{Tally, with_difference};
 use crate::words::word_at;
 use grammar::{Answer, Queue, Reader, Written, kind_number};
+use std::io;
 
 // What a store or an output holds before a call: rubbish, so that a word that the call leaves as it was is seen.
 const RUBBISH: u64 = 11400714819323198485;
 
 // An answer by the letter of its case and a number: of a tree the count of its nodes, of a text that of its tokens.
-#[derive(Drop)]
+#[derive(Clone, Copy)]
 pub struct Said {
     pub case: u8,
     pub number: u64,
 }
 
 // What is expected of a call, the tree's records aside: its answer, and the reader that comes back.
-#[derive(Drop)]
+#[derive(Clone, Copy)]
 pub struct Want {
     pub case: u8,
     pub number: u64,
@@ -134,6 +135,7 @@ pub fn same_answer(said: Said, want: Said) -> bool {
 
 // A part of a call: a difference in it is printed and counted.
 pub fn part(
+    rt: &impl Print,
     t: Tally,
     same: bool,
     name: &[u8],
@@ -141,10 +143,10 @@ pub fn part(
     what: &[u8],
     said: Said,
     want: Said,
-) -> Tally {
+) -> io::Result<Tally> {
     if same {
-        return t;
+        return Ok(t);
     }
-    print_difference(name, at, what, said, want);
-    with_difference(t)
+    print_difference(rt, name, at, what, said, want)?;
+    Ok(with_difference(t))
 }

@@ -2,7 +2,7 @@
 use std::num::wrapping_add_u64;
 
 // How many sheets were begun, how many calls of the reader, of the writer and of the check were compared, and how many things were not as expected.
-#[derive(Drop)]
+#[derive(Clone, Copy)]
 pub struct Tally {
     pub sheets: u64,
     pub answers: u64,

@@ -6,33 +6,54 @@ use compared::parts::Want;
 use compared::tally::{Tally, no_tally, with_sheet};
 use compared::words::{between, fresh_at, put};
 use compared::writing::{is_not_written, is_written};
+use std::io;
 use token::kind;
 use tree::word;
 
 // A tree that is as deep as may be: its tokens are read to it, and it is written as them.
-fn both_ways(t: Tally, name: &[u8], at: u64, tokens: &[u64], tree: &[u64]) -> Tally {
+fn both_ways(
+    rt: &impl Print,
+    t: Tally,
+    name: &[u8],
+    at: u64,
+    tokens: &[u64],
+    tree: &[u64],
+) -> io::Result<Tally> {
     let mut output = [0u64; 228];
-    let a = read_whole(with_sheet(t), name, at, tokens, tree);
-    is_written(a, name, at, tree, &mut output, tokens)
+    let a = read_whole(rt, with_sheet(t), name, at, tokens, tree)?;
+    is_written(rt, a, name, at, tree, &mut output, tokens)
 }
 
 // A sheet that stops: once more, and from the stopped reader again.
-fn is_stopped(t: Tally, name: &[u8], at: u64, tokens: &[u64]) -> Tally {
+fn is_stopped(
+    rt: &impl Print,
+    t: Tally,
+    name: &[u8],
+    at: u64,
+    tokens: &[u64],
+) -> io::Result<Tally> {
     let reader = stopped_at(0, 62);
     let want = Want {
         case: b'x',
         number: 62,
         reader,
     };
-    let a = called_full(t, name, at, fresh_at(0), tokens, want, &[]);
-    called_full(a, name, at, reader, tokens, want, &[])
+    let a = called_full(rt, t, name, at, fresh_at(0), tokens, want, &[])?;
+    called_full(rt, a, name, at, reader, tokens, want, &[])
 }
 
 // One deeper: neither read nor written.
-fn neither_way(t: Tally, name: &[u8], at: u64, tokens: &[u64], tree: &[u64]) -> Tally {
+fn neither_way(
+    rt: &impl Print,
+    t: Tally,
+    name: &[u8],
+    at: u64,
+    tokens: &[u64],
+    tree: &[u64],
+) -> io::Result<Tally> {
     let mut output = [0u64; 228];
-    let a = is_stopped(with_sheet(t), name, at, tokens);
-    is_not_written(a, name, at, tree, &mut output, 62)
+    let a = is_stopped(rt, with_sheet(t), name, at, tokens)?;
+    is_not_written(rt, a, name, at, tree, &mut output, 62)
 }
 
 // Signs before a name, and a semicolon.
@@ -54,16 +75,16 @@ pub fn signs_tree(tree: &mut [u64], times: u64) -> usize {
 }
 
 // An operand is begun at each sign and at the name.
-fn operands(t: Tally) -> Tally {
+fn operands(rt: &impl Print, t: Tally) -> io::Result<Tally> {
     let mut sheet = [0u64; 228];
     let mut tree = [0u64; 304];
     let name = b"depth by operands";
     let n = signs(&mut sheet, 36);
     let m = signs_tree(&mut tree, 36);
-    let a = both_ways(t, name, 37, between(&sheet, 0, n), between(&tree, 0, m));
+    let a = both_ways(rt, t, name, 37, between(&sheet, 0, n), between(&tree, 0, m))?;
     let k = signs(&mut sheet, 37);
     let l = signs_tree(&mut tree, 37);
-    neither_way(a, name, 38, between(&sheet, 0, k), between(&tree, 0, l))
+    neither_way(rt, a, name, 38, between(&sheet, 0, k), between(&tree, 0, l))
 }
 
 // Assignments one in the other, and a semicolon.
@@ -87,16 +108,16 @@ fn assignments_tree(tree: &mut [u64], times: u64) -> usize {
 }
 
 // A right side is begun at each `=`, and an operand at the last name.
-fn right_sides(t: Tally) -> Tally {
+fn right_sides(rt: &impl Print, t: Tally) -> io::Result<Tally> {
     let mut sheet = [0u64; 228];
     let mut tree = [0u64; 304];
     let name = b"depth by right sides";
     let n = assignments(&mut sheet, 36);
     let m = assignments_tree(&mut tree, 36);
-    let a = both_ways(t, name, 37, between(&sheet, 0, n), between(&tree, 0, m));
+    let a = both_ways(rt, t, name, 37, between(&sheet, 0, n), between(&tree, 0, m))?;
     let k = assignments(&mut sheet, 37);
     let l = assignments_tree(&mut tree, 37);
-    neither_way(a, name, 38, between(&sheet, 0, k), between(&tree, 0, l))
+    neither_way(rt, a, name, 38, between(&sheet, 0, k), between(&tree, 0, l))
 }
 
 // Loops one in the other, a semicolon behind each.
@@ -134,18 +155,18 @@ fn loops_tree(tree: &mut [u64], times: u64) -> usize {
 }
 
 // A statement list is begun in each loop.
-fn lists(t: Tally) -> Tally {
+fn lists(rt: &impl Print, t: Tally) -> io::Result<Tally> {
     let mut sheet = [0u64; 228];
     let mut tree = [0u64; 304];
     let name = b"depth by statement lists";
     let n = loops(&mut sheet, 37);
     let m = loops_tree(&mut tree, 36);
-    let a = both_ways(t, name, 37, between(&sheet, 0, n), between(&tree, 0, m));
+    let a = both_ways(rt, t, name, 37, between(&sheet, 0, n), between(&tree, 0, m))?;
     let k = loops(&mut sheet, 38);
     let l = loops_tree(&mut tree, 37);
-    neither_way(a, name, 38, between(&sheet, 0, k), between(&tree, 0, l))
+    neither_way(rt, a, name, 38, between(&sheet, 0, k), between(&tree, 0, l))
 }
 
-pub fn depths() -> Tally {
-    lists(right_sides(operands(no_tally())))
+pub fn depths(rt: &impl Print) -> io::Result<Tally> {
+    lists(rt, right_sides(rt, operands(rt, no_tally())?)?)
 }

@@ -6,6 +6,7 @@ use compared::checking::is_checked;
 use compared::tally::{Tally, no_tally};
 use compared::words::{between, put};
 use compared::writing::{is_not_written, is_written};
+use std::io;
 use token::kind;
 use tree::word;
 
@@ -33,53 +34,79 @@ fn sum_text(held: &mut [u64], at: usize, more: u64) -> usize {
 }
 
 // A sum is one statement however long it is.
-fn long_sum(t: Tally, held: &mut [u64], output: &mut [u64]) -> Tally {
+fn long_sum(rt: &impl Print, t: Tally, held: &mut [u64], output: &mut [u64]) -> io::Result<Tally> {
     let n = sum_tree(held, 29999);
     let m = sum_text(held, n, 29999);
     let tree = between(held, 0, n);
     let text = between(held, n, m);
-    let a = is_written(t, b"terms of a sum", 30000, tree, output, text);
-    is_checked(a, b"terms of a sum", 30000, tree, 0, 0)
+    let a = is_written(rt, t, b"terms of a sum", 30000, tree, output, text)?;
+    is_checked(rt, a, b"terms of a sum", 30000, tree, 0, 0)
 }
 
 // Damaged signs, by number: no clean reading gives them.
-fn no_tree(t: Tally, which: u64, records: &[u64], output: &mut [u64]) -> Tally {
-    let a = is_not_written(t, b"damaged signs", which, records, output, 65);
-    is_checked(a, b"damaged signs", which, records, 65, 0)
+fn no_tree(
+    rt: &impl Print,
+    t: Tally,
+    which: u64,
+    records: &[u64],
+    output: &mut [u64],
+) -> io::Result<Tally> {
+    let a = is_not_written(rt, t, b"damaged signs", which, records, output, 65)?;
+    is_checked(rt, a, b"damaged signs", which, records, 65, 0)
 }
 
 // Signs beyond the depth are too deep for the writer, and not for the check. Without their operand, or from the middle of a record on, they are no tree.
-fn too_many(t: Tally, tree: &[u64], output: &mut [u64], times: u64) -> Tally {
+fn too_many(
+    rt: &impl Print,
+    t: Tally,
+    tree: &[u64],
+    output: &mut [u64],
+    times: u64,
+) -> io::Result<Tally> {
     let n = tree.len();
-    let a = is_not_written(t, b"signs", times, tree, output, 62);
-    let b = is_checked(a, b"signs", times, tree, 0, 0);
-    let c = no_tree(b, 1, between(tree, 2, n), output);
-    no_tree(c, 2, between(tree, 1, n), output)
+    let a = is_not_written(rt, t, b"signs", times, tree, output, 62)?;
+    let b = is_checked(rt, a, b"signs", times, tree, 0, 0)?;
+    let c = no_tree(rt, b, 1, between(tree, 2, n), output)?;
+    no_tree(rt, c, 2, between(tree, 1, n), output)
 }
 
 // Nor are they one with another tree behind them, or with a number, at the word in the middle, that is no operator's.
-fn damaged(t: Tally, held: &mut [u64], output: &mut [u64], n: usize, middle: usize) -> Tally {
+fn damaged(
+    rt: &impl Print,
+    t: Tally,
+    held: &mut [u64],
+    output: &mut [u64],
+    n: usize,
+    middle: usize,
+) -> io::Result<Tally> {
     let name = [word::IDENTIFIER, 7];
     let m = put(held, n, &name);
-    let a = no_tree(t, 3, between(held, 0, m), output);
+    let a = no_tree(rt, t, 3, between(held, 0, m), output)?;
     let number = [4];
     put(held, middle, &number);
-    no_tree(a, 4, between(held, 0, n), output)
+    no_tree(rt, a, 4, between(held, 0, n), output)
 }
 
 // So many signs before a name, as they are and damaged.
-fn many_signs(t: Tally, held: &mut [u64], output: &mut [u64], times: u64, middle: usize) -> Tally {
+fn many_signs(
+    rt: &impl Print,
+    t: Tally,
+    held: &mut [u64],
+    output: &mut [u64],
+    times: u64,
+    middle: usize,
+) -> io::Result<Tally> {
     let n = signs_tree(held, times);
-    let a = too_many(t, between(held, 0, n), output, times);
-    damaged(a, held, output, n, middle)
+    let a = too_many(rt, t, between(held, 0, n), output, times)?;
+    damaged(rt, a, held, output, n, middle)
 }
 
 // The sum's records and text take 240,000 words, the signs' records and a tree behind them 400,006, the loops less than that.
-pub fn records() -> Tally {
+pub fn records(rt: &impl Print) -> io::Result<Tally> {
     let mut held = [0u64; 400006];
     let mut output = [0u64; 120003];
-    let a = long_sum(no_tally(), &mut held, &mut output);
-    let b = many_signs(a, &mut held, &mut output, 37, 39);
-    let c = many_signs(b, &mut held, &mut output, 200000, 200003);
-    nests(c, &mut held)
+    let a = long_sum(rt, no_tally(), &mut held, &mut output)?;
+    let b = many_signs(rt, a, &mut held, &mut output, 37, 39)?;
+    let c = many_signs(rt, b, &mut held, &mut output, 200000, 200003)?;
+    nests(rt, c, &mut held)
 }

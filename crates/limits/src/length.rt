@@ -7,13 +7,14 @@ use compared::call::{called, called_full};
 use compared::parts::Want;
 use compared::tally::{Tally, no_tally, with_sheet};
 use compared::words::{between, fresh_at};
+use std::io;
 use token::kind;
 
 // Tokens of the longest sheet.
 const MOST: usize = 65536;
 
 // A sheet of semicolons, from its start: a short store is refused.
-fn from_start(t: Tally, tokens: &[u64]) -> Tally {
+fn from_start(rt: &impl Print, t: Tally, tokens: &[u64]) -> io::Result<Tally> {
     let reader = fresh_at(0);
     let want = Want {
         case: b'r',
@@ -21,6 +22,7 @@ fn from_start(t: Tally, tokens: &[u64]) -> Tally {
         reader,
     };
     called(
+        rt,
         t,
         b"from the start, words",
         tokens.len() as u64,
@@ -33,7 +35,7 @@ fn from_start(t: Tally, tokens: &[u64]) -> Tally {
 }
 
 // The same sheet from its last tokens on: the semicolons are passed, and the end stands at the sheet's end.
-fn from_near_end(t: Tally, left: usize, tokens: &[u64]) -> Tally
+fn from_near_end(rt: &impl Print, t: Tally, left: usize, tokens: &[u64]) -> io::Result<Tally>
     requires { left ≤ 65536 }
 {
     let want = Want {
@@ -42,6 +44,7 @@ fn from_near_end(t: Tally, left: usize, tokens: &[u64]) -> Tally
         reader: fresh_at(MOST),
     };
     called_full(
+        rt,
         t,
         b"tokens left",
         left as u64,
@@ -53,7 +56,7 @@ fn from_near_end(t: Tally, left: usize, tokens: &[u64]) -> Tally
 }
 
 // A sheet of a length that can't be read: it stops, at the reader's old position and with an empty queue, whatever the reader is.
-fn not_read(t: Tally, position: usize, tokens: &[u64]) -> Tally {
+fn not_read(rt: &impl Print, t: Tally, position: usize, tokens: &[u64]) -> io::Result<Tally> {
     let name = b"not read, words";
     let at = tokens.len() as u64;
     let want = Want {
@@ -61,52 +64,37 @@ fn not_read(t: Tally, position: usize, tokens: &[u64]) -> Tally {
         number: 60,
         reader: stopped_at(position, 60),
     };
-    let a = called(t, name, at, fresh_at(position), tokens, 4000, want, &[]);
-    let b = called(
-        a,
-        name,
-        at,
-        waiting_at(position, 47, 96),
-        tokens,
-        4000,
-        want,
-        &[],
-    );
-    let c = called(
-        b,
-        name,
-        at,
-        waiting_at(position, 3, 97),
-        tokens,
-        4000,
-        want,
-        &[],
-    );
-    called(c, name, at, stopped_at(position, 62), tokens, 0, want, &[])
+    let full = waiting_at(position, 47, 96);
+    let over = waiting_at(position, 3, 97);
+    let stopped = stopped_at(position, 62);
+    let a = called(rt, t, name, at, fresh_at(position), tokens, 4000, want, &[])?;
+    let b = called(rt, a, name, at, full, tokens, 4000, want, &[])?;
+    let c = called(rt, b, name, at, over, tokens, 4000, want, &[])?;
+    called(rt, c, name, at, stopped, tokens, 0, want, &[])
 }
 
 // A sheet of 65,536 semicolons.
-fn longest(t: Tally, whole: &[u64]) -> Tally {
-    let a = from_start(t, whole);
-    let b = from_near_end(a, 0, whole);
-    let c = from_near_end(b, 1, whole);
-    from_near_end(c, 500, whole)
+fn longest(rt: &impl Print, t: Tally, whole: &[u64]) -> io::Result<Tally> {
+    let a = from_start(rt, t, whole)?;
+    let b = from_near_end(rt, a, 0, whole)?;
+    let c = from_near_end(rt, b, 1, whole)?;
+    from_near_end(rt, c, 500, whole)
 }
 
 // Sheets that are a token too long, and of odd lengths.
-fn too_long(t: Tally, sheet: &[u64]) -> Tally {
-    let a = not_read(with_sheet(t), 0, sheet);
-    let b = not_read(a, 65530, sheet);
-    let c = not_read(with_sheet(b), 0, between(sheet, 0, 1));
-    let d = not_read(with_sheet(c), 0, between(sheet, 0, 131071));
-    not_read(with_sheet(d), 65536, between(sheet, 0, 131073))
+fn too_long(rt: &impl Print, t: Tally, sheet: &[u64]) -> io::Result<Tally> {
+    let a = not_read(rt, with_sheet(t), 0, sheet)?;
+    let b = not_read(rt, a, 65530, sheet)?;
+    let c = not_read(rt, with_sheet(b), 0, between(sheet, 0, 1))?;
+    let d = not_read(rt, with_sheet(c), 0, between(sheet, 0, 131071))?;
+    not_read(rt, with_sheet(d), 65536, between(sheet, 0, 131073))
 }
 
-pub fn lengths() -> Tally {
+pub fn lengths(rt: &impl Print) -> io::Result<Tally> {
     let mut sheet = [0u64; 131074];
     let semicolon = [kind::SEMICOLON, 0];
     repeat(&mut sheet, 0, &semicolon, 65537);
     let words = &sheet[..];
-    let t = longest(with_sheet(no_tally()), between(words, 0, 131072));
-    too_long(t, words)
+    let t = longest(rt, with_sheet(no_tally()), between(words, 0, 131072))?;
+    too_long(rt, t, words)
 }

@@ -3,6 +3,7 @@
 use compared::checking::is_checked;
 use compared::tally::Tally;
 use compared::words::{between, put};
+use std::io;
 use tree::word;
 
 // The label of the outermost loop, and one that no loop round a jump has. The loops inside have the labels from 1 on, the innermost the first.
@@ -104,6 +105,7 @@ fn put_nest(held: &mut [u64], at: usize, jump: u8, label: u64, times: u64) -> us
 
 // What is answered of a jump in so many loops.
 fn in_loops(
+    rt: &impl Print,
     t: Tally,
     held: &mut [u64],
     jump: u8,
@@ -111,31 +113,38 @@ fn in_loops(
     times: u64,
     number: u64,
     record: u64,
-) -> Tally {
+) -> io::Result<Tally> {
     let n = put_nest(held, 0, jump, label, times);
     let records = between(held, 0, n);
-    is_checked(t, b"jump in loops", times, records, number, record)
+    is_checked(rt, t, b"jump in loops", times, records, number, record)
 }
 
 // A jump that is this record, in so many loops: to the outermost one, without a label, and to the other label.
-fn jump_in_loops(t: Tally, held: &mut [u64], jump: u8, times: u64, record: u64) -> Tally {
-    let a = in_loops(t, held, jump, OUTERMOST, times, 0, 0);
-    let b = in_loops(a, held, jump, 0, times, 0, 0);
-    in_loops(b, held, jump, OTHER, times, 67, record)
+fn jump_in_loops(
+    rt: &impl Print,
+    t: Tally,
+    held: &mut [u64],
+    jump: u8,
+    times: u64,
+    record: u64,
+) -> io::Result<Tally> {
+    let a = in_loops(rt, t, held, jump, OUTERMOST, times, 0, 0)?;
+    let b = in_loops(rt, a, held, jump, 0, times, 0, 0)?;
+    in_loops(rt, b, held, jump, OTHER, times, 67, record)
 }
 
 // Such jumps in an if, among statements and in a while's condition.
-fn ifs_in_loops(t: Tally, held: &mut [u64], times: u64) -> Tally {
-    let a = jump_in_loops(t, held, b'i', times, 4);
-    jump_in_loops(a, held, b'w', times, 2)
+fn ifs_in_loops(rt: &impl Print, t: Tally, held: &mut [u64], times: u64) -> io::Result<Tally> {
+    let a = jump_in_loops(rt, t, held, b'i', times, 4)?;
+    jump_in_loops(rt, a, held, b'w', times, 2)
 }
 
 // So many loops, with each jump and with none.
-fn loops(t: Tally, held: &mut [u64], times: u64) -> Tally {
-    let a = in_loops(t, held, b'-', 0, times, 0, 0);
-    let b = jump_in_loops(a, held, b'b', times, 2);
-    let c = jump_in_loops(b, held, b'c', times, 1);
-    ifs_in_loops(c, held, times)
+fn loops(rt: &impl Print, t: Tally, held: &mut [u64], times: u64) -> io::Result<Tally> {
+    let a = in_loops(rt, t, held, b'-', 0, times, 0, 0)?;
+    let b = jump_in_loops(rt, a, held, b'b', times, 2)?;
+    let c = jump_in_loops(rt, b, held, b'c', times, 1)?;
+    ifs_in_loops(rt, c, held, times)
 }
 
 // A jump in a function, with so many loops but the outermost between them, and the list and control that the function stands in.
@@ -148,6 +157,7 @@ fn put_function(held: &mut [u64], jump: u8, label: u64, inside: u64) -> usize {
 
 // What is answered of a jump in such a function in so many loops.
 fn in_function(
+    rt: &impl Print,
     t: Tally,
     held: &mut [u64],
     jump: u8,
@@ -156,30 +166,38 @@ fn in_function(
     times: u64,
     number: u64,
     record: u64,
-) -> Tally {
+) -> io::Result<Tally> {
     let a = put_function(held, jump, label, inside);
     let b = put_loops(held, a, times);
     let n = put_loop(held, b, OUTERMOST);
     let records = between(held, 0, n);
-    is_checked(t, b"jump in a function", times, records, number, record)
+    is_checked(rt, t, b"jump in a function", times, records, number, record)
 }
 
 // A jump that is this record, in a function without loops in so many: it does not lead out of the function.
-fn jump_out(t: Tally, held: &mut [u64], jump: u8, times: u64, record: u64) -> Tally {
-    let a = in_function(t, held, jump, 0, 1, times, 68, record);
-    in_function(a, held, jump, OUTERMOST, 1, times, 67, record)
+fn jump_out(
+    rt: &impl Print,
+    t: Tally,
+    held: &mut [u64],
+    jump: u8,
+    times: u64,
+    record: u64,
+) -> io::Result<Tally> {
+    let a = in_function(rt, t, held, jump, 0, 1, times, 68, record)?;
+    in_function(rt, a, held, jump, OUTERMOST, 1, times, 67, record)
 }
 
 // Each such jump.
-fn jumps_out(t: Tally, held: &mut [u64], times: u64) -> Tally {
-    let a = jump_out(t, held, b'b', times, 6);
-    let b = jump_out(a, held, b'c', times, 5);
-    jump_out(b, held, b'w', times, 6)
+fn jumps_out(rt: &impl Print, t: Tally, held: &mut [u64], times: u64) -> io::Result<Tally> {
+    let a = jump_out(rt, t, held, b'b', times, 6)?;
+    let b = jump_out(rt, a, held, b'c', times, 5)?;
+    jump_out(rt, b, held, b'w', times, 6)
 }
 
 // A jump that is this record, in a function in so many loops, with fewer in it, the outermost of which has this label: it leads to those in it alone. The next label
 // is that of a loop outside.
 fn jump_inside(
+    rt: &impl Print,
     t: Tally,
     held: &mut [u64],
     jump: u8,
@@ -187,104 +205,133 @@ fn jump_inside(
     inside: u64,
     times: u64,
     record: u64,
-) -> Tally {
-    let a = in_function(t, held, jump, label, inside, times, 0, 0);
-    let b = in_function(a, held, jump, 0, inside, times, 0, 0);
-    in_function(b, held, jump, inside, inside, times, 67, record)
+) -> io::Result<Tally> {
+    let a = in_function(rt, t, held, jump, label, inside, times, 0, 0)?;
+    let b = in_function(rt, a, held, jump, 0, inside, times, 0, 0)?;
+    in_function(rt, b, held, jump, inside, inside, times, 67, record)
 }
 
 // Each such jump.
-fn jumps_inside(t: Tally, held: &mut [u64], label: u64, inside: u64, times: u64) -> Tally {
-    let a = jump_inside(t, held, b'b', label, inside, times, 6);
-    let b = jump_inside(a, held, b'c', label, inside, times, 5);
-    jump_inside(b, held, b'i', label, inside, times, 8)
+fn jumps_inside(
+    rt: &impl Print,
+    t: Tally,
+    held: &mut [u64],
+    label: u64,
+    inside: u64,
+    times: u64,
+) -> io::Result<Tally> {
+    let a = jump_inside(rt, t, held, b'b', label, inside, times, 6)?;
+    let b = jump_inside(rt, a, held, b'c', label, inside, times, 5)?;
+    jump_inside(rt, b, held, b'i', label, inside, times, 8)
 }
 
 // What is answered of a loop without a label, in which an if with a continue stands before so many loops.
-fn before(t: Tally, held: &mut [u64], label: u64, times: u64, number: u64, record: u64) -> Tally {
+fn before(
+    rt: &impl Print,
+    t: Tally,
+    held: &mut [u64],
+    label: u64,
+    times: u64,
+    number: u64,
+    record: u64,
+) -> io::Result<Tally> {
     let two = [word::LIST + 2 * word::CHILD, 0, word::ABSENT, 0];
     let a = put_statement(held, 0, label);
     let b = put_nest(held, a, b'-', 0, times);
     let c = put(held, b, &two);
     let n = put_loop(held, c, 0);
     let records = between(held, 0, n);
-    is_checked(t, b"jump before loops", times, records, number, record)
+    is_checked(rt, t, b"jump before loops", times, records, number, record)
 }
 
 // The same of one in which a continue stands in so many loops, and one to the same label behind them.
-fn behind(t: Tally, held: &mut [u64], label: u64, times: u64, number: u64, record: u64) -> Tally {
+fn behind(
+    rt: &impl Print,
+    t: Tally,
+    held: &mut [u64],
+    label: u64,
+    times: u64,
+    number: u64,
+    record: u64,
+) -> io::Result<Tally> {
     let control = [word::LIST + word::CHILD, 0, word::CONTINUE, label];
     let a = put_nest(held, 0, b'c', label, times);
     let b = put(held, a, &control);
     let n = put_loop(held, b, 0);
     let records = between(held, 0, n);
-    is_checked(t, b"jump behind loops", times, records, number, record)
+    is_checked(rt, t, b"jump behind loops", times, records, number, record)
 }
 
 // Before so many loops a jump does not lead to those.
-fn jumps_before(t: Tally, held: &mut [u64], times: u64) -> Tally {
-    let a = before(t, held, 0, times, 0, 0);
-    before(a, held, OUTERMOST, times, 67, 2)
+fn jumps_before(rt: &impl Print, t: Tally, held: &mut [u64], times: u64) -> io::Result<Tally> {
+    let a = before(rt, t, held, 0, times, 0, 0)?;
+    before(rt, a, held, OUTERMOST, times, 67, 2)
 }
 
 // Nor does one behind them, which is the record with this number. Of two that lead nowhere the first is answered.
-fn jumps_beside(t: Tally, held: &mut [u64], times: u64, record: u64) -> Tally {
-    let a = jumps_before(t, held, times);
-    let b = behind(a, held, 0, times, 0, 0);
-    let c = behind(b, held, OUTERMOST, times, 67, record);
-    behind(c, held, OTHER, times, 67, 1)
+fn jumps_beside(
+    rt: &impl Print,
+    t: Tally,
+    held: &mut [u64],
+    times: u64,
+    record: u64,
+) -> io::Result<Tally> {
+    let a = jumps_before(rt, t, held, times)?;
+    let b = behind(rt, a, held, 0, times, 0, 0)?;
+    let c = behind(rt, b, held, OUTERMOST, times, 67, record)?;
+    behind(rt, c, held, OTHER, times, 67, 1)
 }
 
 // At most 256 records, but for 64 loops with more than a continue in them.
-fn few(t: Tally, held: &mut [u64]) -> Tally {
-    let a = loops(t, held, 33);
-    let b = loops(a, held, 64);
-    let c = jumps_out(b, held, 33);
-    jumps_inside(c, held, 20, 21, 30)
+fn few(rt: &impl Print, t: Tally, held: &mut [u64]) -> io::Result<Tally> {
+    let a = loops(rt, t, held, 33)?;
+    let b = loops(rt, a, held, 64)?;
+    let c = jumps_out(rt, b, held, 33)?;
+    jumps_inside(rt, c, held, 20, 21, 30)
 }
 
 // One fewer than there is room for, the function with them.
-fn kept(t: Tally, held: &mut [u64]) -> Tally {
-    let a = loops(t, held, 2047);
-    let b = jumps_out(a, held, 2046);
-    jumps_inside(b, held, 1000, 1001, 1046)
+fn kept(rt: &impl Print, t: Tally, held: &mut [u64]) -> io::Result<Tally> {
+    let a = loops(rt, t, held, 2047)?;
+    let b = jumps_out(rt, a, held, 2046)?;
+    jumps_inside(rt, b, held, 1000, 1001, 1046)
 }
 
 // As many as there is room for, and one more.
-fn full(t: Tally, held: &mut [u64]) -> Tally {
-    let a = loops(t, held, 2048);
-    let b = loops(a, held, 2049);
-    let c = jumps_out(b, held, 2047);
-    jumps_out(c, held, 2048)
+fn full(rt: &impl Print, t: Tally, held: &mut [u64]) -> io::Result<Tally> {
+    let a = loops(rt, t, held, 2048)?;
+    let b = loops(rt, a, held, 2049)?;
+    let c = jumps_out(rt, b, held, 2047)?;
+    jumps_out(rt, c, held, 2048)
 }
 
 // Many more.
-fn beyond(t: Tally, held: &mut [u64]) -> Tally {
-    let a = loops(t, held, 3000);
-    let b = jumps_out(a, held, 3000);
-    let c = jumps_inside(b, held, 1500, 1501, 2000);
-    jumps_inside(c, held, 900, 901, 2100)
+fn beyond(rt: &impl Print, t: Tally, held: &mut [u64]) -> io::Result<Tally> {
+    let a = loops(rt, t, held, 3000)?;
+    let b = jumps_out(rt, a, held, 3000)?;
+    let c = jumps_inside(rt, b, held, 1500, 1501, 2000)?;
+    jumps_inside(rt, c, held, 900, 901, 2100)
 }
 
 // Each number of loops by what is kept of it.
-fn each_size(t: Tally, held: &mut [u64]) -> Tally {
-    let a = few(t, held);
-    let b = kept(a, held);
-    let c = full(b, held);
-    beyond(c, held)
+fn each_size(rt: &impl Print, t: Tally, held: &mut [u64]) -> io::Result<Tally> {
+    let a = few(rt, t, held)?;
+    let b = kept(rt, a, held)?;
+    let c = full(rt, b, held)?;
+    beyond(rt, c, held)
 }
 
 // Jumps beside few loops, as many as there is room for, and many more.
-fn each_side(t: Tally, held: &mut [u64]) -> Tally {
-    let a = jumps_beside(t, held, 40, 161);
-    let b = jumps_beside(a, held, 2048, 8193);
-    jumps_beside(b, held, 3000, 12001)
+fn each_side(rt: &impl Print, t: Tally, held: &mut [u64]) -> io::Result<Tally> {
+    let a = jumps_beside(rt, t, held, 40, 161)?;
+    let b = jumps_beside(rt, a, held, 2048, 8193)?;
+    jumps_beside(rt, b, held, 3000, 12001)
 }
 
 // 50,000 loops and a break in them take 400,002 words.
-pub fn nests(t: Tally, held: &mut [u64]) -> Tally {
-    let a = each_size(t, held);
-    let b = each_side(a, held);
-    let c = in_loops(b, held, b'-', 0, 50000, 0, 0);
-    jump_in_loops(c, held, b'b', 50000, 2)
+pub fn nests(rt: &impl Print, t: Tally, held: &mut [u64]) -> io::Result<Tally> {
+    let a = each_size(rt, t, held)?;
+    let b = each_side(rt, a, held)?;
+    let c = in_loops(rt, b, held, b'-', 0, 50000, 0, 0)?;
+    jump_in_loops(rt, c, held, b'b', 50000, 2)
 }

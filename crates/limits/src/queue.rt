@@ -7,6 +7,7 @@ use compared::parts::Want;
 use compared::tally::{Tally, no_tally, with_sheet};
 use compared::words::{between, fresh_at, put};
 use grammar::Reader;
+use std::io;
 use token::kind;
 
 // The records of an empty `begin end`: a list, no control, their statement list, no result, the block.
@@ -22,7 +23,13 @@ fn block(sheet: &mut [u64], times: u64, end: &[u64]) -> usize {
 }
 
 // Of so many errors that wait, the front one is answered, and the others wait on.
-fn front(t: Tally, position: usize, left: usize, tokens: &[u64]) -> Tally
+fn front(
+    rt: &impl Print,
+    t: Tally,
+    position: usize,
+    left: usize,
+    tokens: &[u64],
+) -> io::Result<Tally>
     requires { 0 < left }
 {
     let want = Want {
@@ -31,6 +38,7 @@ fn front(t: Tally, position: usize, left: usize, tokens: &[u64]) -> Tally
         reader: waiting_at(position, 47, left - 1),
     };
     called_full(
+        rt,
         t,
         b"errors waiting",
         left as u64,
@@ -42,29 +50,29 @@ fn front(t: Tally, position: usize, left: usize, tokens: &[u64]) -> Tally
 }
 
 // 96 errors that wait are answered one after the other.
-fn drained(t: Tally, position: usize, tokens: &[u64]) -> Tally {
+fn drained(rt: &impl Print, t: Tally, position: usize, tokens: &[u64]) -> io::Result<Tally> {
     let mut u = t;
     let mut left: usize = 96;
     while 0 < left {
-        u = front(u, position, left, tokens);
+        u = front(rt, u, position, left, tokens)?;
         left -= 1;
     }
-    u
+    Ok(u)
 }
 
 // Behind them comes the end.
-fn ended(t: Tally, position: usize, tokens: &[u64]) -> Tally {
+fn ended(rt: &impl Print, t: Tally, position: usize, tokens: &[u64]) -> io::Result<Tally> {
     let reader = fresh_at(position);
     let want = Want {
         case: b'.',
         number: 0,
         reader,
     };
-    called_full(t, b"errors waiting", 0, reader, tokens, want, &[])
+    called_full(rt, t, b"errors waiting", 0, reader, tokens, want, &[])
 }
 
 // A block with 96 errors: the tree comes before them.
-fn full(t: Tally) -> Tally {
+fn full(rt: &impl Print, t: Tally) -> io::Result<Tally> {
     let mut sheet = [0u64; 400];
     let end = [kind::END, 0, kind::EOF, 0];
     let n = block(&mut sheet, 96, &end);
@@ -76,6 +84,7 @@ fn full(t: Tally) -> Tally {
         reader: waiting_at(194, 47, 96),
     };
     let a = called_full(
+        rt,
         with_sheet(t),
         b"errors in a block",
         96,
@@ -83,28 +92,28 @@ fn full(t: Tally) -> Tally {
         tokens,
         want,
         &tree,
-    );
-    ended(drained(a, 194, tokens), 194, tokens)
+    )?;
+    ended(rt, drained(rt, a, 194, tokens)?, 194, tokens)
 }
 
 // A block that is stopped, and its stopped reader again.
-fn stops(t: Tally, name: &[u8], at: u64, tokens: &[u64]) -> Tally {
+fn stops(rt: &impl Print, t: Tally, name: &[u8], at: u64, tokens: &[u64]) -> io::Result<Tally> {
     let reader = stopped_at(0, 64);
     let want = Want {
         case: b'x',
         number: 64,
         reader,
     };
-    let a = called_full(with_sheet(t), name, at, fresh_at(0), tokens, want, &[]);
-    called_full(a, name, at, reader, tokens, want, &[])
+    let a = called_full(rt, with_sheet(t), name, at, fresh_at(0), tokens, want, &[])?;
+    called_full(rt, a, name, at, reader, tokens, want, &[])
 }
 
 // A block with 97 errors.
-fn over(t: Tally) -> Tally {
+fn over(rt: &impl Print, t: Tally) -> io::Result<Tally> {
     let mut sheet = [0u64; 400];
     let end = [kind::END, 0, kind::EOF, 0];
     let n = block(&mut sheet, 97, &end);
-    stops(t, b"errors in a block", 97, between(&sheet, 0, n))
+    stops(rt, t, b"errors in a block", 97, between(&sheet, 0, n))
 }
 
 // The reader when 95 errors and the statement's own wait, and the front was answered.
@@ -117,7 +126,7 @@ fn own_last() -> Reader {
 }
 
 // A block that has no end fails with the end of tokens, behind its 95 errors; behind 96 it stops.
-fn own(t: Tally) -> Tally {
+fn own(rt: &impl Print, t: Tally) -> io::Result<Tally> {
     let mut sheet = [0u64; 400];
     let name = b"errors and the statement's own";
     let n = block(&mut sheet, 95, &[]);
@@ -127,6 +136,7 @@ fn own(t: Tally) -> Tally {
         reader: own_last(),
     };
     let a = called_full(
+        rt,
         with_sheet(t),
         name,
         95,
@@ -134,11 +144,11 @@ fn own(t: Tally) -> Tally {
         between(&sheet, 0, n),
         want,
         &[],
-    );
+    )?;
     let k = block(&mut sheet, 96, &[]);
-    stops(a, name, 96, between(&sheet, 0, k))
+    stops(rt, a, name, 96, between(&sheet, 0, k))
 }
 
-pub fn queues() -> Tally {
-    own(over(full(no_tally())))
+pub fn queues(rt: &impl Print) -> io::Result<Tally> {
+    own(rt, over(rt, full(rt, no_tally())?)?)
 }

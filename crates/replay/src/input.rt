@@ -1,9 +1,10 @@
 // The input's lines, byte by byte: a letter, then numbers, with `=` behind some of them. A line `#` is a comment; what follows `>` is printed.
 use compared::print::print_byte;
+use std::io;
 
 // A line so far: its number from 1, its first byte, 0 before that; how many numbers are whole, and how many of those stand before `=`;
 // the number that was begun, and whether one was; whether the line is malformed.
-#[derive(Drop)]
+#[derive(Clone, Copy)]
 pub struct Line {
     pub at: u64,
     pub case: u8,
@@ -87,19 +88,19 @@ fn number_byte(line: Line, byte: u8, numbers: &mut [u64]) -> Line {
 }
 
 // One byte more, which ends no line.
-pub fn byte_read(line: Line, byte: u8, numbers: &mut [u64]) -> Line {
+pub fn byte_read(rt: &impl Print, line: Line, byte: u8, numbers: &mut [u64]) -> io::Result<Line> {
     let case = line.case;
     match case {
         0 => {
             let mut l = line;
             l.case = byte;
-            l
+            Ok(l)
         }
-        b'#' => line,
+        b'#' => Ok(line),
         b'>' => {
-            print_byte(byte);
-            line
+            print_byte(rt, byte)?;
+            Ok(line)
         }
-        _ => number_byte(line, byte, numbers),
+        _ => Ok(number_byte(line, byte, numbers)),
     }
 }

@@ -10,13 +10,14 @@ use compared::words::{between, fresh_at, put, word_at};
 use compared::writing::{is_not_written, is_written};
 use grammar::limit::QUEUE;
 use grammar::{Queue, Reader};
+use std::io;
 
 // Words of the output for a tree of the input: those of 500 tokens, and some more.
 const ROOM: usize = 1003;
 
 // Where the replay stands: how many words the present sheet has, where the records held behind them end, the reader that the next
 // call gets, the counts of the present group and those of the groups before it.
-#[derive(Drop)]
+#[derive(Clone, Copy)]
 pub struct Run {
     pub words: usize,
     pub end: usize,
@@ -37,14 +38,14 @@ pub fn at_start() -> Run {
 }
 
 // A line that can't be one counts as a difference.
-fn malformed(run: Run, line: Line) -> Run {
-    print(b"difference at line ");
-    print_number(line.at);
-    print(b": malformed\n");
+fn malformed(rt: &impl Print, run: Run, line: Line) -> io::Result<Run> {
+    print(rt, b"difference at line ")?;
+    print_number(rt, line.at)?;
+    print(rt, b": malformed\n")?;
     let mut r = run;
     let group = run.group;
     r.group = with_difference(group);
-    r
+    Ok(r)
 }
 
 // A sheet begins: its words, and a fresh reader.
@@ -115,21 +116,36 @@ fn records_of(case: u8, before: &[u64]) -> &[u64] {
 
 // The call whose answer a line expects, on a store that is exactly long enough; before it, where no error waits, the call on a
 // store one word short.
-fn stepped(t: Tally, at: u64, reader: Reader, tokens: &[u64], want: Want, tree: &[u64]) -> Tally {
+fn stepped(
+    rt: &impl Print,
+    t: Tally,
+    at: u64,
+    reader: Reader,
+    tokens: &[u64],
+    want: Want,
+    tree: &[u64],
+) -> io::Result<Tally> {
     let name = b"line";
     let mut u = t;
     if reader.waiting == 0 {
-        u = called_short(t, name, at, reader, tokens);
+        u = called_short(rt, t, name, at, reader, tokens)?;
     }
-    called_full(u, name, at, reader, tokens, want, tree)
+    called_full(rt, u, name, at, reader, tokens, want, tree)
 }
 
 // After an end or a stop the same call answers the same and leaves the reader as it is.
-fn stepped_again(t: Tally, at: u64, tokens: &[u64], want: Want) -> Tally {
+fn stepped_again(
+    rt: &impl Print,
+    t: Tally,
+    at: u64,
+    tokens: &[u64],
+    want: Want,
+) -> io::Result<Tally> {
     let case = want.case;
     let reader = want.reader;
     match case {
         b'.' | b'x' => called_full(
+            rt,
             t,
             b"again, line",
             at,
@@ -138,98 +154,141 @@ fn stepped_again(t: Tally, at: u64, tokens: &[u64], want: Want) -> Tally {
             want,
             between(tokens, 0, 0),
         ),
-        _ => t,
+        _ => Ok(t),
     }
 }
 
 // An answer that a line expects.
-fn answer_compared(run: Run, line: Line, want: Want, tree: &[u64], held: &[u64]) -> Tally {
+fn answer_compared(
+    rt: &impl Print,
+    run: Run,
+    line: Line,
+    want: Want,
+    tree: &[u64],
+    held: &[u64],
+) -> io::Result<Tally> {
     let tokens = between(held, 0, run.words);
     let reader = run.reader;
     let group = run.group;
-    let t = stepped(group, line.at, reader, tokens, want, tree);
-    stepped_again(t, line.at, tokens, want)
+    let t = stepped(rt, group, line.at, reader, tokens, want, tree)?;
+    stepped_again(rt, t, line.at, tokens, want)
 }
 
 // A line that expects an answer. The next call gets the reader that this one was to return; the records are held for the writer and the check.
-fn answer_read(run: Run, line: Line, numbers: &[u64], held: &mut [u64]) -> Run {
+fn answer_read(
+    rt: &impl Print,
+    run: Run,
+    line: Line,
+    numbers: &[u64],
+    held: &mut [u64],
+) -> io::Result<Run> {
     let mark = line.mark;
     let case = line.case;
     let before = between(numbers, 0, mark);
     let behind = between(numbers, mark, numbers.len());
     let want = wanted(case, before, behind);
     let tree = records_of(case, before);
-    let group = answer_compared(run, line, want, tree, held);
+    let group = answer_compared(rt, run, line, want, tree, held)?;
     let mut r = records_read(run, tree, held);
     let next = want.reader;
     r.reader = next;
     r.group = group;
-    r
+    Ok(r)
 }
 
 // The text that a line of the input expects for a tree is written, and read back it gives the tree.
-fn text_compared(t: Tally, at: u64, records: &[u64], text: &[u64]) -> Tally {
+fn text_compared(
+    rt: &impl Print,
+    t: Tally,
+    at: u64,
+    records: &[u64],
+    text: &[u64],
+) -> io::Result<Tally> {
     let mut output = [0u64; ROOM];
-    let a = is_written(t, b"line", at, records, &mut output, text);
-    read_whole(a, b"read back, line", at, text, records)
+    let a = is_written(rt, t, b"line", at, records, &mut output, text)?;
+    read_whole(rt, a, b"read back, line", at, text, records)
 }
 
 // The reason that a line of the input expects for records that are not written.
-fn reason_compared(t: Tally, at: u64, records: &[u64], number: u64) -> Tally {
+fn reason_compared(
+    rt: &impl Print,
+    t: Tally,
+    at: u64,
+    records: &[u64],
+    number: u64,
+) -> io::Result<Tally> {
     let mut output = [0u64; ROOM];
-    is_not_written(t, b"line", at, records, &mut output, number)
+    is_not_written(rt, t, b"line", at, records, &mut output, number)
 }
 
 // A line that expects what the writer makes of the records that are held: a text, or the number of a reason.
-fn writing_read(run: Run, line: Line, numbers: &[u64], held: &[u64]) -> Run {
+fn writing_read(
+    rt: &impl Print,
+    run: Run,
+    line: Line,
+    numbers: &[u64],
+    held: &[u64],
+) -> io::Result<Run> {
     let case = line.case;
     let group = run.group;
     let records = between(held, run.words, run.end);
     let mut r = run;
     if case == b'w' {
-        r.group = text_compared(group, line.at, records, numbers);
+        r.group = text_compared(rt, group, line.at, records, numbers)?;
     } else {
-        r.group = reason_compared(group, line.at, records, word_at(numbers, 0));
+        r.group = reason_compared(rt, group, line.at, records, word_at(numbers, 0))?;
     }
-    r
+    Ok(r)
 }
 
 // A line that expects what the check answers of the records that are held: a number, and a record number.
-fn checking_read(run: Run, line: Line, numbers: &[u64], held: &[u64]) -> Run {
+fn checking_read(
+    rt: &impl Print,
+    run: Run,
+    line: Line,
+    numbers: &[u64],
+    held: &[u64],
+) -> io::Result<Run> {
     let group = run.group;
     let records = between(held, run.words, run.end);
     let number = word_at(numbers, 0);
     let record = word_at(numbers, 1);
     let mut r = run;
-    r.group = is_checked(group, b"line", line.at, records, number, record);
-    r
+    r.group = is_checked(rt, group, b"line", line.at, records, number, record)?;
+    Ok(r)
 }
 
 // A group ends: its counts are printed behind its name.
-fn group_end(run: Run) -> Run {
+fn group_end(rt: &impl Print, run: Run) -> io::Result<Run> {
     let group = run.group;
     let total = run.total;
-    print_tally(group);
+    print_tally(rt, group)?;
     let mut r = run;
     r.total = added(total, group);
     r.group = no_tally();
-    r
+    Ok(r)
 }
 
 // A whole line.
-pub fn line_read(run: Run, line: Line, numbers: &[u64], held: &mut [u64]) -> Run {
+pub fn line_read(
+    rt: &impl Print,
+    run: Run,
+    line: Line,
+    numbers: &[u64],
+    held: &mut [u64],
+) -> io::Result<Run> {
     let case = line.case;
     if line.malformed {
-        return malformed(run, line);
+        return malformed(rt, run, line);
     }
     match case {
-        b'#' => run,
-        b'>' => group_end(run),
-        b's' => sheet_read(run, numbers, held),
-        b't' | b'e' | b'.' | b'x' => answer_read(run, line, numbers, held),
-        b'a' => records_read(run, numbers, held),
-        b'w' | b'n' => writing_read(run, line, numbers, held),
-        b'l' => checking_read(run, line, numbers, held),
-        _ => malformed(run, line),
+        b'#' => Ok(run),
+        b'>' => group_end(rt, run),
+        b's' => Ok(sheet_read(run, numbers, held)),
+        b't' | b'e' | b'.' | b'x' => answer_read(rt, run, line, numbers, held),
+        b'a' => Ok(records_read(run, numbers, held)),
+        b'w' | b'n' => writing_read(rt, run, line, numbers, held),
+        b'l' => checking_read(rt, run, line, numbers, held),
+        _ => malformed(rt, run, line),
     }
 }

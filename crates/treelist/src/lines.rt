@@ -20,7 +20,7 @@ const MOST_NEWLINE: u64 = 1;
 
 // Where the reading of the lines stands: how many are whole; in the present one how many bytes of the text were met, whether
 // the number that is due has a digit, that number, and the kind and the newline once they are read; whether a line was malformed.
-#[derive(Drop)]
+#[derive(Clone, Copy)]
 pub struct Scan {
     pub lines: usize,
     pub at: usize,
