@@ -1,4 +1,4 @@
-// What C and Rust link: the proved check behind a function of lent words alone. An exported function can give back no enum, so an answer is two numbers.
+// The check behind a function of lent words alone, which crates/labels_c exports to C and Rust. An exported function can give back no enum, so an answer is two numbers.
 ghost use Rattle.std.specs.Prelude.{◌≡◌};
 ghost use Rattle.labels.specs.Contract.{ExportsChecking, flat_labels};
 
@@ -21,8 +21,7 @@ fn flatten(answer: Labels) -> FlatLabels
 
 // `check_labels`, with its answer as two numbers. `ExportsChecking` is the equation of the answer with the definition `check_labels`, for all inputs
 // (specs/Contract.antt).
-#[unsafe(no_mangle)]
-pub extern "C" fn leatherlava_check_labels(records: &[u64]) -> FlatLabels
+pub fn leatherlava_check_labels(records: &[u64]) -> FlatLabels
     ensures { ExportsChecking records.now result }
 {
     flatten(check_labels(records))

@@ -1,4 +1,4 @@
-// What C and Rust link: the proved reader behind a function of numbers and lent numbers alone. The host keeps the reader and lends its
+// The reader behind a function of numbers and lent numbers alone, which crates/parser_c exports to C and Rust. The host keeps the reader and lends its
 // fields one by one; an exported function can give back no enum, so an answer is two numbers.
 ghost use Rattle.std.specs.Prelude.{◌≡◌};
 ghost use Rattle.grammar.specs.Contract.{Exports};
@@ -36,8 +36,7 @@ fn flatten(answer: Answer) -> Flat
 
 // `next_stmt` on a reader that the host keeps. `Exports` is the equation of answer, reader and store with the definition `next_stmt`, for all inputs
 // (grammar's specs/Contract.antt).
-#[unsafe(no_mangle)]
-pub extern "C" fn leatherlava_next_stmt(
+pub fn leatherlava_next_stmt(
     position: &mut usize,
     waiting: &mut usize,
     errors: &mut Queue,

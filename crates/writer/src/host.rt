@@ -1,4 +1,4 @@
-// What C and Rust link: the proved writer behind a function of lent words alone. An exported function can give back no enum, so an answer is two
+// The writer behind a function of lent words alone, which crates/writer_c exports to C and Rust. An exported function can give back no enum, so an answer is two
 // numbers.
 ghost use Rattle.std.specs.Prelude.{◌≡◌};
 ghost use Rattle.grammar.specs.Contract.{ExportsWriting};
@@ -28,8 +28,7 @@ fn flatten(answer: Written) -> Flat
 
 // `write_stmt`, with its answer as two numbers. `ExportsWriting` is the equation of answer and output with the definition `write_stmt`, for all inputs (grammar's
 // specs/Contract.antt).
-#[unsafe(no_mangle)]
-pub extern "C" fn leatherlava_write_stmt(records: &[u64], output: &mut [u64]) -> Flat
+pub fn leatherlava_write_stmt(records: &[u64], output: &mut [u64]) -> Flat
     ensures { ExportsWriting records.now output.old result output.new }
 {
     flatten(write_stmt(records, output))
