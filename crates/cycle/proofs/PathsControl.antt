@@ -10,14 +10,13 @@ use lib.ListN.{length, take, drop}
 use Rattle.token.specs.Kind
 use Rattle.token.specs.declared.Token.{Token}
 use Rattle.tree.specs.NodeKind
-use Rattle.tree.specs.Tree.{Tree, more, kind_of}
+use Rattle.tree.specs.Tree.{Tree, kind_of}
 use Rattle.tree.specs.Node
 use Rattle.grammar.specs.Reading.Limit.{queue_limit}
 use Rattle.grammar.specs.Reading.Number
 use Rattle.grammar.specs.Reading.Result.{Res, ok, fail, stop, unclean, either, then, ifb, push, Error}
 use Rattle.grammar.specs.Reading.Look.{look, try_label}
 use Rattle.grammar.specs.Reading.Expr.{Depth, expr}
-use Rattle.grammar.specs.Reading.Block.{whole}
 use Rattle.grammar.specs.Reading.Stmt.{ends, control_value, is_control, control_flow, starts_stmt, synchronize, synchronized, caught}
 use Rattle.grammar.proofs.Laws.Keep.{Holds, k_ok, k_any, k_if}
 use Rattle.scan.specs.Post.{As, no_words, Agrees, Taken, Missed, Resumes, waiting_errors}

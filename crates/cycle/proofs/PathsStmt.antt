@@ -8,7 +8,7 @@ use lib.Dec.{eqb}
 use lib.ListN.{take, drop}
 use borrow.Author.Tests.{ne_eqb}
 use Rattle.token.specs.Kind
-use Rattle.tree.specs.Tree.{Tree, more, records}
+use Rattle.tree.specs.Tree.{Tree, records}
 use Rattle.tree.specs.Node
 use Rattle.grammar.specs.Reading.Number
 use Rattle.grammar.specs.Reading.Pattern.{to_pattern, modified}

@@ -12,7 +12,7 @@ use Rattle.tree.specs.Node
 use Rattle.tree.specs.Maybe.{just}
 use Rattle.grammar.specs.Reading.Result.{ok, ifb}
 use Rattle.grammar.specs.Reading.Pattern.{pattern, conv, receiver, by_item}
-use Rattle.grammar.specs.Reading.Primary.{atom, with_path}
+use Rattle.grammar.specs.Reading.Primary.{with_path}
 use Rattle.grammar.specs.Reading.Function.{required, variadic, default, Params, param_mode, variadic_param, plain_param, param, joined, params, function_def, function_assignment_target}
 use Rattle.grammar.specs.Reading.Depth.{at_depth}
 use Rattle.grammar.specs.Canonical.Write.{own, targeted, named, after_commas, target_atom, as_row, write, writes}

@@ -10,7 +10,7 @@ use Rattle.grammar.specs.Reading.Result.{Error, ifb}
 use Rattle.grammar.specs.Reading.Pattern.{conv}
 use Rattle.grammar.specs.Reading.Expr.{Depth, Stmts}
 use Rattle.grammar.specs.Reading.Block.{Split, whole, result, split_before, split_kids, split_last, split, block_split, block_of, body as body-read, block_expr, expr_label, branches}
-use Rattle.grammar.specs.Canonical.Valid.{IsName, tight, branch, else_clause, jump, control, block, stmt, Valid, Valids, v_if, v_block, v_labelled, v_branch, v_no_else, v_else, v_continue, v_break, v_break_value, v_break_label, v_return, v_return_value, v_no_control, v_control, v_block_plain, v_block_control, v_block_result, v_expression, v_loop, v_while, v_for, v_assert, v_none, v_more}
+use Rattle.grammar.specs.Canonical.Valid.{IsName, tight, branch, else_clause, control, block, stmt, Valid, Valids, v_if, v_block, v_labelled, v_branch, v_no_else, v_else, v_continue, v_break, v_break_value, v_break_label, v_return, v_return_value, v_no_control, v_control, v_block_plain, v_block_control, v_block_result, v_expression, v_loop, v_while, v_for, v_assert, v_none, v_more}
 use Rattle.grammar.proofs.Laws.Post.{Post, p_ok, p_fail, post_then, post_if, post_map}
 use Rattle.grammar.proofs.Laws.Convert.{Converts, none_sound}
 use Rattle.grammar.proofs.Laws.Roles.{valids_snoc}

@@ -18,7 +18,7 @@ use Rattle.grammar.specs.Reading.Pattern.{conv, modified}
 use Rattle.grammar.specs.Reading.Expr.{Depth, Stmts}
 use Rattle.grammar.specs.Reading.Stmt.{loop, while_loop, lvalue_list, for_loop, stmt_label, stmt as stmt-read, ends, control_value, control_flow, control_last, is_control, stmts}
 use Rattle.grammar.specs.Reading.Depth.{primary_expr, unary_expr, at_depth}
-use Rattle.grammar.specs.Canonical.Valid.{IsName, IsLabel, no_label, a_label, tight, unary, ex, jump, control, body, stmt, Valid, Valids, Pattern, v_table, v_tight, v_unary_op, v_continue, v_break, v_break_value, v_break_label, v_return, v_return_value, v_no_control, v_control, v_body, v_expression, v_loop, v_while, v_for, v_assert, v_none, p_modifier}
+use Rattle.grammar.specs.Canonical.Valid.{IsName, IsLabel, no_label, a_label, tight, unary, ex, jump, body, stmt, Valid, Valids, Pattern, v_table, v_tight, v_unary_op, v_continue, v_break, v_break_value, v_break_label, v_return, v_return_value, v_no_control, v_control, v_body, v_expression, v_loop, v_while, v_for, v_assert, v_none, p_modifier}
 use Rattle.grammar.proofs.Laws.Facts.{clash, apart}
 use Rattle.grammar.proofs.Laws.Post.{Post, p_ok, p_fail, p_stop, post_then, post_either, post_if, post_push, post_map}
 use Rattle.grammar.proofs.Laws.Convert.{none_sound}

@@ -1,6 +1,5 @@
 -- `nodes::records::with_action` meets its contract: an assignment's value is rewritten, and any other tree stays. Assumes nothing.
 use mathlib.Core.Path.{sym, ◌∙◌}
-use Prim.Native.Nat.{◌-◌}
 use Rattle.nodes.proofs.Ends.{acted_other, acted_some}
 use Rattle.nodes.proofs.records.with_action.Goals as goal
 

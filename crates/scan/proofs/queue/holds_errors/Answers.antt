@@ -1,6 +1,5 @@
 -- `scan::queue::holds_errors` meets its contract. Assumes nothing.
 use mathlib.Core.Path.{sym, ◌∙◌}
-use Prim.Native.Nat.{◌-◌}
 use native.Mathlib.Omega.{arith}
 use Rattle.scan.proofs.Fits.{error_on, error_no, errors_all}
 use Rattle.scan.proofs.queue.holds_errors.Goals as goal

@@ -1,6 +1,5 @@
 -- `scan::queue::holds_zeros` meets its contract. Assumes nothing.
 use mathlib.Core.Path.{sym, ◌∙◌}
-use Prim.Native.Nat.{◌-◌}
 use native.Mathlib.Omega.{arith}
 use Rattle.scan.proofs.Fits.{zero_on, zero_no, zeros_all}
 use Rattle.scan.proofs.queue.holds_zeros.Goals as goal

@@ -1,5 +1,4 @@
 -- `scan::queue::pop` meets its contract. Assumes nothing.
-use Prim.Native.Nat.{◌-◌}
 use native.Mathlib.Omega.{arith}
 use Rattle.scan.proofs.Text.{pop_next}
 use Rattle.scan.proofs.queue.pop.Goals as goal
