@@ -5,6 +5,7 @@ pub mod Starts
 pub mod Snoc
 pub mod Patterns
 pub mod Expr
+pub mod Given
 pub mod Primary
 pub mod Function
 pub mod Block

@@ -22,7 +22,8 @@ use Rattle.grammar.proofs.Laws.Back.Follow.{ends}
 use Rattle.grammar.proofs.Laws.Back.Starts.{Starts, starts_length, ex_starts}
 use Rattle.grammar.proofs.Laws.Roles.{valids_snoc}
 use Rattle.grammar.proofs.Laws.Back.Snoc.{join, join_snoc, join_one, suite_snoc, most_more, most_snoc, split_snoc}
-use Rattle.grammar.proofs.Laws.Back.Expr.{Reads, Ended, at_end, at_elif, at_else, after, ex_back}
+use Rattle.grammar.proofs.Laws.Back.Expr.{Reads, Ended, at_end, at_elif, at_else, after}
+use Rattle.grammar.proofs.Laws.Back.Given.{ex_back}
 
 -- nothing is missing where words begin
 present : {b : Bool} {n : ℕ} (t : Tree) → Starts b n (write t own []) → eqb (kind_of t) NodeKind.Absent ≡ false

@@ -21,7 +21,8 @@ use Rattle.grammar.proofs.Laws.Length.{tokens_length}
 use Rattle.grammar.proofs.Laws.Back.Follow.{ends}
 use Rattle.grammar.proofs.Laws.Back.Starts.{Starts, starts, starts_length, isnt, stmt_starts}
 use Rattle.grammar.proofs.Laws.Back.Snoc.{join, most_more}
-use Rattle.grammar.proofs.Laws.Back.Expr.{Reads, ex_back}
+use Rattle.grammar.proofs.Laws.Back.Expr.{Reads}
+use Rattle.grammar.proofs.Laws.Back.Given.{ex_back}
 use Rattle.grammar.proofs.Laws.Back.Unary.{unary_need, unary_back}
 use Rattle.grammar.proofs.Laws.Back.Stmt.{stmt_reads, stmts_reads}
 

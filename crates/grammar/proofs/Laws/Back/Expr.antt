@@ -1,32 +1,30 @@
 -- The words of valid expressions read back: binary operators, tuples and assignments over operands that read back at the depth d. Assumes nothing.
 use Rattle.std.specs.Prelude.{◌≡◌, Bool, false, eqb}
-use Rattle.std.proofs.Math.Path.{refl, ap, fun_ext}
+use Rattle.std.proofs.Math.Path.{refl}
 use Rattle.std.proofs.Common.{sym}
 use Rattle.std.proofs.Math.Bool.{true}
 use mathlib.Core.List.{List, ◌∷◌}
-use Prim.Native.Nat.{ℕ, zero, suc, pred, ◌+◌, ◌*◌, ◌/◌, ◌≤◌, ◌<◌, max}
+use Prim.Native.Nat.{ℕ, zero, suc, pred, ◌≤◌, max}
 use Rattle.std.proofs.Math.Nat.{le_refl}
 use native.Mathlib.Omega.{arith}
 use Rattle.std.proofs.Math.ListN.{length}
 use Rattle.token.specs.Kind
 use Rattle.operator.specs.Operator.{op_level, op_number, assign_code, level_count}
-use Rattle.tree.specs.NodeKind
-use Rattle.tree.specs.Tree.{Tree, Forest, node, more, one, snoc, kind_of}
+use Rattle.tree.specs.Tree.{Tree, Forest, more, one, snoc}
 use Rattle.tree.specs.Node
 use Rattle.grammar.specs.Reading.Result.{Error, Res, ok}
 use Rattle.grammar.specs.Reading.Look.{try_assign_keyword, action}
 use Rattle.grammar.specs.Reading.Expr.{operators, binop_expr, members, tuple_expr, expr}
-use Rattle.grammar.specs.Reading.Primary.{with_action}
 use Rattle.grammar.specs.Reading.Depth.{at_depth}
-use Rattle.grammar.specs.Canonical.Write.{own, modified, after_commas, as_suite, write, writes, fun_gives}
+use Rattle.grammar.specs.Canonical.Write.{own, after_commas, as_suite, write, writes}
 use Rattle.grammar.specs.Canonical.Need.{most, need, needs}
-use Rattle.grammar.specs.Canonical.Valid.{Valid, Valids, Pattern, unary, binop, assign, plain, ex, given, control, stmt, v_target, v_unary, v_up, v_binary_op, v_assign, v_inner, v_single, v_tuple, v_local, v_plain, v_keyword, v_given, v_given_assign, v_given_target, v_none, v_more}
-use borrow.Author.Tests.{eq-eqb, le-leb}
-use Rattle.grammar.proofs.Laws.Roles.{as_inner, same_action, has_target}
+use Rattle.grammar.specs.Canonical.Valid.{Valid, Valids, Pattern, unary, binop, plain, ex, control, stmt, v_unary, v_up, v_binary_op, v_assign, v_inner, v_single, v_tuple, v_local, v_none, v_more}
+use borrow.Author.Tests.{eq-eqb}
+use Rattle.grammar.proofs.Laws.Roles.{as_inner}
 use Rattle.grammar.proofs.Laws.Back.Steps.{Needs, both, done, weigh, then_ok, then_on, then_is, if_yes, if_no, sees, converts, symbol, fits}
 use Rattle.grammar.proofs.Laws.Length.{tokens_length}
 use Rattle.grammar.proofs.Laws.Back.Follow.{comma_rank, assign_rank, end_rank, Follows, follows, weaker, comma, ends, op_kind, assign_kind, rank_op, rank_assign, no_op, no_comma, no_assign}
-use Rattle.grammar.proofs.Laws.Back.Starts.{Starts, up, first_is, isnt, no_keyword, keyword_seen, assign_own, assign_modified, target_words, target_depth, binop_starts, pattern_starts}
+use Rattle.grammar.proofs.Laws.Back.Starts.{Starts, up, first_is, isnt, no_keyword, assign_own, binop_starts, pattern_starts}
 use Rattle.grammar.proofs.Laws.Back.Snoc.{join, join_snoc, join_none, most_more}
 use Rattle.grammar.proofs.Laws.Back.Patterns.{as_expr}
 
@@ -63,15 +61,6 @@ operators_step : {r s : List ℕ} (operand : List Error → List ℕ → Res Tre
     → Needs n d (operators operand (suc l) (suc m) a q (k ∷ 0 ∷ s)) (operators operand (suc l) m (Node.binary_op (op_number k) a b) q r)
 unfolding operators
 operators_step operand l m k a q e h = sees _ _ _ (symbol k (op_kind k e).0) (if_yes _ _ (eq-eqb (op_level k) (suc l) e) (then_on _ _ h))
-
--- under a modifier only an assignment is written in another way
-words_place : (t : Tree) → eqb (kind_of t) NodeKind.Assignment ≡ false → write t modified ≡ write t own
-unfolding write
-words_place (node k v f) e = fun_ext λ r. rw e
-
-depth_place : (t : Tree) → eqb (kind_of t) NodeKind.Assignment ≡ false → need t modified ≡ need t own
-unfolding need
-depth_place (node k v f) e = rw e
 
 module _ (d : ℕ) (R : Reads d) where
   -- what is shown of the operands of the level l
@@ -158,7 +147,7 @@ module _ (d : ℕ) (R : Reads d) where
   pattern_back h q s f = let x = as_expr h in rw (x.words, x.depth) at (tuple_inner (as_inner (x.valid false)) q s f)
 
   -- an assignment with the keyword m, 0 or 1 + its action
-  assignment_back : {c : Bool} {lhs rhs : Tree} {r : List ℕ} (k m : ℕ) (q ts : List ℕ) → eqb (assign_code k) 0 ≡ false → Pattern lhs → Valid (ex true c) rhs → After c r
+  pub assignment_back : {c : Bool} {lhs rhs : Tree} {r : List ℕ} (k m : ℕ) (q ts : List ℕ) → eqb (assign_code k) 0 ≡ false → Pattern lhs → Valid (ex true c) rhs → After c r
       → try_assign_keyword q ts ≡ ok m (write lhs own (k ∷ 0 ∷ write rhs own r))
       → Needs (max (need lhs own) (suc (need rhs own))) d (expr (at_depth d) q ts) (ok (Node.assignment (action m) (pred (assign_code k)) lhs rhs) r)
   unfolding expr
@@ -175,39 +164,3 @@ module _ (d : ℕ) (R : Reads d) where
   plain_back (v_local (v_assign {lhs = p} {rhs = t} k c h g e)) q r a =
       rw (assign_own p t k (omega arith) c e r, e)
       (assignment_back k 0 q _ c h g a (no_keyword q (up (omega arith) (pattern_starts h _))))
-
-  -- an assignment with a keyword, the m-th
-  keyword_back : {c : Bool} (m : ℕ) {t : Tree} → m < 3 → Valid (assign own c (suc m)) t → (q r : List ℕ) → After c r → Needs (need t own) d (expr (at_depth d) q (write t own r)) (ok t r)
-  unfolding need
-  keyword_back m l (v_assign {lhs = p} {rhs = t} k c h g e) q r a =
-      rw (assign_own p t k (omega arith) c e r, e)
-      (assignment_back k (suc (suc m)) q _ c h g a (keyword_seen (suc m) (omega arith) q _))
-
-  pub ex_back : {b c : Bool} {t : Tree} → Valid (ex b c) t → (q r : List ℕ) → After c r → Needs (need t own) d (expr (at_depth d) q (write t own r)) (ok t r)
-  unfolding need
-  ex_back (v_plain h) q r a = plain_back h q r a
-  ex_back (v_keyword {a = m} l h) q r a = keyword_back m l h q r a
-
-  -- under a modifier, which is an assignment's action
-  pub given_back : {a : ℕ} {t : Tree} → a < 4 → Valid (given a) t → (q s : List ℕ)
-      → (e : Tree) × Needs (need t modified) d (expr (at_depth d) q (write t modified (Kind.CloseParen ∷ 0 ∷ s))) (ok e (Kind.CloseParen ∷ 0 ∷ s)) × (with_action (suc a) e ≡ t)
-  unfolding write need
-  given_back {a = a} {t = t} l (v_given e h) q s =
-      (t, rw (words_place t e, depth_place t e) (plain_back h q _ close), same_action a t e)
-  given_back {a = a} l (v_given_assign (v_assign {lhs = p} {rhs = t} k c h g e)) q s =
-      let n : ℕ = pred (assign_code k) in
-      let z : (0 + 4 * n) / 4 ≡ n = omega arith in (
-        Node.assignment 0 n p t,
-        rw (assign_modified p t k l c e (Kind.CloseParen ∷ 0 ∷ s), e) (assignment_back k 0 q _ c h g close (no_keyword q (up (omega arith) (pattern_starts h _)))),
-        ap (λ m. Node.assignment a m p t) z,
-      )
-  given_back {a = a} l (v_given_target {p = p} {d = t} g h) q s =
-      let e = has_target g h in
-      let w : List ℕ = Kind.CloseParen ∷ 0 ∷ s in
-      let m : fun_gives modified (a + 4 * 0) ≡ true = le-leb (suc (a + 0)) 4 (omega arith) in
-      let v : Valid (plain true true) (Node.assignment 2 0 p t) = v_inner (as_inner (v_target g h)) in (
-        Node.assignment 2 0 p t,
-        rw (target_words modified (a + 0) p t m e w, target_depth modified (a + 0) p t m e)
-            (rw (target_words own 2 p t refl e w, target_depth own 2 p t refl e) at (plain_back v q w close)),
-        refl,
-      )

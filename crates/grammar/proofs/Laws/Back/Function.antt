@@ -23,7 +23,8 @@ use Rattle.grammar.proofs.Laws.Back.Steps.{Needs, Fits, fits, done, exactly, eno
 use Rattle.grammar.proofs.Laws.Roles.{valids_snoc}
 use Rattle.grammar.proofs.Laws.Back.Snoc.{join, join_snoc, join_one, row_snoc, most_more, most_snoc}
 use Rattle.grammar.proofs.Laws.Back.Patterns.{by_snoc}
-use Rattle.grammar.proofs.Laws.Back.Expr.{Reads, close, ex_back}
+use Rattle.grammar.proofs.Laws.Back.Expr.{Reads, close}
+use Rattle.grammar.proofs.Laws.Back.Given.{ex_back}
 use Rattle.grammar.proofs.Laws.Back.Block.{block_body}
 use Rattle.grammar.proofs.Laws.Back.Primary.{Not, other, not_first, named_words, paren_stops, atom_back, path_back}
 

@@ -21,7 +21,8 @@ use Rattle.grammar.proofs.Laws.Length.{tokens_length}
 use Rattle.grammar.proofs.Laws.Back.Follow.{comma_rank, Follows, follows, weaker, comma, ends, no_path}
 use Rattle.grammar.proofs.Laws.Back.Starts.{first_is, isnt, no_keyword, keyword_seen, keyword_starts, binop_starts, plain_starts, ex_starts}
 use Rattle.grammar.proofs.Laws.Back.Snoc.{join, join_snoc, join_none, join_one, most_more}
-use Rattle.grammar.proofs.Laws.Back.Expr.{Reads, after, close, inner_back, plain_back, ex_back, given_back}
+use Rattle.grammar.proofs.Laws.Back.Expr.{Reads, after, close, inner_back, plain_back}
+use Rattle.grammar.proofs.Laws.Back.Given.{ex_back, given_back}
 
 -- the words begin with a token that is not of the kind c
 pub data Not (c : ℕ) : List ℕ → Type 0 where

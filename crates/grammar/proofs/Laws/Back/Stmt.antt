@@ -25,7 +25,8 @@ use Rattle.grammar.proofs.Laws.Back.Follow.{end_rank, Follows, weaker}
 use Rattle.grammar.proofs.Laws.Back.Starts.{Starts, up, first_is, isnt, no_keyword, pattern_starts, ex_starts, stmt_starts}
 use Rattle.grammar.proofs.Laws.Back.Snoc.{join, join_snoc, join_none, most_more}
 use Rattle.grammar.proofs.Laws.Back.Patterns.{as_expr}
-use Rattle.grammar.proofs.Laws.Back.Expr.{Reads, Ended, at_end, at_elif, at_else, after, pattern_back, ex_back}
+use Rattle.grammar.proofs.Laws.Back.Expr.{Reads, Ended, at_end, at_elif, at_else, after, pattern_back}
+use Rattle.grammar.proofs.Laws.Back.Given.{ex_back}
 
 -- the end of a list is seen
 record End (end k : ℕ) : Type 0 where
