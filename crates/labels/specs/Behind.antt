@@ -2,18 +2,18 @@
 use Rattle.std.specs.Prelude.{◌≡◌, Bool, false, List, [], ◌∷◌, ℕ, ◌+◌, ◌-◌, ◌/◌, ◌%◌, ◌≤◌, ◌<◌, eqb, ltb, length, get_or, drop}
 use Rattle.tree.specs.Tree.{Tree}
 use Rattle.grammar.specs.Reading.Result.{ifb}
-use Rattle.tables.specs.Choice.{if◌then◌else◌}
+use Rattle.tables.specs.Choice.{when◌then◌else◌}
 use Rattle.labels.specs.declared.Labels.{Labels}
 use Rattle.labels.specs.Offences.{Enclosing, offence, offences, inside, first}
 use Rattle.writer.specs.Stack.{At}
 
 -- from a tree on h trees stand before a record with n children: how many stand behind it, from the tree on or from its parent
 unfoldable pub further : ℕ → ℕ → ℕ
-further n h = if ltb n h then h - n + 1 else 1
+further n h = when ltb n h then h - n + 1 else 1
 
 -- whether the tree is the record's last child
 unfoldable pub is_last : ℕ → ℕ → Bool
-is_last n h = if eqb h 1 then ltb 0 n else false
+is_last n h = when eqb h 1 then ltb 0 n else false
 
 -- what encloses the first of h trees that stand before these words
 unfoldable pub enclosing : ℕ → List ℕ → List Enclosing

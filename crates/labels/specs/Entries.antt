@@ -1,7 +1,7 @@
 -- What is kept of the nodes that enclose a place, and what the functions that keep it say. Definitions; they assume nothing.
 use Rattle.std.specs.Prelude.{◌≡◌, Bool, true, false, not, ◌&&◌, List, [], ◌∷◌, ℕ, zero, suc, ◌+◌, ◌*◌, ◌-◌, ◌≤◌, ◌<◌, eqb, ltb, length, get_or, drop}
 use Rattle.tree.specs.NodeKind
-use Rattle.tables.specs.Choice.{if◌then◌else◌}
+use Rattle.tables.specs.Choice.{when◌then◌else◌}
 use Rattle.labels.specs.Offences.{Enclosing, means, inside}
 use Rattle.labels.specs.Behind.{enclosing}
 
@@ -25,26 +25,26 @@ around (e ∷ es) = inside e.kind e.label (around es)
 unfoldable pub standing : ℕ → List Entry → List Entry
 standing h [] = []
 standing h (e ∷ es) =
-    if ltb h e.from then standing h es else
+    when ltb h e.from then standing h es else
     e ∷ es
 
 -- the kinds whose last child is a body
 unfoldable pub encloses : ℕ → Bool
 encloses k =
-    if eqb k NodeKind.Loop then true else
-    if eqb k NodeKind.WhileLoop then true else
-    if eqb k NodeKind.ForLoop then true else
-    if eqb k NodeKind.Block then true else
-    if eqb k NodeKind.FunctionDef then true else
+    when eqb k NodeKind.Loop then true else
+    when eqb k NodeKind.WhileLoop then true else
+    when eqb k NodeKind.ForLoop then true else
+    when eqb k NodeKind.Block then true else
+    when eqb k NodeKind.FunctionDef then true else
     false
 
 -- whether an enclosing node of the kind j with the label m serves one of the kind k with the label l
 unfoldable pub node_serves : ℕ → ℕ → ℕ → ℕ → Bool
 node_serves k l j m =
-    if eqb j NodeKind.Loop then means l m else
-    if eqb j NodeKind.WhileLoop then means l m else
-    if eqb j NodeKind.ForLoop then means l m else
-    if eqb j NodeKind.Block then eqb k NodeKind.Break && means l m else
+    when eqb j NodeKind.Loop then means l m else
+    when eqb j NodeKind.WhileLoop then means l m else
+    when eqb j NodeKind.ForLoop then means l m else
+    when eqb j NodeKind.Block then eqb k NodeKind.Break && means l m else
     false
 
 -- there is no room for one entry more in m words
@@ -54,9 +54,9 @@ Full m es = m < 3 * length es + 3
 -- the entries with one more for a node of the kind k with the label l and c children, before whose record h trees stand; none where it encloses nothing, or in m words is no room
 unfoldable pub entered : ℕ → ℕ → ℕ → ℕ → ℕ → List Entry → List Entry
 entered m k l c h es =
-    if eqb c 0 then es else
-    if not (encloses k) then es else
-    if ltb (m - 3 * length es) 3 then es else
+    when eqb c 0 then es else
+    when not (encloses k) then es else
+    when ltb (m - 3 * length es) 3 then es else
     record { kind = k; label = l; from = h } ∷ es
 
 -- one entry more, or none, is kept

@@ -7,7 +7,7 @@ use Rattle.tree.specs.Decode.{decode}
 use Rattle.grammar.specs.Reading.Limit.{no_statement, offender_labelled, offender_unlabelled}
 use Rattle.grammar.specs.Reading.Result.{ifb}
 use Rattle.grammar.specs.Canonical.Writing.{readable}
-use Rattle.tables.specs.Choice.{if◌then◌else◌}
+use Rattle.tables.specs.Choice.{when◌then◌else◌}
 use Rattle.labels.specs.declared.Labels.{Labels}
 use Rattle.labels.specs.declared.Labels.TheVariants.{Fine, Refused}
 
@@ -18,7 +18,7 @@ pub data Enclosing : Type 0 where
 
 -- whether a break or continue with the label l may mean what has the label m: without a label anything, else the same label
 abbrev pub means : ℕ → ℕ → Bool
-means l m = if eqb l 0 then true else eqb l m
+means l m = when eqb l 0 then true else eqb l m
 
 -- whether it serves a node of the kind k, a break or a continue, with the label l: a loop serves both, a block a break
 abbrev pub serves : ℕ → ℕ → Enclosing → Bool
@@ -31,7 +31,7 @@ any_serves k l (e ∷ r) = serves k l e || any_serves k l r
 
 -- the number of an offender with the label l
 abbrev pub offender : ℕ → ℕ
-offender l = if eqb l 0 then offender_unlabelled else offender_labelled
+offender l = when eqb l 0 then offender_unlabelled else offender_labelled
 
 abbrev pub is_jump : ℕ → Bool
 is_jump k = eqb k NodeKind.Break || eqb k NodeKind.Continue
@@ -39,17 +39,17 @@ is_jump k = eqb k NodeKind.Break || eqb k NodeKind.Continue
 -- the number of a node's offence where r encloses it, or 0
 unfoldable pub offence : List Enclosing → ℕ → ℕ → ℕ
 offence r k l =
-    if is_jump k then (if any_serves k l r then 0 else offender l) else
+    when is_jump k then (when any_serves k l r then 0 else offender l) else
     0
 
 -- what encloses the last child of a node, where r encloses the node: that child is the body of a loop, of a block and of a function
 unfoldable pub inside : ℕ → ℕ → List Enclosing → List Enclosing
 inside k l r =
-    if eqb k NodeKind.Loop then loop l ∷ r else
-    if eqb k NodeKind.WhileLoop then loop l ∷ r else
-    if eqb k NodeKind.ForLoop then loop l ∷ r else
-    if eqb k NodeKind.Block then block l ∷ r else
-    if eqb k NodeKind.FunctionDef then [] else
+    when eqb k NodeKind.Loop then loop l ∷ r else
+    when eqb k NodeKind.WhileLoop then loop l ∷ r else
+    when eqb k NodeKind.ForLoop then loop l ∷ r else
+    when eqb k NodeKind.Block then block l ∷ r else
+    when eqb k NodeKind.FunctionDef then [] else
     r
 
 -- the number of each record's offence, or 0, in store order; b encloses the last of some trees, r the others
@@ -64,7 +64,7 @@ unfoldable mutual
 
 -- the record number i has the offence n, or what is said of the records behind it is said
 abbrev pub noted : ℕ → ℕ → Labels → Labels
-noted i n others = if eqb n 0 then others else Refused n i
+noted i n others = when eqb n 0 then others else Refused n i
 
 -- the first offender among records that are numbered from i on
 unfoldable pub first : ℕ → List ℕ → Labels

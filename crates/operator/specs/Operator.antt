@@ -13,53 +13,53 @@ use Rattle.operator.specs.declared.WhichAssignment.{WhichAssignment}
 use Rattle.operator.specs.declared.WhichAssignment.TheVariants.{Plain, With, NotAssignment}
 
 -- so that a table reads line by line
-infixr 5 if◌then◌else◌
-abbrev if◌then◌else◌ : {A : Type 0} → Bool → A → A → A
-if b then x else y = cond b x y
+infixr 5 when◌then◌else◌
+abbrev when◌then◌else◌ : {A : Type 0} → Bool → A → A → A
+when b then x else y = cond b x y
 
 unfoldable pub which_unary_op : ℕ → WhichUnary
 which_unary_op kind =
-    if eqb kind Kind.OpAdd then Unary Pos else
-    if eqb kind Kind.OpSub then Unary Neg else
-    if eqb kind Kind.OpInv then Unary Inv else
-    if eqb kind Kind.Not then Unary Not else
+    when eqb kind Kind.OpAdd then Unary Pos else
+    when eqb kind Kind.OpSub then Unary Neg else
+    when eqb kind Kind.OpInv then Unary Inv else
+    when eqb kind Kind.Not then Unary Not else
     NotUnary
 
 unfoldable pub which_binary_op : ℕ → WhichBinary
 which_binary_op kind =
-    if eqb kind Kind.OpMul then Binary Mul else
-    if eqb kind Kind.OpDiv then Binary Div else
-    if eqb kind Kind.OpMod then Binary Mod else
-    if eqb kind Kind.OpAdd then Binary Add else
-    if eqb kind Kind.OpSub then Binary Sub else
-    if eqb kind Kind.OpLShift then Binary LShift else
-    if eqb kind Kind.OpRShift then Binary RShift else
-    if eqb kind Kind.OpAnd then Binary BitAnd else
-    if eqb kind Kind.OpXor then Binary BitXor else
-    if eqb kind Kind.OpOr then Binary BitOr else
-    if eqb kind Kind.OpLT then Binary LT else
-    if eqb kind Kind.OpGT then Binary GT else
-    if eqb kind Kind.OpLE then Binary LE else
-    if eqb kind Kind.OpGE then Binary GE else
-    if eqb kind Kind.OpEQ then Binary EQ else
-    if eqb kind Kind.OpNE then Binary NE else
-    if eqb kind Kind.And then Binary And else
-    if eqb kind Kind.Or then Binary Or else
+    when eqb kind Kind.OpMul then Binary Mul else
+    when eqb kind Kind.OpDiv then Binary Div else
+    when eqb kind Kind.OpMod then Binary Mod else
+    when eqb kind Kind.OpAdd then Binary Add else
+    when eqb kind Kind.OpSub then Binary Sub else
+    when eqb kind Kind.OpLShift then Binary LShift else
+    when eqb kind Kind.OpRShift then Binary RShift else
+    when eqb kind Kind.OpAnd then Binary BitAnd else
+    when eqb kind Kind.OpXor then Binary BitXor else
+    when eqb kind Kind.OpOr then Binary BitOr else
+    when eqb kind Kind.OpLT then Binary LT else
+    when eqb kind Kind.OpGT then Binary GT else
+    when eqb kind Kind.OpLE then Binary LE else
+    when eqb kind Kind.OpGE then Binary GE else
+    when eqb kind Kind.OpEQ then Binary EQ else
+    when eqb kind Kind.OpNE then Binary NE else
+    when eqb kind Kind.And then Binary And else
+    when eqb kind Kind.Or then Binary Or else
     NotBinary
 
 unfoldable pub which_assignment_op : ℕ → WhichAssignment
 which_assignment_op kind =
-    if eqb kind Kind.OpAssign then Plain else
-    if eqb kind Kind.OpAddAssign then With Add else
-    if eqb kind Kind.OpSubAssign then With Sub else
-    if eqb kind Kind.OpMulAssign then With Mul else
-    if eqb kind Kind.OpDivAssign then With Div else
-    if eqb kind Kind.OpModAssign then With Mod else
-    if eqb kind Kind.OpAndAssign then With BitAnd else
-    if eqb kind Kind.OpOrAssign then With BitOr else
-    if eqb kind Kind.OpXorAssign then With BitXor else
-    if eqb kind Kind.OpLShiftAssign then With LShift else
-    if eqb kind Kind.OpRShiftAssign then With RShift else
+    when eqb kind Kind.OpAssign then Plain else
+    when eqb kind Kind.OpAddAssign then With Add else
+    when eqb kind Kind.OpSubAssign then With Sub else
+    when eqb kind Kind.OpMulAssign then With Mul else
+    when eqb kind Kind.OpDivAssign then With Div else
+    when eqb kind Kind.OpModAssign then With Mod else
+    when eqb kind Kind.OpAndAssign then With BitAnd else
+    when eqb kind Kind.OpOrAssign then With BitOr else
+    when eqb kind Kind.OpXorAssign then With BitXor else
+    when eqb kind Kind.OpLShiftAssign then With LShift else
+    when eqb kind Kind.OpRShiftAssign then With RShift else
     NotAssignment
 
 -- how many levels there are

@@ -4,7 +4,7 @@ use Rattle.tree.specs.NodeKind
 use Rattle.tree.specs.Tree.{Tree, Forest, node, none, more, count}
 use Rattle.tree.specs.Maybe.{Maybe}
 use Rattle.grammar.specs.Canonical.Write.{tail_of, has_function}
-use Rattle.tables.specs.Choice.{if◌then◌else◌}
+use Rattle.tables.specs.Choice.{when◌then◌else◌}
 use Rattle.tables.specs.Class as Class
 use Rattle.tables.specs.Class.{class, list_class}
 use Rattle.tables.specs.Demand.{demand, fits}
@@ -18,38 +18,38 @@ name_given f = value_in (first_tree (children_in (first_tree (tail_of f))))
 
 -- whether `fun` with a target gives an assignment. 0: no; 1: the signature has no name; 2: it has one
 unfoldable pub function_form : Forest → ℕ
-function_form f = if has_function f then (if eqb (name_given f) 0 then 1 else 2) else 0
+function_form f = when has_function f then (when eqb (name_given f) 0 then 1 else 2) else 0
 
 -- the modes: src/mode.rt says what they are
 unfoldable pub body_mode : Forest → ℕ
 body_mode f =
-    if not (eqb (kind_in (last_tree f)) NodeKind.Absent) then 2 else
-    if eqb (kind_in (last_in (first_tree f))) NodeKind.Expression then 0 else
+    when not (eqb (kind_in (last_tree f)) NodeKind.Absent) then 2 else
+    when eqb (kind_in (last_in (first_tree f))) NodeKind.Expression then 0 else
     1
 
 unfoldable pub signature_mode : Forest → ℕ
 signature_mode f =
     let defaults : ℕ = count_in (first_tree (tail_of f)) in
-    if eqb (kind_in (last_tree f)) NodeKind.Absent then (if eqb defaults 0 then 0 else 1) else
-    if eqb defaults 0 then 2 else
+    when eqb (kind_in (last_tree f)) NodeKind.Absent then (when eqb defaults 0 then 0 else 1) else
+    when eqb defaults 0 then 2 else
     3
 
 unfoldable pub group_mode : Forest → ℕ
-group_mode f = if eqb (kind_in (last_tree f)) NodeKind.Assignment then 1 + value_in (last_tree f) % 4 else 0
+group_mode f = when eqb (kind_in (last_tree f)) NodeKind.Assignment then 1 + value_in (last_tree f) % 4 else 0
 
 unfoldable pub inner_mode : ℕ → Forest → ℕ
 inner_mode kind f =
-    if eqb kind NodeKind.List then Class.Nothing else
-    if eqb kind NodeKind.StmtList then body_mode f else
-    if eqb kind NodeKind.Primary then count_in (last_tree f) else
-    if eqb kind NodeKind.Assignment then function_form f else
-    if eqb kind NodeKind.Unpack then kind_in (last_tree f) else
-    if eqb kind NodeKind.IfExpr then kind_in (last_tree f) else
-    if eqb kind NodeKind.FunctionDef then value_in (first_tree f) else
-    if eqb kind NodeKind.ExprBlock then kind_in (last_tree f) else
-    if eqb kind NodeKind.SignatureDef then signature_mode f else
-    if eqb kind NodeKind.Group then group_mode f else
-    if eqb kind NodeKind.Pack then kind_in (last_tree f) else
+    when eqb kind NodeKind.List then Class.Nothing else
+    when eqb kind NodeKind.StmtList then body_mode f else
+    when eqb kind NodeKind.Primary then count_in (last_tree f) else
+    when eqb kind NodeKind.Assignment then function_form f else
+    when eqb kind NodeKind.Unpack then kind_in (last_tree f) else
+    when eqb kind NodeKind.IfExpr then kind_in (last_tree f) else
+    when eqb kind NodeKind.FunctionDef then value_in (first_tree f) else
+    when eqb kind NodeKind.ExprBlock then kind_in (last_tree f) else
+    when eqb kind NodeKind.SignatureDef then signature_mode f else
+    when eqb kind NodeKind.Group then group_mode f else
+    when eqb kind NodeKind.Pack then kind_in (last_tree f) else
     0
 
 -- as the code has it for no tree too: kind, value and mode 0
@@ -57,7 +57,7 @@ abbrev pub inner_class : Maybe Tree → ℕ
 inner_class m = class (kind_in m) (value_in m) (inner_mode (kind_in m) (children_in m))
 
 unfoldable pub mode_of : ℕ → Forest → ℕ
-mode_of kind f = if eqb kind NodeKind.List then list_class (count f) (inner_class (last_tree f)) else inner_mode kind f
+mode_of kind f = when eqb kind NodeKind.List then list_class (count f) (inner_class (last_tree f)) else inner_mode kind f
 
 abbrev pub class_of : Tree → ℕ
 class_of (node k v f) = class k v (mode_of k f)
@@ -69,7 +69,7 @@ class_in m = class (kind_in m) (value_in m) (mode_of (kind_in m) (children_in m)
 -- whether the first token is a label
 unfoldable mutual
   pub begins_labelled : Tree → Bool
-  begins_labelled (node k v f) = if passes k then first_labelled f else (eqb k NodeKind.Block && ltb 0 v)
+  begins_labelled (node k v f) = when passes k then first_labelled f else (eqb k NodeKind.Block && ltb 0 v)
 
   pub first_labelled : Forest → Bool
   first_labelled none = false
@@ -78,7 +78,7 @@ unfoldable mutual
 -- whether the end is a tuple of one member
 unfoldable mutual
   pub ends_single : Tree → Bool
-  ends_single (node k v f) = if eqb k NodeKind.Assignment then last_single f else (eqb k NodeKind.Tuple && eqb (count_in (last_tree f)) 1)
+  ends_single (node k v f) = when eqb k NodeKind.Assignment then last_single f else (eqb k NodeKind.Tuple && eqb (count_in (last_tree f)) 1)
 
   pub last_single : Forest → Bool
   last_single none = false

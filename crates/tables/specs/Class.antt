@@ -1,7 +1,7 @@
 -- The class of a node by its kind, value and mode, and of a list by the number of its members and the last one's class: src/class.rt says what they are. Definitions; they assume nothing.
 use Rattle.std.specs.Prelude.{ℕ, ◌+◌, ◌%◌, eqb, ltb, leb}
 use Rattle.tree.specs.NodeKind
-use Rattle.tables.specs.Choice.{if◌then◌else◌, where_zero, where_is}
+use Rattle.tables.specs.Choice.{when◌then◌else◌, where_zero, where_is}
 use Rattle.tables.specs.Operators.{Levels, level}
 
 -- `...` alone.
@@ -128,89 +128,89 @@ keyword_class value =
 -- One that `fun` with a target gives, and the signature has the target's name: `let` by itself, the others only under a group's modifier.
 unfoldable pub named_class : ℕ → ℕ
 named_class value =
-    if eqb value 2 then Tight else
-    if ltb value 4 then Given else
+    when eqb value 2 then Tight else
+    when ltb value 4 then Given else
     keyword_class value
 
 -- An assignment with the mode that function_form gives.
 unfoldable pub assignment_class : ℕ → ℕ → ℕ
 assignment_class value mode =
-    if eqb mode 0 then keyword_class value else
-    if eqb mode 1 then where_is value 2 Tight (keyword_class value) else
+    when eqb mode 0 then keyword_class value else
+    when eqb mode 1 then where_is value 2 Tight (keyword_class value) else
     named_class value
 
 unfoldable pub body_class : ℕ → ℕ
 body_class mode =
-    if eqb mode 0 then OpenBody else
-    if eqb mode 1 then PlainBody else
+    when eqb mode 0 then OpenBody else
+    when eqb mode 1 then PlainBody else
     EndedBody
 
 -- Atoms, access items and patterns.
 unfoldable pub later_class : ℕ → ℕ
 later_class kind =
-    if leb kind NodeKind.Group then Atom else
-    if leb kind NodeKind.InvokeTable then Item else
-    if leb kind NodeKind.Modifier then Pattern else
+    when leb kind NodeKind.Group then Atom else
+    when leb kind NodeKind.InvokeTable then Item else
+    when leb kind NodeKind.Modifier then Pattern else
     Nothing
 
 unfoldable pub class : ℕ → ℕ → ℕ → ℕ
 class kind value mode =
-    if eqb kind NodeKind.Absent then Absent else
-    if eqb kind NodeKind.List then mode else
-    if eqb kind NodeKind.Expression then Statement else
-    if eqb kind NodeKind.Loop then Statement else
-    if eqb kind NodeKind.WhileLoop then Statement else
-    if eqb kind NodeKind.ForLoop then Statement else
-    if eqb kind NodeKind.Assert then Statement else
-    if eqb kind NodeKind.StmtList then body_class mode else
-    if eqb kind NodeKind.Continue then Control else
-    if eqb kind NodeKind.Break then Control else
-    if eqb kind NodeKind.Return then Control else
-    if eqb kind NodeKind.Primary then where_zero mode Bare Primary else
-    if eqb kind NodeKind.UnaryOp then Unary else
-    if eqb kind NodeKind.BinaryOp then binary_class value else
-    if eqb kind NodeKind.Assignment then assignment_class value mode else
-    if eqb kind NodeKind.Unpack then where_zero mode Lone Tight else
-    if eqb kind NodeKind.Tuple then Tuple else
-    if eqb kind NodeKind.Table then Tight else
-    if eqb kind NodeKind.IfExpr then Tight else
-    if eqb kind NodeKind.Block then Tight else
-    if eqb kind NodeKind.FunctionDef then where_zero mode Tight Named else
-    if eqb kind NodeKind.TableItem then TableItem else
-    if eqb kind NodeKind.ExprBlock then Block else
-    if eqb kind NodeKind.ConditionalBranch then Branch else
-    if eqb kind NodeKind.SignatureDef then Signature else
-    if eqb kind NodeKind.ParamDef then Param else
-    if eqb kind NodeKind.DefaultDef then Default else
-    if eqb kind NodeKind.FieldAttribute then Field else
-    if eqb kind NodeKind.FieldIndex then Field else
+    when eqb kind NodeKind.Absent then Absent else
+    when eqb kind NodeKind.List then mode else
+    when eqb kind NodeKind.Expression then Statement else
+    when eqb kind NodeKind.Loop then Statement else
+    when eqb kind NodeKind.WhileLoop then Statement else
+    when eqb kind NodeKind.ForLoop then Statement else
+    when eqb kind NodeKind.Assert then Statement else
+    when eqb kind NodeKind.StmtList then body_class mode else
+    when eqb kind NodeKind.Continue then Control else
+    when eqb kind NodeKind.Break then Control else
+    when eqb kind NodeKind.Return then Control else
+    when eqb kind NodeKind.Primary then where_zero mode Bare Primary else
+    when eqb kind NodeKind.UnaryOp then Unary else
+    when eqb kind NodeKind.BinaryOp then binary_class value else
+    when eqb kind NodeKind.Assignment then assignment_class value mode else
+    when eqb kind NodeKind.Unpack then where_zero mode Lone Tight else
+    when eqb kind NodeKind.Tuple then Tuple else
+    when eqb kind NodeKind.Table then Tight else
+    when eqb kind NodeKind.IfExpr then Tight else
+    when eqb kind NodeKind.Block then Tight else
+    when eqb kind NodeKind.FunctionDef then where_zero mode Tight Named else
+    when eqb kind NodeKind.TableItem then TableItem else
+    when eqb kind NodeKind.ExprBlock then Block else
+    when eqb kind NodeKind.ConditionalBranch then Branch else
+    when eqb kind NodeKind.SignatureDef then Signature else
+    when eqb kind NodeKind.ParamDef then Param else
+    when eqb kind NodeKind.DefaultDef then Default else
+    when eqb kind NodeKind.FieldAttribute then Field else
+    when eqb kind NodeKind.FieldIndex then Field else
     later_class kind
 
 -- A list of n defaults: of these there is one at most.
 unfoldable pub default_list : ℕ → ℕ
 default_list n =
-    if ltb 1 n then Nothing else
+    when ltb 1 n then Nothing else
     Lists + Default
 
 -- A list of n members that are no expressions, the last one of the class c.
 unfoldable pub plain_list : ℕ → ℕ → ℕ
 plain_list n c =
-    if leb Lists c then Nothing else
-    if eqb c Default then default_list n else
+    when leb Lists c then Nothing else
+    when eqb c Default then default_list n else
     Lists + c
 
 -- A list of one expression that is no operand.
 unfoldable pub argument_list : ℕ → ℕ
 argument_list c =
-    if eqb c Local then Argument else
-    if eqb c Keyword then Argument else
+    when eqb c Local then Argument else
+    when eqb c Keyword then Argument else
     Nothing
 
 -- A list of n members, the last one of the class c.
 unfoldable pub list_class : ℕ → ℕ → ℕ
 list_class n c =
-    if eqb n 0 then Empty else
-    if leb c LastOperator then Operands else
-    if leb Pattern c then plain_list n c else
-    if eqb n 1 then argument_list c else
+    when eqb n 0 then Empty else
+    when leb c LastOperator then Operands else
+    when leb Pattern c then plain_list n c else
+    when eqb n 1 then argument_list c else
     Nothing

@@ -1,7 +1,7 @@
 -- Which classes the place of each child takes, as least + 100 × most + 10,000 × other: src/demand.rt says how. Definitions; they assume nothing.
 use Rattle.std.specs.Prelude.{Bool, true, false, ℕ, ◌+◌, ◌-◌, ◌*◌, ◌/◌, ◌%◌, eqb, ltb, leb}
 use Rattle.tree.specs.NodeKind
-use Rattle.tables.specs.Choice.{if◌then◌else◌, where_zero}
+use Rattle.tables.specs.Choice.{when◌then◌else◌, where_zero}
 use Rattle.tables.specs.Operators.{level}
 use Rattle.tables.specs.Class
 
@@ -135,10 +135,10 @@ Patterns = only (Class.Lists + Class.Pattern)
 -- What a list of a class demands of its members: their class.
 unfoldable pub of_members : ℕ → ℕ
 of_members list =
-    if eqb list Class.Operands then Operand else
-    if eqb list Class.Argument then Assignment else
-    if leb list Class.Argument then Class.Nothing else
-    if leb Class.Nothing list then Class.Nothing else
+    when eqb list Class.Operands then Operand else
+    when eqb list Class.Argument then Assignment else
+    when leb list Class.Argument then Class.Nothing else
+    when leb Class.Nothing list then Class.Nothing else
     only (list - Class.Lists)
 
 -- An operator's left side is of its own level or tighter, its right side tighter.
@@ -153,95 +153,95 @@ right_side value =
 -- An assignment's right side has a name where `fun` with the target can give it.
 unfoldable pub assigned : ℕ → ℕ → ℕ
 assigned value mode =
-    if eqb mode 0 then Expr else
-    if ltb value 4 then ExprOrNamed else
+    when eqb mode 0 then Expr else
+    when ltb value 4 then ExprOrNamed else
     Expr
 
 -- Inside a group, whose mode is 0 or 1 + the action of the assignment in it.
 unfoldable pub inside : ℕ → ℕ → ℕ
 inside value mode =
-    if eqb value 0 then Grouped else
-    if eqb mode 0 then Unassigned else
-    if eqb mode value then Given else
+    when eqb value 0 then Grouped else
+    when eqb mode 0 then Unassigned else
+    when eqb mode value then Given else
     Class.Nothing
 
 -- A default and a variadic parameter, mode 3, don't stand together.
 unfoldable pub defaults : ℕ → ℕ
 defaults mode =
-    if eqb mode 3 then Class.Nothing else
+    when eqb mode 3 then Class.Nothing else
     Defaults
 
 unfoldable pub first_demand : ℕ → ℕ → ℕ → ℕ
 first_demand kind value mode =
-    if eqb kind NodeKind.Expression then Stated else
-    if eqb kind NodeKind.Loop then Body else
-    if eqb kind NodeKind.WhileLoop then Expr else
-    if eqb kind NodeKind.ForLoop then Pattern else
-    if eqb kind NodeKind.Assert then Expr else
-    if eqb kind NodeKind.StmtList then Statements else
-    if eqb kind NodeKind.Break then ExprOrAbsent else
-    if eqb kind NodeKind.Return then ExprOrAbsent else
-    if eqb kind NodeKind.Primary then Atom else
-    if eqb kind NodeKind.UnaryOp then Unary else
-    if eqb kind NodeKind.BinaryOp then left_side value else
-    if eqb kind NodeKind.Assignment then Pattern else
-    if eqb kind NodeKind.Unpack then PrimaryOrAbsent else
-    if eqb kind NodeKind.Tuple then Members else
-    if eqb kind NodeKind.Table then TableItems else
-    if eqb kind NodeKind.IfExpr then Branches else
-    if eqb kind NodeKind.Block then Block else
-    if eqb kind NodeKind.FunctionDef then Signature else
-    if eqb kind NodeKind.TableItem then Field else
-    if eqb kind NodeKind.ExprBlock then where_zero mode BodyAlone BodyBefore else
-    if eqb kind NodeKind.ConditionalBranch then Expr else
-    if eqb kind NodeKind.SignatureDef then Params else
-    if eqb kind NodeKind.DefaultDef then Expr else
-    if eqb kind NodeKind.FieldIndex then Expr else
-    if eqb kind NodeKind.Group then inside value mode else
-    if eqb kind NodeKind.Index then Expr else
-    if eqb kind NodeKind.Invoke then Arguments else
-    if eqb kind NodeKind.InvokeTable then TableItems else
-    if eqb kind NodeKind.AttributePattern then Receiver else
-    if eqb kind NodeKind.IndexPattern then Receiver else
-    if eqb kind NodeKind.TuplePattern then Patterns else
-    if eqb kind NodeKind.Pack then PatternOrAbsent else
-    if eqb kind NodeKind.Modifier then Pattern else
+    when eqb kind NodeKind.Expression then Stated else
+    when eqb kind NodeKind.Loop then Body else
+    when eqb kind NodeKind.WhileLoop then Expr else
+    when eqb kind NodeKind.ForLoop then Pattern else
+    when eqb kind NodeKind.Assert then Expr else
+    when eqb kind NodeKind.StmtList then Statements else
+    when eqb kind NodeKind.Break then ExprOrAbsent else
+    when eqb kind NodeKind.Return then ExprOrAbsent else
+    when eqb kind NodeKind.Primary then Atom else
+    when eqb kind NodeKind.UnaryOp then Unary else
+    when eqb kind NodeKind.BinaryOp then left_side value else
+    when eqb kind NodeKind.Assignment then Pattern else
+    when eqb kind NodeKind.Unpack then PrimaryOrAbsent else
+    when eqb kind NodeKind.Tuple then Members else
+    when eqb kind NodeKind.Table then TableItems else
+    when eqb kind NodeKind.IfExpr then Branches else
+    when eqb kind NodeKind.Block then Block else
+    when eqb kind NodeKind.FunctionDef then Signature else
+    when eqb kind NodeKind.TableItem then Field else
+    when eqb kind NodeKind.ExprBlock then where_zero mode BodyAlone BodyBefore else
+    when eqb kind NodeKind.ConditionalBranch then Expr else
+    when eqb kind NodeKind.SignatureDef then Params else
+    when eqb kind NodeKind.DefaultDef then Expr else
+    when eqb kind NodeKind.FieldIndex then Expr else
+    when eqb kind NodeKind.Group then inside value mode else
+    when eqb kind NodeKind.Index then Expr else
+    when eqb kind NodeKind.Invoke then Arguments else
+    when eqb kind NodeKind.InvokeTable then TableItems else
+    when eqb kind NodeKind.AttributePattern then Receiver else
+    when eqb kind NodeKind.IndexPattern then Receiver else
+    when eqb kind NodeKind.TuplePattern then Patterns else
+    when eqb kind NodeKind.Pack then PatternOrAbsent else
+    when eqb kind NodeKind.Modifier then Pattern else
     Class.Nothing
 
 unfoldable pub second_demand : ℕ → ℕ → ℕ → ℕ
 second_demand kind value mode =
-    if eqb kind NodeKind.WhileLoop then Body else
-    if eqb kind NodeKind.ForLoop then Expr else
-    if eqb kind NodeKind.StmtList then ControlOrAbsent else
-    if eqb kind NodeKind.Primary then Items else
-    if eqb kind NodeKind.BinaryOp then right_side value else
-    if eqb kind NodeKind.Assignment then assigned value mode else
-    if eqb kind NodeKind.IfExpr then BlockOrAbsent else
-    if eqb kind NodeKind.FunctionDef then Block else
-    if eqb kind NodeKind.TableItem then Operand else
-    if eqb kind NodeKind.ExprBlock then StatedOrAbsent else
-    if eqb kind NodeKind.ConditionalBranch then Block else
-    if eqb kind NodeKind.SignatureDef then defaults mode else
-    if eqb kind NodeKind.IndexPattern then Expr else
+    when eqb kind NodeKind.WhileLoop then Body else
+    when eqb kind NodeKind.ForLoop then Expr else
+    when eqb kind NodeKind.StmtList then ControlOrAbsent else
+    when eqb kind NodeKind.Primary then Items else
+    when eqb kind NodeKind.BinaryOp then right_side value else
+    when eqb kind NodeKind.Assignment then assigned value mode else
+    when eqb kind NodeKind.IfExpr then BlockOrAbsent else
+    when eqb kind NodeKind.FunctionDef then Block else
+    when eqb kind NodeKind.TableItem then Operand else
+    when eqb kind NodeKind.ExprBlock then StatedOrAbsent else
+    when eqb kind NodeKind.ConditionalBranch then Block else
+    when eqb kind NodeKind.SignatureDef then defaults mode else
+    when eqb kind NodeKind.IndexPattern then Expr else
     Class.Nothing
 
 unfoldable pub third_demand : ℕ → ℕ
 third_demand kind =
-    if eqb kind NodeKind.ForLoop then Body else
-    if eqb kind NodeKind.SignatureDef then ParamOrAbsent else
+    when eqb kind NodeKind.ForLoop then Body else
+    when eqb kind NodeKind.SignatureDef then ParamOrAbsent else
     Class.Nothing
 
 -- What a node demands of its child number j.
 unfoldable pub demand : ℕ → ℕ → ℕ → ℕ → ℕ
 demand kind value mode j =
-    if eqb kind NodeKind.List then of_members mode else
-    if eqb j 1 then first_demand kind value mode else
-    if eqb j 2 then second_demand kind value mode else
+    when eqb kind NodeKind.List then of_members mode else
+    when eqb j 1 then first_demand kind value mode else
+    when eqb j 2 then second_demand kind value mode else
     third_demand kind
 
 -- Whether a class meets a demand.
 unfoldable pub fits : ℕ → ℕ → Bool
 fits demand class =
-    if eqb class (demand / 10000) then true else
-    if ltb class (demand % 100) then false else
+    when eqb class (demand / 10000) then true else
+    when ltb class (demand % 100) then false else
     leb class ((demand / 100) % 100)

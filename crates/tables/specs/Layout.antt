@@ -2,7 +2,7 @@
 use Rattle.std.specs.Prelude.{Bool, true, ◌&&◌, List, ◌∷◌, ℕ, suc, ◌-◌, eqb, leb}
 use Rattle.tree.specs.NodeKind
 use Rattle.tree.specs.Tree.{Tree, Forest, node, none, more, count}
-use Rattle.tables.specs.Choice.{if◌then◌else◌}
+use Rattle.tables.specs.Choice.{when◌then◌else◌}
 use Rattle.tables.specs.Check.{function_form, signature_mode}
 use Rattle.tables.specs.Operators.{NoToken}
 use Rattle.tables.specs.Form.{Fun, fun_gives, place_of, base, deeper}
@@ -11,7 +11,7 @@ use Rattle.tables.specs.Tokens.{first_token, second_token, third_token, after_to
 
 -- one token, or none
 unfoldable pub emit : ℕ → ℕ → List ℕ → List ℕ
-emit c v r = if eqb c NoToken then r else c ∷ v ∷ r
+emit c v r = when eqb c NoToken then r else c ∷ v ∷ r
 
 -- the tokens before a node's children, and those behind them
 unfoldable pub opened : ℕ → ℕ → ℕ → List ℕ → List ℕ
@@ -25,15 +25,15 @@ closed kind value form r = emit (behind_token kind form) 0 (emit (last_token kin
 
 -- the form of an assignment, and of any node, at a place
 unfoldable pub assignment_form : ℕ → Forest → ℕ → ℕ
-assignment_form v f place = if fun_gives place v then (if eqb (function_form f) 0 then place else Fun) else place
+assignment_form v f place = when fun_gives place v then (when eqb (function_form f) 0 then place else Fun) else place
 
 unfoldable pub form_of : ℕ → ℕ → Forest → ℕ → ℕ
 form_of kind v f place =
-    if eqb kind NodeKind.Assignment then assignment_form v f place else
-    if eqb kind NodeKind.IfExpr then kind_in (last_tree f) else
-    if eqb kind NodeKind.ExprBlock then kind_in (last_tree f) else
-    if eqb kind NodeKind.SignatureDef then signature_mode f else
-    if eqb kind NodeKind.Pack then kind_in (last_tree f) else
+    when eqb kind NodeKind.Assignment then assignment_form v f place else
+    when eqb kind NodeKind.IfExpr then kind_in (last_tree f) else
+    when eqb kind NodeKind.ExprBlock then kind_in (last_tree f) else
+    when eqb kind NodeKind.SignatureDef then signature_mode f else
+    when eqb kind NodeKind.Pack then kind_in (last_tree f) else
     place
 
 -- the words of a tree at a place, before the words r; the children of a node with the form m, n in all, from the number j on

@@ -3,7 +3,7 @@ use Rattle.std.specs.Prelude.{ℕ, eqb}
 use Rattle.operator.specs.Operator.{precedence_level, no_token, level_count}
 use Rattle.operator.specs.declared.BinaryOp.{BinaryOp}
 use Rattle.operator.specs.declared.BinaryOp.TheVariants.{Mul, Div, Mod, Add, Sub, LShift, RShift, BitAnd, BitXor, BitOr, LT, GT, LE, GE, EQ, NE, And, Or}
-use Rattle.tables.specs.Choice.{if◌then◌else◌}
+use Rattle.tables.specs.Choice.{when◌then◌else◌}
 
 abbrev pub NoToken : ℕ
 NoToken = no_token
@@ -17,23 +17,23 @@ LastBinary = 17
 
 unfoldable pub binary_of : ℕ → BinaryOp
 binary_of number =
-    if eqb number 0 then Mul else
-    if eqb number 1 then Div else
-    if eqb number 2 then Mod else
-    if eqb number 3 then Add else
-    if eqb number 4 then Sub else
-    if eqb number 5 then LShift else
-    if eqb number 6 then RShift else
-    if eqb number 7 then BitAnd else
-    if eqb number 8 then BitXor else
-    if eqb number 9 then BitOr else
-    if eqb number 10 then LT else
-    if eqb number 11 then GT else
-    if eqb number 12 then LE else
-    if eqb number 13 then GE else
-    if eqb number 14 then EQ else
-    if eqb number 15 then NE else
-    if eqb number 16 then And else
+    when eqb number 0 then Mul else
+    when eqb number 1 then Div else
+    when eqb number 2 then Mod else
+    when eqb number 3 then Add else
+    when eqb number 4 then Sub else
+    when eqb number 5 then LShift else
+    when eqb number 6 then RShift else
+    when eqb number 7 then BitAnd else
+    when eqb number 8 then BitXor else
+    when eqb number 9 then BitOr else
+    when eqb number 10 then LT else
+    when eqb number 11 then GT else
+    when eqb number 12 then LE else
+    when eqb number 13 then GE else
+    when eqb number 14 then EQ else
+    when eqb number 15 then NE else
+    when eqb number 16 then And else
     Or
 
 -- from 1, the tightest, to the number of levels

@@ -2,7 +2,7 @@
 use Rattle.std.specs.Prelude.{ℕ, ◌-◌, ◌/◌, ◌%◌, eqb}
 use Rattle.token.specs.Kind
 use Rattle.tree.specs.NodeKind
-use Rattle.tables.specs.Choice.{if◌then◌else◌, where_zero, where_is}
+use Rattle.tables.specs.Choice.{when◌then◌else◌, where_zero, where_is}
 use Rattle.tables.specs.Form.{Own, Targeted, Commas, Members, Suite, Branches, Leading, Fun}
 use Rattle.operator.specs.Operator.{op_token, unary_token, assign_token}
 use Rattle.grammar.specs.Canonical.Write.{keyword_of}
@@ -20,76 +20,76 @@ access_token value =
 -- A group's modifier, 0 or 1 + its action.
 unfoldable pub modifier_token : ℕ → ℕ
 modifier_token value =
-    if eqb value 0 then NoToken else
+    when eqb value 0 then NoToken else
     keyword_of (value - 1)
 
 -- What an assignment begins with: `fun`, or its keyword where it stands by itself and its action has one.
 unfoldable pub assignment_token : ℕ → ℕ → ℕ
 assignment_token value form =
-    if eqb form Fun then Kind.Fun else
-    if eqb form Own then where_zero (value % 4) NoToken (keyword_of (value % 4)) else
+    when eqb form Fun then Kind.Fun else
+    when eqb form Own then where_zero (value % 4) NoToken (keyword_of (value % 4)) else
     NoToken
 
 -- The first token before the children, of atoms, access items and patterns.
 unfoldable pub later_first_token : ℕ → ℕ → ℕ → ℕ
 later_first_token kind value form =
-    if eqb kind NodeKind.Nil then Kind.Nil else
-    if eqb kind NodeKind.EmptyTuple then Kind.OpenParen else
-    if eqb kind NodeKind.Identifier then Kind.Identifier else
-    if eqb kind NodeKind.BooleanLiteral then where_zero value Kind.False Kind.True else
-    if eqb kind NodeKind.IntegerLiteral then Kind.IntegerLiteral else
-    if eqb kind NodeKind.FloatLiteral then Kind.FloatLiteral else
-    if eqb kind NodeKind.StringLiteral then Kind.StringLiteral else
-    if eqb kind NodeKind.Group then Kind.OpenParen else
-    if eqb kind NodeKind.Attribute then Kind.OpAccess else
-    if eqb kind NodeKind.Index then Kind.OpenSquare else
-    if eqb kind NodeKind.Invoke then Kind.OpenParen else
-    if eqb kind NodeKind.InvokeTable then Kind.OpenBrace else
-    if eqb kind NodeKind.IdentifierPattern then Kind.Identifier else
-    if eqb kind NodeKind.TuplePattern then Kind.OpenParen else
-    if eqb kind NodeKind.Pack then where_is form NodeKind.Pack Kind.OpenParen NoToken else
-    if eqb kind NodeKind.Modifier then Kind.OpenParen else
+    when eqb kind NodeKind.Nil then Kind.Nil else
+    when eqb kind NodeKind.EmptyTuple then Kind.OpenParen else
+    when eqb kind NodeKind.Identifier then Kind.Identifier else
+    when eqb kind NodeKind.BooleanLiteral then where_zero value Kind.False Kind.True else
+    when eqb kind NodeKind.IntegerLiteral then Kind.IntegerLiteral else
+    when eqb kind NodeKind.FloatLiteral then Kind.FloatLiteral else
+    when eqb kind NodeKind.StringLiteral then Kind.StringLiteral else
+    when eqb kind NodeKind.Group then Kind.OpenParen else
+    when eqb kind NodeKind.Attribute then Kind.OpAccess else
+    when eqb kind NodeKind.Index then Kind.OpenSquare else
+    when eqb kind NodeKind.Invoke then Kind.OpenParen else
+    when eqb kind NodeKind.InvokeTable then Kind.OpenBrace else
+    when eqb kind NodeKind.IdentifierPattern then Kind.Identifier else
+    when eqb kind NodeKind.TuplePattern then Kind.OpenParen else
+    when eqb kind NodeKind.Pack then where_is form NodeKind.Pack Kind.OpenParen NoToken else
+    when eqb kind NodeKind.Modifier then Kind.OpenParen else
     NoToken
 
 -- The same of any kind.
 unfoldable pub first_token : ℕ → ℕ → ℕ → ℕ
 first_token kind value form =
-    if eqb kind NodeKind.List then where_is form Branches Kind.If NoToken else
-    if eqb kind NodeKind.Loop then label_token value else
-    if eqb kind NodeKind.WhileLoop then label_token value else
-    if eqb kind NodeKind.ForLoop then label_token value else
-    if eqb kind NodeKind.Assert then Kind.Assert else
-    if eqb kind NodeKind.Continue then Kind.Continue else
-    if eqb kind NodeKind.Break then Kind.Break else
-    if eqb kind NodeKind.Return then Kind.Return else
-    if eqb kind NodeKind.UnaryOp then unary_token value else
-    if eqb kind NodeKind.Assignment then assignment_token value form else
-    if eqb kind NodeKind.Table then Kind.OpenBrace else
-    if eqb kind NodeKind.Block then label_token value else
-    if eqb kind NodeKind.FunctionDef then where_is form Targeted NoToken Kind.Fun else
-    if eqb kind NodeKind.SignatureDef then Kind.OpenParen else
-    if eqb kind NodeKind.ParamDef then access_token value else
-    if eqb kind NodeKind.DefaultDef then access_token value else
-    if eqb kind NodeKind.FieldAttribute then access_token value else
-    if eqb kind NodeKind.FieldIndex then Kind.OpenSquare else
+    when eqb kind NodeKind.List then where_is form Branches Kind.If NoToken else
+    when eqb kind NodeKind.Loop then label_token value else
+    when eqb kind NodeKind.WhileLoop then label_token value else
+    when eqb kind NodeKind.ForLoop then label_token value else
+    when eqb kind NodeKind.Assert then Kind.Assert else
+    when eqb kind NodeKind.Continue then Kind.Continue else
+    when eqb kind NodeKind.Break then Kind.Break else
+    when eqb kind NodeKind.Return then Kind.Return else
+    when eqb kind NodeKind.UnaryOp then unary_token value else
+    when eqb kind NodeKind.Assignment then assignment_token value form else
+    when eqb kind NodeKind.Table then Kind.OpenBrace else
+    when eqb kind NodeKind.Block then label_token value else
+    when eqb kind NodeKind.FunctionDef then where_is form Targeted NoToken Kind.Fun else
+    when eqb kind NodeKind.SignatureDef then Kind.OpenParen else
+    when eqb kind NodeKind.ParamDef then access_token value else
+    when eqb kind NodeKind.DefaultDef then access_token value else
+    when eqb kind NodeKind.FieldAttribute then access_token value else
+    when eqb kind NodeKind.FieldIndex then Kind.OpenSquare else
     later_first_token kind value form
 
 -- The second token before the children.
 unfoldable pub second_token : ℕ → ℕ → ℕ
 second_token kind value =
-    if eqb kind NodeKind.Loop then Kind.Loop else
-    if eqb kind NodeKind.WhileLoop then Kind.While else
-    if eqb kind NodeKind.ForLoop then Kind.For else
-    if eqb kind NodeKind.Continue then label_token value else
-    if eqb kind NodeKind.Break then label_token value else
-    if eqb kind NodeKind.Block then Kind.Begin else
-    if eqb kind NodeKind.ParamDef then Kind.Identifier else
-    if eqb kind NodeKind.DefaultDef then Kind.Identifier else
-    if eqb kind NodeKind.FieldAttribute then Kind.Identifier else
-    if eqb kind NodeKind.EmptyTuple then Kind.CloseParen else
-    if eqb kind NodeKind.Group then modifier_token value else
-    if eqb kind NodeKind.Attribute then Kind.Identifier else
-    if eqb kind NodeKind.Modifier then keyword_of value else
+    when eqb kind NodeKind.Loop then Kind.Loop else
+    when eqb kind NodeKind.WhileLoop then Kind.While else
+    when eqb kind NodeKind.ForLoop then Kind.For else
+    when eqb kind NodeKind.Continue then label_token value else
+    when eqb kind NodeKind.Break then label_token value else
+    when eqb kind NodeKind.Block then Kind.Begin else
+    when eqb kind NodeKind.ParamDef then Kind.Identifier else
+    when eqb kind NodeKind.DefaultDef then Kind.Identifier else
+    when eqb kind NodeKind.FieldAttribute then Kind.Identifier else
+    when eqb kind NodeKind.EmptyTuple then Kind.CloseParen else
+    when eqb kind NodeKind.Group then modifier_token value else
+    when eqb kind NodeKind.Attribute then Kind.Identifier else
+    when eqb kind NodeKind.Modifier then keyword_of value else
     NoToken
 
 -- The third one: behind a default's name.
@@ -100,11 +100,11 @@ third_token kind =
 -- The token behind the member number j of n of a list.
 unfoldable pub between : ℕ → ℕ → ℕ → ℕ
 between form n j =
-    if eqb form Commas then where_is j n NoToken Kind.Comma else
-    if eqb form Members then where_is j n (where_is n 1 Kind.Comma NoToken) Kind.Comma else
-    if eqb form Suite then Kind.Semicolon else
-    if eqb form Branches then where_is j n NoToken Kind.Elif else
-    if eqb form Leading then Kind.Comma else
+    when eqb form Commas then where_is j n NoToken Kind.Comma else
+    when eqb form Members then where_is j n (where_is n 1 Kind.Comma NoToken) Kind.Comma else
+    when eqb form Suite then Kind.Semicolon else
+    when eqb form Branches then where_is j n NoToken Kind.Elif else
+    when eqb form Leading then Kind.Comma else
     NoToken
 
 unfoldable pub assigns : ℕ → ℕ → ℕ
@@ -114,76 +114,76 @@ assigns value form =
 -- The token behind the first child of a node that is no list.
 unfoldable pub first_after : ℕ → ℕ → ℕ → ℕ
 first_after kind value form =
-    if eqb kind NodeKind.WhileLoop then Kind.Do else
-    if eqb kind NodeKind.ForLoop then Kind.In else
-    if eqb kind NodeKind.BinaryOp then op_token value else
-    if eqb kind NodeKind.Assignment then assigns value form else
-    if eqb kind NodeKind.IfExpr then where_zero form NoToken Kind.Else else
-    if eqb kind NodeKind.TableItem then Kind.OpAssign else
-    if eqb kind NodeKind.ConditionalBranch then Kind.Then else
-    if eqb kind NodeKind.IndexPattern then Kind.OpenSquare else
+    when eqb kind NodeKind.WhileLoop then Kind.Do else
+    when eqb kind NodeKind.ForLoop then Kind.In else
+    when eqb kind NodeKind.BinaryOp then op_token value else
+    when eqb kind NodeKind.Assignment then assigns value form else
+    when eqb kind NodeKind.IfExpr then where_zero form NoToken Kind.Else else
+    when eqb kind NodeKind.TableItem then Kind.OpAssign else
+    when eqb kind NodeKind.ConditionalBranch then Kind.Then else
+    when eqb kind NodeKind.IndexPattern then Kind.OpenSquare else
     NoToken
 
 -- The token behind the child number j of n.
 unfoldable pub after_token : ℕ → ℕ → ℕ → ℕ → ℕ → ℕ
 after_token kind value form n j =
-    if eqb kind NodeKind.List then between form n j else
-    if eqb j 1 then first_after kind value form else
-    if eqb j 2 then where_is kind NodeKind.ForLoop Kind.Do NoToken else
+    when eqb kind NodeKind.List then between form n j else
+    when eqb j 1 then first_after kind value form else
+    when eqb j 2 then where_is kind NodeKind.ForLoop Kind.Do NoToken else
     NoToken
 
 -- The first token behind all children.
 unfoldable pub behind_token : ℕ → ℕ → ℕ
 behind_token kind form =
-    if eqb kind NodeKind.Loop then Kind.End else
-    if eqb kind NodeKind.WhileLoop then Kind.End else
-    if eqb kind NodeKind.ForLoop then Kind.End else
-    if eqb kind NodeKind.Unpack then Kind.Ellipsis else
-    if eqb kind NodeKind.Table then Kind.CloseBrace else
-    if eqb kind NodeKind.IfExpr then Kind.End else
-    if eqb kind NodeKind.Block then Kind.End else
-    if eqb kind NodeKind.FunctionDef then Kind.End else
-    if eqb kind NodeKind.ExprBlock then where_zero form NoToken Kind.Semicolon else
-    if eqb kind NodeKind.SignatureDef then where_is form 2 Kind.Ellipsis NoToken else
-    if eqb kind NodeKind.FieldIndex then Kind.CloseSquare else
-    if eqb kind NodeKind.Group then Kind.CloseParen else
-    if eqb kind NodeKind.Index then Kind.CloseSquare else
-    if eqb kind NodeKind.Invoke then Kind.CloseParen else
-    if eqb kind NodeKind.InvokeTable then Kind.CloseBrace else
-    if eqb kind NodeKind.AttributePattern then Kind.OpAccess else
-    if eqb kind NodeKind.IndexPattern then Kind.CloseSquare else
-    if eqb kind NodeKind.TuplePattern then Kind.CloseParen else
-    if eqb kind NodeKind.Pack then where_is form NodeKind.Pack Kind.CloseParen NoToken else
-    if eqb kind NodeKind.Modifier then Kind.CloseParen else
+    when eqb kind NodeKind.Loop then Kind.End else
+    when eqb kind NodeKind.WhileLoop then Kind.End else
+    when eqb kind NodeKind.ForLoop then Kind.End else
+    when eqb kind NodeKind.Unpack then Kind.Ellipsis else
+    when eqb kind NodeKind.Table then Kind.CloseBrace else
+    when eqb kind NodeKind.IfExpr then Kind.End else
+    when eqb kind NodeKind.Block then Kind.End else
+    when eqb kind NodeKind.FunctionDef then Kind.End else
+    when eqb kind NodeKind.ExprBlock then where_zero form NoToken Kind.Semicolon else
+    when eqb kind NodeKind.SignatureDef then where_is form 2 Kind.Ellipsis NoToken else
+    when eqb kind NodeKind.FieldIndex then Kind.CloseSquare else
+    when eqb kind NodeKind.Group then Kind.CloseParen else
+    when eqb kind NodeKind.Index then Kind.CloseSquare else
+    when eqb kind NodeKind.Invoke then Kind.CloseParen else
+    when eqb kind NodeKind.InvokeTable then Kind.CloseBrace else
+    when eqb kind NodeKind.AttributePattern then Kind.OpAccess else
+    when eqb kind NodeKind.IndexPattern then Kind.CloseSquare else
+    when eqb kind NodeKind.TuplePattern then Kind.CloseParen else
+    when eqb kind NodeKind.Pack then where_is form NodeKind.Pack Kind.CloseParen NoToken else
+    when eqb kind NodeKind.Modifier then Kind.CloseParen else
     NoToken
 
 -- The last token behind all children.
 unfoldable pub last_token : ℕ → ℕ
 last_token kind =
-    if eqb kind NodeKind.SignatureDef then Kind.CloseParen else
-    if eqb kind NodeKind.AttributePattern then Kind.Identifier else
-    if eqb kind NodeKind.Pack then Kind.Ellipsis else
+    when eqb kind NodeKind.SignatureDef then Kind.CloseParen else
+    when eqb kind NodeKind.AttributePattern then Kind.Identifier else
+    when eqb kind NodeKind.Pack then Kind.Ellipsis else
     NoToken
 
 -- A name in a node's value: with its access in parameters and fields.
 unfoldable pub name_in : ℕ → ℕ → ℕ
 name_in kind value =
-    if eqb kind NodeKind.ParamDef then value / 2 else
-    if eqb kind NodeKind.DefaultDef then value / 2 else
-    if eqb kind NodeKind.FieldAttribute then value / 2 else
+    when eqb kind NodeKind.ParamDef then value / 2 else
+    when eqb kind NodeKind.DefaultDef then value / 2 else
+    when eqb kind NodeKind.FieldAttribute then value / 2 else
     value
 
 unfoldable pub label_in : ℕ → ℕ
 label_in value =
-    if eqb value 0 then 0 else
+    when eqb value 0 then 0 else
     value - 1
 
 -- The value of a token of a node.
 unfoldable pub carried : ℕ → ℕ → ℕ → ℕ
 carried kind value token =
-    if eqb token Kind.Identifier then name_in kind value else
-    if eqb token Kind.StringLiteral then value else
-    if eqb token Kind.IntegerLiteral then value else
-    if eqb token Kind.FloatLiteral then value else
-    if eqb token Kind.Label then label_in value else
+    when eqb token Kind.Identifier then name_in kind value else
+    when eqb token Kind.StringLiteral then value else
+    when eqb token Kind.IntegerLiteral then value else
+    when eqb token Kind.FloatLiteral then value else
+    when eqb token Kind.Label then label_in value else
     0

@@ -5,7 +5,7 @@ use Rattle.tree.specs.Tree.{Tree, Forest, node, none, more, count, head_kind}
 use Rattle.tree.specs.Maybe.{Maybe, nothing, just}
 use Rattle.tree.specs.Records.{stack_records, back}
 use Rattle.grammar.specs.Canonical.Write.{tail_of, target_atom, target_items, target_path, target_receiver}
-use Rattle.tables.specs.Choice.{if◌then◌else◌}
+use Rattle.tables.specs.Choice.{when◌then◌else◌}
 use Rattle.tables.specs.Children.{kind_in, count_in, value_in}
 use Rattle.tables.specs.Kinds.{gives_name}
 use Rattle.tables.specs.Sound.{sound}
@@ -26,11 +26,11 @@ name_serves (more t f) m = gives_name (kind_in m) (value_in m) (value_in (just t
 -- is the one that the tree before it gives
 unfoldable pub serves_as : ℕ → Forest → List Tree → Bool
 serves_as k f s =
-    if eqb k NodeKind.List then target_items f else
-    if eqb k NodeKind.Primary then target_atom (head_kind f) && target_path (tail_of f) else
-    if eqb k NodeKind.AttributePattern then target_receiver f else
-    if eqb k NodeKind.IndexPattern then target_receiver f else
-    if eqb k NodeKind.FunctionDef then name_serves f (first_of s) else
+    when eqb k NodeKind.List then target_items f else
+    when eqb k NodeKind.Primary then target_atom (head_kind f) && target_path (tail_of f) else
+    when eqb k NodeKind.AttributePattern then target_receiver f else
+    when eqb k NodeKind.IndexPattern then target_receiver f else
+    when eqb k NodeKind.FunctionDef then name_serves f (first_of s) else
     false
 
 abbrev pub serves : Tree → List Tree → Bool
@@ -52,8 +52,8 @@ far = 18014398509481984
 
 unfoldable pub word : ℕ → Bool → Bool → ℕ → ℕ
 word class labelled serves b =
-    if leb 128 class then no_word else
-    if leb far b then no_word else
+    when leb 128 class then no_word else
+    when leb far b then no_word else
     class + 128 * one labelled + 256 * one serves + 512 * b
 
 pub record Entry (w : ℕ) (t : Tree) (s : List Tree) : Type 0 where
@@ -92,21 +92,21 @@ pub record SoundAt (L : List ℕ) (p : ℕ) : Type 0 where
 -- from which number on trees are kept with the last one, the number i, where there is room for n
 unfoldable pub first_kept : ℕ → ℕ → ℕ → ℕ
 first_kept n base i =
-    if ltb i base then i else
-    if leb n (i - base) then i else
+    when ltb i base then i else
+    when leb n (i - base) then i else
     base
 
 -- the word w of that tree is kept: from which number on trees are kept then, and the words
 unfoldable pub keep_from : ℕ → ℕ → ℕ → ℕ → ℕ
 keep_from n base i w =
-    if eqb w no_word then i + 1 else
-    if eqb n 0 then i + 1 else
+    when eqb w no_word then i + 1 else
+    when eqb n 0 then i + 1 else
     first_kept n base i
 
 unfoldable pub keep_in : List ℕ → ℕ → ℕ → ℕ → List ℕ
 keep_in F base i w =
-    if eqb w no_word then F else
-    if eqb (length F) 0 then F else
+    when eqb w no_word then F else
+    when eqb (length F) 0 then F else
     set F (i - first_kept (length F) base i) w
 
 pub record Keeps (F F' : List ℕ) (base i w r : ℕ) : Type 0 where

@@ -5,7 +5,7 @@ use mathlib.Core.List.{List}
 use Prim.Native.Nat.{ℕ, ◌+◌, ◌-◌, ◌%◌, ◌≤◌, ◌<◌}
 use lib.Dec.{eqb}
 use lib.ListN.{length, get_or, drop}
-use Rattle.tables.specs.Choice.{if◌then◌else◌}
+use Rattle.tables.specs.Choice.{when◌then◌else◌}
 use Rattle.labels.specs.Offences.{any_serves, inside}
 use Rattle.labels.specs.Behind.{enclosing}
 use Rattle.labels.proofs.behind.any_behind.Given as goal
@@ -18,7 +18,7 @@ pub record Asked (L : List ℕ) (p k l q : ℕ) : Type 0 where
 
 -- how far it is to the end
 abbrev pub distance : ℕ → ℕ → ℕ
-distance m q = if eqb q 0 then 0 else m + 1 - q
+distance m q = when eqb q 0 then 0 else m + 1 - q
 
 abbrev pub invariant-loop-q : goal.invariant-loop-q
 invariant-loop-q l = Asked l.records l.p l.jump l.label l.q
