@@ -1,1 +1,0 @@
--- What the proofs of the functions over a binary operator cite.
