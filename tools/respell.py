@@ -15,7 +15,7 @@ import sys
 sys.dont_write_bytecode = True
 NAME = r"""[^\s(){}.;,@"«»`]+"""
 TOKEN = re.compile(NAME)
-DECLARED = re.compile(r"^\s*(?:(?:pub|abbrev|unfoldable|data|record) )*((?:%s )*?%s) (?:\{[^}]*\} |\([^)]*\) )*: " % (NAME, NAME))
+DECLARED = re.compile(r"^\s*(?:(?:pub|abbrev|unfoldable|data|record) )*((?:%s )*?%s) (?:\{[^}]*\} |\([^)]*\) )*:(?: |$)" % (NAME, NAME))
 GOALS = re.compile(r": (?:\([^)]*\) → )?(?:tie|lts)\.")
 IMPORT = re.compile(r"^(?:pub |ghost )*use ([^\s{;]+?)\.\{([^}]*)\}", re.M)
 OWN = re.compile(r"Rattle\.(\w+)\.")

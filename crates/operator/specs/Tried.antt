@@ -16,17 +16,17 @@ abbrev table : List (List ℕ)
 table = lines_from 0 no_token
 
 -- a kind with two operators each of which has its own number, both ends of the numbers and levels, kinds beside an operator's, and kinds that no token has
-pub lines-tried :
+pub lines_tried :
     map line (Kind.OpAdd ∷ Kind.OpSub ∷ Kind.OpMul ∷ Kind.OpExp ∷ Kind.OpInv ∷ Kind.OpXor ∷ Kind.OpOr ∷ Kind.OpXorAssign ∷ Kind.OpOrAssign ∷ Kind.OpAssign ∷ Kind.OpAccess ∷ Kind.Or ∷ Kind.Not ∷ Kind.LexerError ∷ 77 ∷ 18446744073709551615 ∷ [])
     ≡ (2 ∷ 4 ∷ 2 ∷ 0 ∷ []) ∷ (1 ∷ 5 ∷ 2 ∷ 0 ∷ []) ∷ (0 ∷ 1 ∷ 1 ∷ 0 ∷ []) ∷ (0 ∷ 0 ∷ 0 ∷ 0 ∷ []) ∷ (3 ∷ 0 ∷ 0 ∷ 0 ∷ []) ∷ (0 ∷ 9 ∷ 5 ∷ 0 ∷ []) ∷ (0 ∷ 10 ∷ 6 ∷ 0 ∷ []) ∷ (0 ∷ 0 ∷ 0 ∷ 10 ∷ []) ∷ (0 ∷ 0 ∷ 0 ∷ 11 ∷ []) ∷ (0 ∷ 0 ∷ 0 ∷ 1 ∷ []) ∷ (0 ∷ 0 ∷ 0 ∷ 0 ∷ []) ∷ (0 ∷ 18 ∷ 10 ∷ 0 ∷ []) ∷ (4 ∷ 0 ∷ 0 ∷ 0 ∷ []) ∷ (0 ∷ 0 ∷ 0 ∷ 0 ∷ []) ∷ (0 ∷ 0 ∷ 0 ∷ 0 ∷ []) ∷ (0 ∷ 0 ∷ 0 ∷ 0 ∷ []) ∷ []
 unfolding decision unary_code binary_code op_level assign_code which_unary_op which_binary_op which_assignment_op
-lines-tried = refl
+lines_tried = refl
 
 -- the faults of the definitions' own table, of one in which `-` is taken for Add, of one in which besides `and` binds as weakly as `or` and `=` is none, of one that begins a kind too late
-pub faults-tried :
+pub faults_tried :
     (faults table ≡ 0)
     × (faults (set table Kind.OpSub (1 ∷ 4 ∷ 2 ∷ 0 ∷ [])) ≡ 1)
     × (faults (set (set (set table Kind.OpSub (1 ∷ 4 ∷ 2 ∷ 0 ∷ [])) Kind.And (0 ∷ 17 ∷ 10 ∷ 0 ∷ [])) Kind.OpAssign (0 ∷ 0 ∷ 0 ∷ 0 ∷ [])) ≡ 3)
     × (faults (drop 1 table) ≡ 56)
 unfolding faults decision unary_code binary_code op_level assign_code which_unary_op which_binary_op which_assignment_op
-faults-tried = (refl, refl, refl, refl)
+faults_tried = (refl, refl, refl, refl)
