@@ -89,9 +89,10 @@ def main():
     root = sys.argv[1] if len(sys.argv) > 1 else os.path.dirname(os.path.dirname(os.path.abspath(__file__)))
     inside = os.path.join(root, "crates")
     crates = set(os.listdir(inside))
-    names, before_port = {}, {}
+    names, before_port, all_names = {}, {}, set()
     for path in paths(inside, ".antt"):
         for name in declared(read(path)):
+            all_names.add(name)
             if "-" in name:
                 names[name] = respelled(name)
             elif "_" in name[1:-1]:
@@ -106,7 +107,7 @@ def main():
         new = lines(old, before_port if path.endswith(".edit") else names, stay, comment)
         before, after = set(TOKEN.findall(old)), set(TOKEN.findall(new))
         for name in sorted(before):
-            if name in names and name not in stay and names[name] in before:
+            if name in names and name not in stay and names[name] in before & all_names:
                 clashes += 1
                 print("clash: %s: %s and %s" % (os.path.relpath(path, root), name, names[name]))
         if new != old:

@@ -13,7 +13,7 @@ use Rattle.grammar.specs.Reading.Limit.{length_limit, short_output}
 use Rattle.grammar.specs.Reading.Next.{Accepted, Called}
 use Rattle.grammar.specs.Canonical.Writing.{statement_words}
 use Rattle.grammar.specs.Contract.{Writes}
-use Rattle.grammar.proofs.Theorems.{Among}
+use Rattle.grammar.specs.Given.{Among}
 use Rattle.grammar.specs.declared.Reader.{Reader}
 use Rattle.grammar.specs.declared.Written.{Written}
 use Rattle.grammar.specs.declared.Written.TheVariants.{Tokens, Refused}

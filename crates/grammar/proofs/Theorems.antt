@@ -26,6 +26,7 @@ use Rattle.grammar.specs.Canonical.Write.{own, token, statement, run}
 use Rattle.grammar.specs.Canonical.Need.{need}
 use Rattle.grammar.specs.Canonical.Count.{tokens}
 use Rattle.grammar.specs.Canonical.Valid.{stmt, Valid, Valids, v_none, v_more}
+use Rattle.grammar.specs.Given.{Among, first, later, GivenBy, Given, in_turn}
 use Rattle.grammar.specs.Canonical.Writing.{clean_reading, statement_words, same_words, gives, readable, is_too_deep, exceeds_depth, bare, written, write_stmt}
 use Rattle.grammar.proofs.Laws.Facts.{clash, and_l, and_r, not_true}
 use Rattle.grammar.proofs.Laws.Depth.{enough, next_depth}
@@ -73,19 +74,7 @@ reads_back h d l q r = rw (stmt_back h d q r, le-leb _ d l)
 pub run_reads_back : {f : Forest} → Valids stmt f → (d : ℕ) → need (Node.list f) own ≤ d → clean_reading d (run f) ≡ just f
 run_reads_back h d l = reading_back h d l
 
--- 3. A tree is among the statements of a clean reading
-pub data Among (t : Tree) : Forest → Type 0 where
-  first : {f : Forest} → Among t (more t f)
-  later : {u : Tree} {f : Forest} → Among t f → Among t (more u f)
-
--- tokens whose clean reading, at some depth, gives the tree
-pub record GivenBy (t : Tree) : Type 0 where
-  pub depth : ℕ
-  pub sheet : List ℕ
-  pub statements : Forest
-  pub clean : clean_reading depth sheet ≡ just statements
-  pub among : Among t statements
-
+-- 3
 pub among_valid : {t : Tree} {f : Forest} → Among t f → Valids stmt f → Valid stmt t
 among_valid first (v_more h f) = h
 among_valid (later a) (v_more h f) = among_valid a f
@@ -126,12 +115,6 @@ not_refused t m e h = go (exceeds_depth t) (ltb m (length (statement_words t))) 
     go false true x = let z : ◌≡◌ {A = ℕ} short_output no_statement = cc in omega arith
     go false false x = let z : ◌≡◌ {A = ℕ} 0 1 = cc in omega arith
 
--- the words are the records of a tree that a clean reading gives
-pub record Given (words : List ℕ) : Type 0 where
-  pub tree : Tree
-  pub text : records tree ≡ words
-  pub by : GivenBy tree
-
 pub refused_65 : (words : List ℕ) (m : ℕ) → ((write_stmt words m).answer ≡ Refused no_statement) ↔ (Given words → ⊥)
 unfolding write_stmt
 refused_65 words m = (
@@ -168,11 +151,6 @@ token_count t = statement_length t
 -- 6
 pub statement_first : (t : Tree) (r : List ℕ) → statement t r ≡ statement_words t ++ r
 statement_first t r = sym (write_append t own (token Kind.Semicolon []) r)
-
--- the statements' tokens in turn, then `EOF`
-unfoldable pub in_turn : Forest → List ℕ
-in_turn none = token Kind.EOF []
-in_turn (more t f) = statement_words t ++ in_turn f
 
 pub run_in_turn : (f : Forest) → run f ≡ in_turn f
 unfolding run in_turn

@@ -15,7 +15,7 @@ use Rattle.grammar.specs.Reading.Limit.{no_statement}
 use Rattle.grammar.specs.Reading.Result.{ifb}
 use Rattle.grammar.specs.Canonical.Writing.{readable, write_stmt}
 use Rattle.grammar.proofs.Laws.Facts.{not_true, by_test}
-use Rattle.grammar.proofs.Theorems.{Given}
+use Rattle.grammar.specs.Given.{Given}
 use Rattle.grammar.proofs.Laws.Small.{valid_small}
 use Rattle.writer.specs.Promise.{said, answers_65 as writer-answers-65, given_valid, readable_given, given_decoded, decoded_given}
 use Rattle.labels.specs.declared.Labels.{Labels}

@@ -27,7 +27,8 @@ use Rattle.grammar.proofs.Laws.Back.Depths.{next_back}
 use Rattle.grammar.proofs.Laws.Back.Steps.{reach}
 use Rattle.grammar.proofs.Laws.Facts.{not_true, by_test}
 use Rattle.grammar.proofs.Laws.Small.{valid_small}
-use Rattle.grammar.proofs.Theorems.{Given, valid_given, readable_valid, limit_exact, token_count, decoded, refused_65}
+use Rattle.grammar.specs.Given.{Given}
+use Rattle.grammar.proofs.Theorems.{valid_given, readable_valid, limit_exact, token_count, decoded, refused_65}
 use Rattle.grammar.specs.declared.Written.TheVariants.{Tokens, Stopped, Refused}
 
 -- reading the statement's run at the limit stops with 62

@@ -19,7 +19,8 @@ use Rattle.grammar.specs.Canonical.Writing.{statement_words, Wrote, bare, write_
 use Rattle.grammar.specs.Contract.{Writes}
 use Rattle.grammar.proofs.Laws.Back.Snoc.{most_more}
 use Rattle.grammar.proofs.Laws.Small.{valid_small}
-use Rattle.grammar.proofs.Theorems.{Among, first, later, among_valid, readable_valid, limit_exact, decoded}
+use Rattle.grammar.specs.Given.{Among, first, later}
+use Rattle.grammar.proofs.Theorems.{among_valid, readable_valid, limit_exact, decoded}
 use Rattle.grammar.specs.declared.Written.{Written}
 use Rattle.grammar.specs.declared.Written.TheVariants.{Tokens, Stopped, Refused}
 use Rattle.agreement.specs.Answers.{tree, answers_of}

@@ -2,7 +2,8 @@
 use mathlib.Core.Path.{sym, ◌∙◌}
 use borrow.Author.Tests.{eq-eqb, ne_eqb, le-leb, lt-leb}
 use native.Mathlib.Omega.{arith}
-use lib.ListN.{length-drop}
+use Prim.Native.Nat.{◌/◌, ◌≤◌, ◌<◌}
+use lib.ListN.{get_or, length-drop}
 use Rattle.token.proofs.Words.{seen_short, seen_here}
 use Rattle.token.proofs.look.Goals as goal
 
@@ -21,23 +22,27 @@ returns-then-kind-gt-LEXER_ERROR c =
 pub returns-then-newline-gt1 : goal.returns-then-newline-gt1
 returns-then-newline-gt1 c =
     let a = c.args in
+    let newline : 1 < get_or a.tokens.now a.at 0 / 256 = omega arith in
     seen_here a.tokens.now a.at (omega arith)
-    (simp (le-leb _ _ c.if-kind-gt-LEXER_ERROR.false, lt-leb _ _ c.if-newline-gt1.true))
+    (simp (le-leb _ _ c.if-kind-gt-LEXER_ERROR.false, lt-leb _ _ newline))
 
 pub returns-then-not-value_fits : goal.returns-then-not-value_fits
 returns-then-not-value_fits c =
     let a = c.args in
+    let newline : get_or a.tokens.now a.at 0 / 256 ≤ 1 = omega arith in
     seen_here a.tokens.now a.at (omega arith)
-    (simp (le-leb _ _ c.if-kind-gt-LEXER_ERROR.false, le-leb _ _ c.if-newline-gt1.false, sym c.value_fits.ensures ∙ c.if-not-value_fits.true))
+    (simp (le-leb _ _ c.if-kind-gt-LEXER_ERROR.false, le-leb _ _ newline, sym c.value_fits.ensures ∙ c.if-not-value_fits.true))
 
 pub returns-then-kind-eq-LEXER_ERROR : goal.returns-then-kind-eq-LEXER_ERROR
 returns-then-kind-eq-LEXER_ERROR c =
     let a = c.args in
+    let newline : get_or a.tokens.now a.at 0 / 256 ≤ 1 = omega arith in
     seen_here a.tokens.now a.at (omega arith)
-    (simp (le-leb _ _ c.if-kind-gt-LEXER_ERROR.false, le-leb _ _ c.if-newline-gt1.false, sym c.value_fits.ensures ∙ c.if-not-value_fits.false, eq-eqb _ _ c.if-kind-eq-LEXER_ERROR.true))
+    (simp (le-leb _ _ c.if-kind-gt-LEXER_ERROR.false, le-leb _ _ newline, sym c.value_fits.ensures ∙ c.if-not-value_fits.false, eq-eqb _ _ c.if-kind-eq-LEXER_ERROR.true))
 
 pub returns : goal.returns
 returns c =
     let a = c.args in
+    let newline : get_or a.tokens.now a.at 0 / 256 ≤ 1 = omega arith in
     seen_here a.tokens.now a.at (omega arith)
-    (simp (le-leb _ _ c.if-kind-gt-LEXER_ERROR.false, le-leb _ _ c.if-newline-gt1.false, sym c.value_fits.ensures ∙ c.if-not-value_fits.false, ne_eqb _ _ c.if-kind-eq-LEXER_ERROR.false))
+    (simp (le-leb _ _ c.if-kind-gt-LEXER_ERROR.false, le-leb _ _ newline, sym c.value_fits.ensures ∙ c.if-not-value_fits.false, ne_eqb _ _ c.if-kind-eq-LEXER_ERROR.false))
