@@ -4,7 +4,7 @@ standard error.
 
     ./check_failures.py
 
-The program is TREELIST, by default target/bin/treelist of the repository. Its exit status is 0 in each case; README.md says
+The program is TREELIST, by default crates/treelist/out/treelist of the repository. Its exit status is 0 in each case; README.md says
 how a whole listing is told.
 """
 import fcntl
@@ -19,7 +19,7 @@ import tempfile
 import tty
 
 HERE = os.path.dirname(os.path.abspath(__file__))
-TREELIST = os.environ.get("TREELIST", os.path.join(HERE, "..", "target", "bin", "treelist"))
+TREELIST = os.environ.get("TREELIST", os.path.join(HERE, "..", "crates", "treelist", "out", "treelist"))
 SHEET = os.path.join(HERE, "workplace.tokens")
 LISTING = os.path.join(HERE, "workplace.listing")
 
@@ -139,7 +139,7 @@ def is_as_said(status, output, said, printed, errors):
 
 def main():
     if not os.access(TREELIST, os.X_OK):
-        print("check_failures: no %s: run rt check treelist" % TREELIST, file=sys.stderr)
+        print("check_failures: no %s: run (cd crates/treelist && rt run < stdin)" % TREELIST, file=sys.stderr)
         return 2
     wrong = 0
     if not is_whole(contents(LISTING)):
