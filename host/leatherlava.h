@@ -1,5 +1,5 @@
 /* The proved statement reader, the proved writer of canonical tokens and the proved check of labels, for C and C++. Link target/staticlib/libparser.a for the reader,
- * target/staticlib/libwriter.a for the writer and target/staticlib/liblabels.a for the check: `tools/library.py` writes them.
+ * target/staticlib/libwriter.a for the writer and target/staticlib/liblabels.a for the check: `host/libraries` writes them.
  * README.md beside this file says how.
  *
  * Units: a word has 64 bits. An argument whose name ends in _n counts the words behind the pointer before it. A token is two words (docs/TOKENS.md);

@@ -7,8 +7,8 @@
 
 DIR of --build holds oracle01, as `compare/oracle/build.sh SOURCES DIR` makes it; DIR of --oracle holds gen.py, limit.py,
 tokens.py and tried.py, by default compare/oracle; --repo is the repository with the definition, by default the folder above
-this file's. Needs Python 3 and rt; one thread, about 10 ms a sheet, 0.2 s one of the family f. With the defaults some
-2,900 sheets, 2 to 3 minutes.
+this file's. Needs Python 3 and rt; one thread, 5 s for each family and seed, about 10 ms a sheet and 0.1 s one of the
+family f. With the defaults some 2,600 sheets, 3 to 5 minutes.
 
 Every sheet is read by `oracle01 --state`. The modules of a scratch crate, over a temporary copy of the definitions of reading,
 make the same calls of `next_stmt`, from a fresh reader to the first end or stop and with a store of 16 words for each

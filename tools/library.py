@@ -1,7 +1,7 @@
 #!/usr/bin/env python3
 """The proved libraries for C, target/staticlib/libNAME.a, for NAME parser, writer and labels.
 
-    tools/library.py [NAME..]    makes them, all three without a name, and prints where they are
+    tools/library.py [NAME..]    makes them, all three without a name, and prints where they are; host/libraries calls it
 
 libNAME.a is what `rt lib` writes of the crate NAME_c, which exports what C links. It is made anew where a .rt file of the crates is newer.
 Needs Python 3 and rt. Exit status 1 if a crate is not proved, 2 for another name.
