@@ -1,5 +1,5 @@
 /* The proved statement reader, the proved writer of canonical tokens and the proved check of labels, for C and C++. Link target/staticlib/libparser.a for the reader,
- * target/staticlib/libwriter.a for the writer and target/staticlib/liblabels.a for the check: `rt staticlib parser`, `rt staticlib writer` and `rt staticlib labels` write them.
+ * target/staticlib/libwriter.a for the writer and target/staticlib/liblabels.a for the check: `host/libraries` writes them.
  * README.md beside this file says how.
  *
  * Units: a word has 64 bits. An argument whose name ends in _n counts the words behind the pointer before it. A token is two words (docs/TOKENS.md);
@@ -20,7 +20,7 @@ extern "C" {
 #endif
 
 /* The stack to give a call, in bytes below the frame that calls. It does not grow with a sheet or a tree: a reading is at most 37 deep and then stops with 62, and so
- * does the writing; the check does not recurse. The deepest that was found takes 178,960 bytes in the reader, 244,040 in the writer and 52,408 in the check, of these libraries, for x86-64; it is
+ * does the writing; the check does not recurse. The deepest that was found takes 135,512 bytes in the reader, 209,656 in the writer and 52,472 in the check, of these libraries, for x86-64; it is
  * measured, not proved (docs/BENCHMARK.md, docs/WRITER.md, docs/LABELS.md). Built for another machine they have other frames: measure them there. */
 enum leatherlava_stack {
     LEATHERLAVA_READER_STACK = 256 * 1024,

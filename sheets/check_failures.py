@@ -4,9 +4,10 @@ standard error.
 
     ./check_failures.py
 
-The program is TREELIST, by default target/bin/treelist of the repository. Its exit status is 0 in each case; README.md says
+The program is TREELIST, by default crates/treelist/out/treelist of the repository. Its exit status is 0 in each case; README.md says
 how a whole listing is told.
 """
+import errno
 import fcntl
 import os
 import pty
@@ -19,7 +20,7 @@ import tempfile
 import tty
 
 HERE = os.path.dirname(os.path.abspath(__file__))
-TREELIST = os.environ.get("TREELIST", os.path.join(HERE, "..", "target", "bin", "treelist"))
+TREELIST = os.environ.get("TREELIST", os.path.join(HERE, "..", "crates", "treelist", "out", "treelist"))
 SHEET = os.path.join(HERE, "workplace.tokens")
 LISTING = os.path.join(HERE, "workplace.listing")
 
@@ -105,27 +106,27 @@ def output_that_nobody_reads():
     return status, b"", errors
 
 
-def input_error(why):
-    return "treelist: standard input: %s\n" % why
+def input_error(why, number):
+    return "treelist: standard input: %s (os error %d)\n" % (why, number)
 
 
-def output_error(why):
-    return "treelist: standard output: %s\n" % why
+def output_error(why, number):
+    return "treelist: standard output: %s (os error %d)\n" % (why, number)
 
 
 # a name, the run, what it prints (None: a part of the listing), what it says on standard error
 CASES = [
-    ("a closed input", lambda: redirected("<&-"), UNREAD, input_error("Bad file descriptor")),
-    ("a folder as input", lambda: redirected("</"), UNREAD, input_error("Is a directory")),
-    ("an input that waits", input_that_waits, UNREAD, input_error("Resource temporarily unavailable")),
-    ("an input that breaks off", input_that_breaks_off, UNREAD, input_error("Input/output error")),
-    ("a closed output", lambda: redirected('<"$1" >&-'), b"", output_error("Bad file descriptor")),
-    ("a full output", lambda: redirected('<"$1" >/dev/full'), b"", output_error("No space left on device")),
-    ("an output that nobody reads", output_that_nobody_reads, b"", output_error("Broken pipe")),
-    ("an output that fills up", output_that_fills_up, None, output_error("Resource temporarily unavailable")),
-    ("an output without its last byte", output_without_its_last_byte, contents(LISTING)[:CUT], output_error("File too large")),
+    ("a closed input", lambda: redirected("<&-"), UNREAD, input_error("Bad file descriptor", errno.EBADF)),
+    ("a folder as input", lambda: redirected("</"), UNREAD, input_error("Is a directory", errno.EISDIR)),
+    ("an input that waits", input_that_waits, UNREAD, input_error("Resource temporarily unavailable", errno.EAGAIN)),
+    ("an input that breaks off", input_that_breaks_off, UNREAD, input_error("Input/output error", errno.EIO)),
+    ("a closed output", lambda: redirected('<"$1" >&-'), b"", output_error("Bad file descriptor", errno.EBADF)),
+    ("a full output", lambda: redirected('<"$1" >/dev/full'), b"", output_error("No space left on device", errno.ENOSPC)),
+    ("an output that nobody reads", output_that_nobody_reads, b"", output_error("Broken pipe", errno.EPIPE)),
+    ("an output that fills up", output_that_fills_up, None, output_error("Resource temporarily unavailable", errno.EAGAIN)),
+    ("an output without its last byte", output_without_its_last_byte, contents(LISTING)[:CUT], output_error("File too large", errno.EFBIG)),
     ("a closed input and a full output", lambda: redirected("<&- >/dev/full"), b"",
-     input_error("Bad file descriptor") + output_error("No space left on device")),
+     input_error("Bad file descriptor", errno.EBADF) + output_error("No space left on device", errno.ENOSPC)),
 ]
 
 
@@ -139,7 +140,7 @@ def is_as_said(status, output, said, printed, errors):
 
 def main():
     if not os.access(TREELIST, os.X_OK):
-        print("check_failures: no %s: run rt check treelist" % TREELIST, file=sys.stderr)
+        print("check_failures: no %s: run (cd crates/treelist && rt run < stdin)" % TREELIST, file=sys.stderr)
         return 2
     wrong = 0
     if not is_whole(contents(LISTING)):

@@ -6,7 +6,7 @@
 DIR of --build holds oracle01, as `compare/oracle/build.sh SOURCES DIR` makes it; DIR of --oracle holds gen.py, limit.py, tokens.py and
 canonical.txt, by default compare/oracle; --repo is the repository with the definition, by default the folder above this file's. Needs Python 3 and rt.
 
-Two things are computed by scratch modules in a temporary copy of the repository, and proved by refl, a chunk of sheets at a time:
+Two things are computed by the module of a scratch crate, over a temporary copy of the definitions, and proved by refl, a chunk of sheets at a time:
 every sheet of canonical.txt is written as there, and so is its canonical run read again; and of the sheets of gen.py's family b
 that oracle01 reads without an error, each reads cleanly, and its canonical run reads cleanly to the same records.
 
@@ -24,18 +24,16 @@ sys.dont_write_bytecode = True  # no compiled files beside the sources
 import supplied
 
 ROOT = os.path.dirname(os.path.dirname(os.path.abspath(__file__)))
-DEFINITIONS = ("Reading", "Canonical", "Levels", "Sheets")
+# of grammar, what its specs/ and its proofs/ keep: the definitions of reading and of canonical tokens, and the table of sheets, which defines `canonical`
+KEPT = {"specs": ("Reading", "Canonical", "Levels"), "proofs": ("Sheets",)}
 HEADER = """-- Scratch: sheets and what they come to.
-use mathlib.Core.Path.{_≡_, refl}
-use mathlib.Core.Bool.{Bool, true}
-use mathlib.Core.List.{List, [], _∷_}
-use Prim.Native.Nat.{ℕ}
-use Rattle·tree.specs.Tree.{all-records}
-use Rattle·tree.specs.Maybe.{Maybe, just, bindM}
-use Rattle·grammar·specs.specs.Reading.Limit.{depth-limit}
-use Rattle·grammar·specs.specs.Canonical.Write.{run}
-use Rattle·grammar·specs.specs.Canonical.Writing.{clean-reading, same-words}
-use Rattle·grammar·specs.specs.Sheets.{canonical}
+use Rattle.std.specs.Prelude.{◌≡◌, refl, Bool, true, List, [], ◌∷◌, ℕ}
+use Rattle.tree.specs.Tree.{all_records}
+use Rattle.tree.specs.Maybe.{Maybe, just, bindM}
+use Rattle.grammar.specs.Reading.Limit.{depth_limit}
+use Rattle.grammar.specs.Canonical.Write.{run}
+use Rattle.grammar.specs.Canonical.Writing.{clean_reading, same_words}
+use Rattle.grammar.proofs.Sheets.{canonical}
 
 abbrev each : {A : Type 0} → (List ℕ → A) → List (List ℕ) → List A
 each f [] = []
@@ -44,7 +42,7 @@ each f (s ∷ ss) = f s ∷ each f ss
 unfoldable again : List ℕ → Maybe Bool
 unfolding canonical
 again ts =
-    bindM (clean-reading depth-limit ts) λ f. bindM (clean-reading depth-limit (run f)) λ g. just (same-words (all-records f) (all-records g))
+    bindM (clean_reading depth_limit ts) λ f. bindM (clean_reading depth_limit (run f)) λ g. just (same_words (all_records f) (all_records g))
 
 abbrev always : List ℕ → Maybe Bool
 always ts = just true
@@ -102,38 +100,46 @@ def scratch_module(pairs, clean, chunk):
     for n in range(0, len(pairs), chunk):
         part = pairs[n:n + chunk]
         wanted = list_of("just " + text_of(canonical) for _, canonical in part)
-        text += theorem("written-%d" % n, "each canonical " + list_of(text_of(sheet) for sheet, _ in part), wanted, "canonical")
-        text += theorem("rewritten-%d" % n, "each canonical " + list_of(text_of(canonical) for _, canonical in part), wanted, "canonical")
+        text += theorem("written_%d" % n, "each canonical " + list_of(text_of(sheet) for sheet, _ in part), wanted, "canonical")
+        text += theorem("rewritten_%d" % n, "each canonical " + list_of(text_of(canonical) for _, canonical in part), wanted, "canonical")
     for n in range(0, len(clean), chunk):
         sheets = list_of(map(text_of, clean[n:n + chunk]))
-        text += theorem("again-%d" % n, "each again " + sheets, "each always " + sheets, "again")
+        text += theorem("again_%d" % n, "each again " + sheets, "each always " + sheets, "again")
     return text
 
 
-def keep_definitions(specs):
-    """of grammar's specs only the definitions, so that a run proves no laws"""
-    for name in os.listdir(specs):
-        path = os.path.join(specs, name)
-        if os.path.isdir(path) and name not in DEFINITIONS:
-            shutil.rmtree(path)
-        elif os.path.isfile(path) and name[:-len(".antt")] not in DEFINITIONS:
-            os.remove(path)
+def keep_definitions(crate):
+    """of grammar only the definitions, so that a run proves no laws"""
+    for part, kept in KEPT.items():
+        folder = os.path.join(crate, part)
+        for name in os.listdir(folder):
+            path = os.path.join(folder, name)
+            if os.path.isdir(path) and name not in kept:
+                shutil.rmtree(path)
+            elif os.path.isfile(path) and name[:-len(".antt")] not in kept:
+                os.remove(path)
+        write(os.path.join(folder, "Lib.antt"), "".join("pub mod %s\n" % name for name in kept))
+
+
+def write(path, text):
+    with open(path, "w") as out:
+        out.write(text)
 
 
 def prove(repo, text):
-    """a copy of the repository's definitions with the scratch module, checked"""
+    """a copy of the repository's definitions with a scratch crate above it, checked"""
     with tempfile.TemporaryDirectory() as folder:
         for name in ("token", "operator", "tree", "grammar"):
-            shutil.copytree(os.path.join(repo, "crates", name), os.path.join(folder, "crates", name))
-        specs = os.path.join(folder, "crates", "grammar", "specs")
-        keep_definitions(specs)
-        with open(os.path.join(specs, "Lib.antt"), "w") as out:
-            out.write("".join("pub mod %s\n" % name for name in (*DEFINITIONS, "Scratch")))
-        with open(os.path.join(specs, "Scratch.antt"), "w") as out:
-            out.write(text)
-        with open(os.path.join(folder, "crates.txt"), "w") as out:
-            out.write("token:\noperator: token\ntree:\ngrammar: token operator tree\n")
-        return subprocess.run(["rt", "check", "grammar"], cwd=folder, capture_output=True, text=True)
+            shutil.copytree(os.path.join(repo, "crates", name), os.path.join(folder, "crates", name), ignore=shutil.ignore_patterns("out"))
+        keep_definitions(os.path.join(folder, "crates", "grammar"))
+        scratch = os.path.join(folder, "crates", "scratch")
+        for part in ("src", "proofs"):
+            os.makedirs(os.path.join(scratch, part))
+        write(os.path.join(scratch, "src", "lib.rt"), "// The scratch module of tools/check_canonical.py stands in proofs/.\n#![tactic(auto)]\n")
+        write(os.path.join(scratch, "proofs", "Lib.antt"), "pub mod Tried\n")
+        write(os.path.join(scratch, "proofs", "Tried.antt"), text)
+        write(os.path.join(folder, "crates.txt"), "token:\noperator: token\ntree:\ngrammar: token operator tree\nscratch: token operator tree grammar\n")
+        return subprocess.run(["rt", "check"], cwd=scratch, capture_output=True, text=True)
 
 
 def main():
@@ -149,7 +155,7 @@ def main():
     pairs = [tuple(words(toks) for toks in pair) for pair in supplied.pairs(os.path.join(given.oracle, "canonical.txt"))]
     clean = clean_sheets(given.oracle, given.build, given.seeds.split(","), given.count, given.max_tokens)
     result = prove(given.repo, scratch_module(pairs, clean, given.chunk))
-    refused = sorted(set(re.findall(r"error: `((?:written|rewritten|again)-\d+)`", result.stdout + result.stderr)))
+    refused = sorted(set(re.findall(r"error: `((?:written|rewritten|again)_\d+)`", result.stdout + result.stderr)))
     print("supplied sheets=%d clean sheets=%d refused chunks=%s" % (len(pairs), len(clean), refused or "none"))
     if result.returncode and not refused:
         sys.stderr.write(result.stdout[-3000:] + result.stderr[-3000:])

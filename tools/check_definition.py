@@ -7,11 +7,11 @@
 
 DIR of --build holds oracle01, as `compare/oracle/build.sh SOURCES DIR` makes it; DIR of --oracle holds gen.py, limit.py,
 tokens.py and tried.py, by default compare/oracle; --repo is the repository with the definition, by default the folder above
-this file's. Needs Python 3 and rt; one thread, about 10 ms a sheet, 0.2 s one of the family f. With the defaults some
-2,900 sheets, 2 to 3 minutes.
+this file's. Needs Python 3 and rt; one thread, 5 s for each family and seed, about 10 ms a sheet and 0.1 s one of the
+family f. With the defaults some 2,600 sheets, 3 to 5 minutes.
 
-Every sheet is read by `oracle01 --state`. Scratch modules, in a temporary copy of the crates that `grammar` needs,
-make the same calls of `next-stmt`, from a fresh reader to the first end or stop and with a store of 16 words for each
+Every sheet is read by `oracle01 --state`. The modules of a scratch crate, over a temporary copy of the definitions of reading,
+make the same calls of `next_stmt`, from a fresh reader to the first end or stop and with a store of 16 words for each
 token of the sheet, and compare: the answer's case; its number, or a tree's count of nodes; every word of the store, so
 all records and the zeros behind them; the reader's position, count of waiting errors, all places of its queue, stop.
 One call more must answer the same again. The sheets that differ are a list of numbers, and the theorem of a chunk of
@@ -236,16 +236,12 @@ def ask_oracle(args, tokens, kinds, sheets):
 
 COMPARE = """\
 -- A scratch module of tools/check_definition.py: the definition's answers against given ones. Assumes nothing.
-use mathlib.Core.Bool.{Bool, true, false, _&&_, _||_}
-use mathlib.Core.List.{List, [], _∷_, _++_}
-use Prim.Native.Nat.{ℕ, zero, suc, _+_, _-_, _*_, _^_}
-use lib.Dec.{eqb}
-use lib.ListN.{length, take, replicate}
-use Rattle·grammar·specs.specs.Reading.Limit.{queue-limit}
-use Rattle·grammar·specs.specs.Reading.Next.{Called, next-stmt, fresh, number}
-use Rattle·grammar·specs.specs.declared.Answer.{Answer}
-use Rattle·grammar·specs.specs.declared.Answer.the-variants.{Tree, Error, End, Stopped, Refused}
-use Rattle·grammar·specs.specs.declared.Reader.{Reader}
+use Rattle.std.specs.Prelude.{Bool, true, false, ◌&&◌, ◌||◌, List, [], ◌∷◌, ◌++◌, ℕ, zero, suc, ◌+◌, ◌-◌, ◌*◌, ◌^◌, eqb, length, take, replicate}
+use Rattle.grammar.specs.Reading.Limit.{queue_limit}
+use Rattle.grammar.specs.Reading.Next.{Called, next_stmt, fresh, number}
+use Rattle.grammar.specs.declared.Answer.{Answer}
+use Rattle.grammar.specs.declared.Answer.TheVariants.{Tree, Error, End, Stopped, Refused}
+use Rattle.grammar.specs.declared.Reader.{Reader}
 
 -- case, number, position, stop, waiting errors, the store's words before its zeros
 pub data Want : Type 0 where
@@ -280,16 +276,16 @@ padded n xs = xs ++ replicate (n - length xs) 0
 
 abbrev meets : ℕ → Called → Want → Bool
 meets m c (want k n p s q words) =
-    eqb (case (c .step .answer)) k && eqb (figure (c .step .answer)) n && eqb (c .step .reader .position) p
-    && eqb (c .step .reader .stopped) s && eqb (c .step .reader .waiting) (length q)
-    && same (c .step .reader .errors) (padded queue-limit q) && same (c .store) (padded m words)
+    eqb (case c.step.answer) k && eqb (figure c.step.answer) n && eqb c.step.reader.position p
+    && eqb c.step.reader.stopped s && eqb c.step.reader.waiting (length q)
+    && same c.step.reader.errors (padded queue_limit q) && same c.store (padded m words)
 
 -- the calls from a reader on
 calls : List ℕ → ℕ → Reader → List Want → Bool
 calls T m R [] = true
 calls T m R (w ∷ ws) =
-    let c = next-stmt R T m in
-    elim (meets m c w) [ true ↦ calls T m (c .step .reader) ws | false ↦ false ]
+    let c = next_stmt R T m in
+    elim (meets m c w) [ true ↦ calls T m c.step.reader ws | false ↦ false ]
 
 -- the sheet of number n, if it differs from what is wanted, before others
 unfoldable pub differs : ℕ → List ℕ → List Want → List ℕ → List ℕ
@@ -304,15 +300,15 @@ agrees n T ws rest = elim (calls T (8 * length T) fresh ws) [ true ↦ n ∷ res
 -- a call as numbers: case, number, position, stop, waiting, the errors that wait, a tree's records
 abbrev numbers : Called → List ℕ → List ℕ
 numbers c rest =
-    case (c .step .answer) ∷ figure (c .step .answer) ∷ c .step .reader .position ∷ c .step .reader .stopped ∷ c .step .reader .waiting
-    ∷ take (c .step .reader .waiting) (c .step .reader .errors) ++ take (2 * nodes (c .step .answer)) (c .store) ++ rest
+    case c.step.answer ∷ figure c.step.answer ∷ c.step.reader.position ∷ c.step.reader.stopped ∷ c.step.reader.waiting
+    ∷ take c.step.reader.waiting c.step.reader.errors ++ take (2 * nodes c.step.answer) c.store ++ rest
 
 -- the calls from a reader on, at most so many, to the first that is no tree and no error
 answers : ℕ → List ℕ → ℕ → Reader → List ℕ
 answers zero T m R = []
 answers (suc k) T m R =
-    let c = next-stmt R T m in
-    elim (eqb (case (c .step .answer)) 0 || eqb (case (c .step .answer)) 1) [ true ↦ numbers c (answers k T m (c .step .reader)) | false ↦ numbers c [] ]
+    let c = next_stmt R T m in
+    elim (eqb (case c.step.answer) 0 || eqb (case c.step.answer) 1) [ true ↦ numbers c (answers k T m c.step.reader) | false ↦ numbers c [] ]
 
 -- numbers as one, with DIGITS decimal digits each, the first at the low end
 packed : List ℕ → ℕ
@@ -326,10 +322,8 @@ said k T = packed (answers k T (8 * length T) fresh)
 
 HEADER = """\
 -- A scratch module of tools/check_definition.py
-use mathlib.Core.Path.{_≡_, refl}
-use mathlib.Core.List.{List, [], _∷_}
-use Prim.Native.Nat.{ℕ}
-use Rattle·grammar·specs.specs.ScratchCompare.{Want, want, differs, agrees, said}
+use Rattle.std.specs.Prelude.{◌≡◌, refl, List, [], ◌∷◌, ℕ}
+use Rattle.scratch.proofs.Compare.{Want, want, differs, agrees, said}
 """
 
 
@@ -358,9 +352,9 @@ unfolding %s
 found =
 %s    []%s
 
-nothing-found : found ≡ []
+nothing_found : found ≡ []
 unfolding found
-nothing-found = refl
+nothing_found = refl
 """ % (test, "".join(rows), ")" * len(sheets))
 
 
@@ -368,8 +362,8 @@ def single_text(sheets):
     """a module with a theorem for each sheet, and a hole at which the checker prints the definition's answers"""
     text = HEADER
     for n, s in enumerate(sheets):
-        text += "\nagree-%d : differs 0 %s %s [] ≡ []\nunfolding differs\nagree-%d = refl\n" % (n, words_text(s), wants_text(s), n)
-        text += "\nsaid-%d : said %d %s ≡ 0\nunfolding said\nsaid-%d = ?h\n" % (n, calls_shown(s), words_text(s), n)
+        text += "\nagree_%d : differs 0 %s %s [] ≡ []\nunfolding differs\nagree_%d = refl\n" % (n, words_text(s), wants_text(s), n)
+        text += "\nsaid_%d : said %d %s ≡ 0\nunfolding said\nsaid_%d = ?h\n" % (n, calls_shown(s), words_text(s), n)
     return text
 
 
@@ -396,8 +390,10 @@ def needed_crates(repo):
     return found
 
 
-def keep_reading(specs):
-    """of the definitions only those of reading, so that a run proves nothing else"""
+def keep_reading(crate):
+    """of grammar only the code and the definitions of reading, so that a run proves nothing else"""
+    shutil.rmtree(os.path.join(crate, "proofs"))
+    specs = os.path.join(crate, "specs")
     for name in os.listdir(specs):
         path = os.path.join(specs, name)
         if os.path.isdir(path) and name != "Reading":
@@ -409,18 +405,17 @@ def keep_reading(specs):
 
 
 def copy_repository(repo, folder):
-    """the needed crates, and what rt has of the proved ones below grammar: it proves again what has changed"""
+    """the needed crates, and a crate above them for the scratch modules. What rt kept of the proved ones it finds by itself; it proves again what has changed"""
     crates = needed_crates(repo)
     for name in crates:
-        shutil.copytree(os.path.join(repo, "crates", name), os.path.join(folder, "crates", name))
-        for part in (["stamp", name], ["rlib", name + ".rlib"]) if name != "grammar" else ():
-            source, to = os.path.join(repo, "target", *part), os.path.join(folder, "target", *part)
-            if os.path.exists(source):
-                os.makedirs(os.path.dirname(to), exist_ok=True)
-                (shutil.copytree if os.path.isdir(source) else shutil.copy2)(source, to)
-    keep_reading(os.path.join(folder, "crates", "grammar", "specs"))
+        shutil.copytree(os.path.join(repo, "crates", name), os.path.join(folder, "crates", name), ignore=shutil.ignore_patterns("out"))
+    keep_reading(os.path.join(folder, "crates", "grammar"))
+    for part in ("src", "proofs"):
+        os.makedirs(os.path.join(folder, "crates", "scratch", part))
+    with open(os.path.join(folder, "crates", "scratch", "src", "lib.rt"), "w") as out:
+        out.write("// The scratch modules of tools/check_definition.py stand in proofs/.\n#![tactic(auto)]\n")
     with open(os.path.join(folder, "crates.txt"), "w") as out:
-        out.writelines("%s: %s\n" % (name, " ".join(depends)) for name, depends in crates.items())
+        out.writelines("%s: %s\n" % (name, " ".join(depends)) for name, depends in {**crates, "scratch": list(crates)}.items())
     return list(crates)
 
 
@@ -429,7 +424,6 @@ def unfoldable_names(folder, crates):
     names = []
     for crate in crates:
         specs = pathlib.Path(folder, "crates", crate, "specs")
-        library = "Rattle·grammar·specs.specs" if crate == "grammar" else "Rattle·%s.specs" % crate
         for file in sorted(specs.rglob("*.antt")):
             module = ".".join(file.relative_to(specs).with_suffix("").parts)
             block = False
@@ -438,7 +432,7 @@ def unfoldable_names(folder, crates):
                     block = row.startswith("unfoldable mutual")
                 found = re.match(r"\s+pub (\S+)( \{[^}]*\})? :" if block else r"\s*unfoldable (?:abbrev )?pub (\S+)( \{[^}]*\})? :", row)
                 if found:
-                    names.append("%s.%s.%s" % (library, module, found.group(1)))
+                    names.append("Rattle.%s.specs.%s.%s" % (crate, module, found.group(1)))
     return names
 
 
@@ -446,34 +440,32 @@ class Scratch:
     """a copy of the repository, in which rt checks scratch modules"""
 
     def __init__(self, repo, folder):
-        self.folder = folder
         crates = copy_repository(repo, folder)
-        self.specs = os.path.join(folder, "crates", "grammar", "specs")
-        self.lib = open(os.path.join(self.specs, "Lib.antt")).read()
+        self.crate = os.path.join(folder, "crates", "scratch")
         self.compare = COMPARE.replace("UNFOLDING", " ".join(unfoldable_names(folder, crates))).replace("DIGITS", str(DIGITS))
         output, status = self.check({})
         if status != 0:
             print(output)
             fail("the definition, or the scratch module that compares, is refused")
 
-    def check(self, modules, verb="check", words=()):
+    def check(self, modules, *words):
         """what rt says of the scratch modules, texts by name, and its exit status"""
-        for file in os.listdir(self.specs):
-            if file.startswith("Scratch"):
-                os.remove(os.path.join(self.specs, file))
-        texts = {"ScratchCompare": self.compare, **modules}
-        texts["Lib"] = self.lib + "".join("pub mod %s\n" % name for name in texts)
+        proofs = os.path.join(self.crate, "proofs")
+        for file in os.listdir(proofs):
+            os.remove(os.path.join(proofs, file))
+        texts = {"Compare": self.compare, **modules}
+        texts["Lib"] = "".join("pub mod %s\n" % name for name in texts)
         for name, text in texts.items():
-            with open(os.path.join(self.specs, name + ".antt"), "w") as out:
+            with open(os.path.join(proofs, name + ".antt"), "w") as out:
                 out.write(text)
-        done = subprocess.run(["rt", verb, "grammar", *words], cwd=self.folder, env=dict(os.environ, RT_CUT="0", RT_JOBS="1"),
+        done = subprocess.run(["rt", "check", *words], cwd=self.crate, env=dict(os.environ, RT_JOBS="1"),
                               stdout=subprocess.PIPE, stderr=subprocess.STDOUT, text=True)
         return done.stdout, done.returncode
 
 
 def refused(output, name):
     """the modules and the ends of the names of the theorems `name..` that the checker refuses, or can't tell of"""
-    return re.findall(r"(Scratch\w+)\.antt:\d+:\d+: error: `%s(\d*)`" % name, output)
+    return re.findall(r"(Chunk\d+|Single)\.antt:\d+:\d+: error: `%s(\d*)`" % name, output)
 
 
 def run_chunks(args, scratch, sheets, test="differs"):
@@ -481,9 +473,9 @@ def run_chunks(args, scratch, sheets, test="differs"):
     chunks = [sheets[at:at + args.chunk] for at in range(0, len(sheets), args.chunk)]
     left = []
     for at in range(0, len(chunks), CHUNKS_A_RUN):
-        modules = {"ScratchChunk%d" % n: chunk_text(chunks[n], test) for n in range(at, min(at + CHUNKS_A_RUN, len(chunks)))}
+        modules = {"Chunk%d" % n: chunk_text(chunks[n], test) for n in range(at, min(at + CHUNKS_A_RUN, len(chunks)))}
         output, status = scratch.check(modules)
-        bad = sorted({int(module[len("ScratchChunk"):]) for module, _ in refused(output, "nothing-found")})
+        bad = sorted({int(module[len("Chunk"):]) for module, _ in refused(output, "nothing_found")})
         if (status == 0) != (not bad):
             print(output[-4000:])
             fail("rt ends with status %d, and the refused chunks are %s" % (status, bad))
@@ -515,13 +507,13 @@ def single_out(args, scratch, sheets):
     found = []
     for at in range(0, len(sheets), args.chunk):
         part = sheets[at:at + args.chunk]
-        output, _ = scratch.check({"ScratchSingle": single_text(part)}, "dev", ["--allow-holes"])
-        goals = re.split(r"goal \?h in `said-(\d+)`", output)
-        said = {int(n): re.search(r"_≡_\s+\{A = ℕ\}\s+(\d+)\s+0", text) for n, text in zip(goals[1::2], goals[2::2])}
+        output, _ = scratch.check({"Single": single_text(part)}, "--allow-holes")
+        goals = re.split(r"goal \?h in `said_(\d+)`", output)
+        said = {int(n): re.search(r"Path\s+ℕ\s+(\d+)\s+0", text) for n, text in zip(goals[1::2], goals[2::2])}
         if len(said) != len(part):
             print(output[-4000:])
             fail("the second pass failed")
-        for n in sorted({int(n) for _, n in refused(output, "agree-")}):
+        for n in sorted({int(n) for _, n in refused(output, "agree_")}):
             found.append((part[n], unpack(said[n].group(1), calls_shown(part[n])) if said[n] else None))
     return found
 

@@ -157,18 +157,18 @@ def uses(files, pattern, function):
 
 
 def callers(page, wrong):
-    rows = re.findall(r"^\| [^|]* \| `parse_\w+` \| `([\w-]+)` \| `(\w+)` \| (\d+) \|$", page, re.M)
+    rows = re.findall(r"^\| [^|]* \| `parse_\w+` \| `(\w+)` \| `(\w+)` \| (\d+) \|$", page, re.M)
     code = [os.path.relpath(path, ROOT) for path in glob.glob(os.path.join(ROOT, "crates/*/src/*.rt"))]
     reading = [os.path.relpath(path, ROOT) for path in glob.glob(os.path.join(ROOT, "crates/grammar/specs/Reading/*.antt"))]
-    number = {"CANNOT_ASSIGN": "16", "FUNCTION_TARGET": "26", "cannot-assign": "16", "function-target": "26"}
-    fn, definition = r"(?:pub )?(?:extern \"C\" )?fn (\w+)", r"(?:pub |unfoldable pub |abbrev )*([\w-]+) : "
+    number = {"CANNOT_ASSIGN": "16", "FUNCTION_TARGET": "26", "cannot_assign": "16", "function_target": "26"}
+    fn, definition = r"(?:pub )?(?:extern \"C\" )?fn (\w+)", r"(?:pub |unfoldable pub |abbrev )*(\w+) : "
     steps = uses(code, r"\b(can_be_pattern|move_to_pattern)\(", fn)
     if steps != [("expect_pattern", "can_be_pattern"), ("expect_pattern", "move_to_pattern")]:
         wrong.append("the two steps are called so: %s" % steps)
     ours, theirs = sorted((f, n) for _, f, n in rows), sorted((d, n) for d, _, n in rows)
     for title, files, function, expected, call, constant in (
             ("code", code, fn, ours, r"\bexpect_pattern\(store, at, number::(\w+)", r"number::(CANNOT_ASSIGN|FUNCTION_TARGET)"),
-            ("definition", reading, definition, theirs, r"expect-pattern Number\.([\w-]+)", r"Number\.(cannot-assign|function-target)")):
+            ("definition", reading, definition, theirs, r"expect_pattern Number\.(\w+)", r"Number\.(cannot_assign|function_target)")):
         for pattern in (call, constant):
             found = sorted((name, number[constant]) for name, constant in uses(files, pattern, function))
             if found != expected or not found:
