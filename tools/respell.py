@@ -105,7 +105,7 @@ def main():
         stay = of_libraries(old, crates)
         comment = {"antt": "--", "rt": "//", "edit": "file:"}[path.rsplit(".", 1)[1]]
         new = lines(old, before_port if path.endswith(".edit") else names, stay, comment)
-        before, after = set(TOKEN.findall(old)), set(TOKEN.findall(new))
+        before = set(TOKEN.findall(old))
         for name in sorted(before):
             if name in names and name not in stay and names[name] in before & all_names:
                 clashes += 1
