@@ -6,6 +6,7 @@
 libNAME.a is what `rt lib` writes of the crate NAME_c, which exports what C links. It is made anew where a .rt file of the crates is newer.
 Needs Python 3 and rt. Exit status 1 if a crate is not proved, 2 for another name.
 """
+import glob
 import os
 import shutil
 import subprocess
@@ -18,7 +19,7 @@ NAMES = ("parser", "writer", "labels")
 def library(name):
     """the library of a crate; it is proved and written anew where a .rt file of the crates is newer"""
     path = os.path.join(ROOT, "target", "staticlib", "lib%s.a" % name)
-    sources = (os.path.join(folder, source) for folder, _, names in os.walk(os.path.join(ROOT, "crates")) for source in names if source.endswith(".rt"))
+    sources = glob.glob(os.path.join(ROOT, "crates", "*", "src", "*.rt"))  # not the copies that rt keeps in out/
     if not os.path.exists(path) or any(os.path.getmtime(source) > os.path.getmtime(path) for source in sources):
         exporting = os.path.join(ROOT, "crates", name + "_c")
         subprocess.run(["rt", "lib"], cwd=exporting, stdout=sys.stderr, check=True)
