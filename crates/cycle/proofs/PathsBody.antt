@@ -14,7 +14,7 @@ use Rattle.grammar.specs.Reading.Block.{body}
 use Rattle.scan.specs.Post.{As, clean, Wrote, Agrees, waiting_errors}
 use Rattle.nodes.specs.Lists.{Ends, keeps, gives, Closable, Unders}
 use Rattle.cycle.specs.Lists.{Lists}
-use Rattle.scan.specs.Lists.{Passing, took, lacks as lacks-one, Passes, Within}
+use Rattle.scan.specs.Lists.{Passing, took, lacks as lacks_one, Passes, Within}
 use Rattle.scan.specs.declared.Step.{Step}
 use Rattle.scan.specs.declared.Step.TheVariants.{Done, Fail, Stop}
 use Rattle.scan.specs.declared.Listed.{Listed}
@@ -51,7 +51,7 @@ module _ (low : Depth) {T : List ℕ} {pos at w₀ : ℕ} {S Q S' Q' : List ℕ}
           let short = s.short in
           let x = tk.within in
           rw e (record { how = record { run = relabel g g.what refl (goes _ (went low T pos w₀ Q g.same) (way _ (tk.same _))) (omega arith) (omega arith); plain = s.plain; many = s.many; short = omega arith; back = s.back; ends = s.ends } })
-      to (lacks-one u e) =
+      to (lacks_one u e) =
           let g = h.how.run in
           let m = g.moved in
           rw e (record { how = lacks _ u (went low T pos w₀ Q g.same) (prefix g whole) (omega arith) })
@@ -65,7 +65,7 @@ module _ (low : Depth) {T : List ℕ} {pos at w₀ : ℕ} {S Q S' Q' : List ℕ}
           let o = g.room in
           let x = tk.within in
           rw e (record { how = record { run = relabel g g.what refl (goes _ (went low T pos w₀ Q g.same) (way _ (tk.same _))) (omega arith) (omega arith); held = s.held } })
-      to (lacks-one u e) =
+      to (lacks_one u e) =
           let g = h.how.run in
           let m = g.moved in
           rw e (record { how = lacks _ u (went low T pos w₀ Q g.same) (prefix g whole) (omega arith) })

@@ -178,7 +178,7 @@ joins_round low fuel most gm few o mv j room =
     record { run = record { what = jg.what; same = rw jw (gets _ jg o); moved = omega arith; room = room; text = j.text }; fits = j.fits; few = omega arith; below = j.below; far = omega arith }
 
 module _ {D : Res Params} (low : Depth) (fuel : ℕ) {T : List ℕ} {pos at w₀ : ℕ} {S₀ Q₀ : List ℕ} {p a w m n v : ℕ} {S Q S₁ Q₁ S₂ : List ℕ} (g : Wrote params_words D (params low fuel) T pos pos 8 at w₀ S₀ Q₀ p a w S Q) (fits : Fitting g.what m n v) (few : 2 * (m + n) ≤ p)
-    (on : As (waiting_errors w₀ Q₀) D (waiting_errors w Q) (params_go low (fuel - 1) g.what (waiting_errors w Q) (drop p T))) (start : at ≤ length S₀) (within : a ≤ length S) (same_length : length S₁ ≡ length S) (same-length₂ : length S₂ ≡ length S) (space : a + 8 * (length T - p) + 8 ≤ length S) where
+    (on : As (waiting_errors w₀ Q₀) D (waiting_errors w Q) (params_go low (fuel - 1) g.what (waiting_errors w Q) (drop p T))) (start : at ≤ length S₀) (within : a ≤ length S) (same_length : length S₁ ≡ length S) (same_length₂ : length S₂ ≡ length S) (space : a + 8 * (length T - p) + 8 ≤ length S) where
   -- a parameter that writes nothing
   bare : {make : ℕ → Param} {p₁ w₁ x p₂ a₂ w₂ m₂ n₂ v₂ : ℕ} → ParameterAt make (param low (waiting_errors w Q) (drop p T)) T p a w S Q p₁ w₁ x S₁ Q₁ → JoinsTo (λ q. join g.what (make x) q (drop p₁ T)) (take at S₀) T p₁ (m + n) a w₁ S₂ p₂ a₂ w₂ m₂ n₂ v₂ → Round D low (fuel - 1) T pos at w₀ S₀ Q₀ p p₂ a₂ w₂ m₂ n₂ v₂ S₂ Q₁
   bare h j =

@@ -22,7 +22,7 @@ use Rattle.grammar.specs.declared.Reader.{Reader}
 use Rattle.grammar.proofs.Promise.{reading, Ready, reads, sole_looks}
 use Rattle.grammar.proofs.Looks.{found, table, looks_tried}
 use Rattle.grammar.proofs.Laws.Facts.{clash}
-use Rattle.grammar.proofs.Laws.Local.Looks.{whole, next_is_local, looks_at, looks_exact, unmet_behind, kept as reading-kept}
+use Rattle.grammar.proofs.Laws.Local.Looks.{whole, next_is_local, looks_at, looks_exact, unmet_behind, kept as reading_kept}
 use Rattle.grammar.proofs.Laws.Local.Calls.{call_kept as call_same, near}
 use Rattle.grammar.proofs.Laws.Local.Peeked.{ends_map, next_peeked}
 use Rattle.grammar.proofs.Laws.Local.Edited.{stays, read_again, none_again, again_before, begins_with, stay_all}
@@ -39,7 +39,7 @@ prefix d q a h e = unmet_behind (next_is_local d q) (whole a h e)
 -- 3
 pub kept : (d : ℕ) (q : List Error) (a : ℕ) (h : List ℕ) → length h ≡ 2 * a → (Z X : List ℕ) → looks (next d q) (h ++ Z) ≤ a
     → Same Z X (next d q (h ++ Z)) (next d q (h ++ X)) × (looks (next d q) (h ++ X) ≡ looks (next d q) (h ++ Z))
-kept d q a h e Z X = reading-kept Z X (next_is_local d q) (whole a h e)
+kept d q a h e Z X = reading_kept Z X (next_is_local d q) (whole a h e)
 
 -- 4 and 5
 module _ (R : Reader) where

@@ -1,7 +1,7 @@
 -- What calls leave to C: an answer as two numbers, its variant and its number, and the reader, store or output. Definitions; they assume nothing.
 use Rattle.std.specs.Prelude.{List, ℕ}
 use Rattle.grammar.specs.Reading.Next.{Called, number}
-use Rattle.grammar.specs.Canonical.Writing.{Wrote, number as written-number}
+use Rattle.grammar.specs.Canonical.Writing.{Wrote, number as written_number}
 use Rattle.grammar.specs.declared.Answer.{Answer}
 use Rattle.grammar.specs.declared.Answer.TheVariants.{Tree as ATree, Error as AError, End, Stopped as AStopped, Refused as ARefused}
 use Rattle.grammar.specs.declared.Flat.{Flat}
@@ -39,8 +39,8 @@ flat_answer (ARefused n) = record { variant = refused; number = number (ARefused
 -- the writer's: how many tokens, else document 01's number
 abbrev pub flat_written : Written → Flat
 flat_written (Tokens n) = record { variant = tokens; number = n }
-flat_written (Stopped n) = record { variant = stopped; number = written-number (Stopped n) }
-flat_written (Refused n) = record { variant = refused; number = written-number (Refused n) }
+flat_written (Stopped n) = record { variant = stopped; number = written_number (Stopped n) }
+flat_written (Refused n) = record { variant = refused; number = written_number (Refused n) }
 
 -- a reader of its fields
 abbrev pub reader_of : ℕ → ℕ → List ℕ → ℕ → Reader

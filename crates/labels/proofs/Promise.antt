@@ -17,7 +17,7 @@ use Rattle.grammar.specs.Canonical.Writing.{readable, write_stmt}
 use Rattle.grammar.proofs.Laws.Facts.{not_true, by_test}
 use Rattle.grammar.specs.Given.{Given}
 use Rattle.grammar.proofs.Laws.Small.{valid_small}
-use Rattle.writer.specs.Promise.{said, answers_65 as writer-answers-65, given_valid, readable_given, given_decoded, decoded_given}
+use Rattle.writer.specs.Promise.{said, answers_65 as writer_answers_65, given_valid, readable_given, given_decoded, decoded_given}
 use Rattle.labels.specs.declared.Labels.{Labels}
 use Rattle.labels.specs.declared.Labels.TheVariants.{Fine, Refused}
 use Rattle.labels.specs.Offences.{Enclosing, any_serves, is_jump, offender, offence, offences, first, check_labels, number}
@@ -181,7 +181,7 @@ module _ (words : List ℕ) where
 
   -- so exactly where the writer answers 65, whatever its output
   pub as_the_writer : (m : ℕ) → (number (check_labels words) ≡ no_statement) ↔ (said (write_stmt words m) ≡ no_statement)
-  as_the_writer m = ((λ e. (writer-answers-65 words m).1 (answers_65.0 e)), λ e. answers_65.1 ((writer-answers-65 words m).0 e))
+  as_the_writer m = ((λ e. (writer_answers_65 words m).1 (answers_65.0 e)), λ e. answers_65.1 ((writer_answers_65 words m).0 e))
 
   -- 67 and 68
   pub answers_offence : (n : ℕ) → no_statement < n → (number (check_labels words) ≡ n) ↔ Offending words n

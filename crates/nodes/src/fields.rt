@@ -5,7 +5,7 @@ ghost use Rattle.tree.specs.Tree.{Tree, records};
 ghost use Rattle.grammar.specs.Reading.Number;
 ghost use Rattle.grammar.specs.Reading.Look.{expect as expect_def};
 ghost use Rattle.grammar.specs.Reading.Primary.{member_access, field_name as field_name_def};
-ghost use Rattle.grammar.specs.Reading.Function.{required as a-required, variadic as a-variadic, default as a-default, Params, param_mode as param_mode_def};
+ghost use Rattle.grammar.specs.Reading.Function.{required as a_required, variadic as a_variadic, default as a_default, Params, param_mode as param_mode_def};
 ghost use Rattle.scan.specs.Post.{Finds, itself, Writes};
 ghost use Rattle.nodes.specs.Parts.{named_field as named_field_def, item_end as item_end_def, param_name as param_name_def, variadic_head, param_kind as param_kind_def, param_head as param_head_def, separator as separator_def, join, signature_words};
 ghost use Rattle.nodes.specs.Ends.{Added, Ended, as_it_is};
@@ -269,7 +269,7 @@ fn join_required(
     waiting: usize,
 ) -> Joined
     requires { (pos ≤ length tokens.now) × (at + 2 ≤ length store.old) × (required ≤ 65536) × (variadic ≤ name_bound) }
-    ensures { (X : List ℕ) (ps : Params) → Fitting ps required default variadic → take at store.old ≡ X ++ params_words ps → Joins (λ q. join ps (a-required v) q (drop pos tokens.now)) X tokens.now pos (required + default) at waiting store.old store.new result }
+    ensures { (X : List ℕ) (ps : Params) → Fitting ps required default variadic → take at store.old ≡ X ++ params_words ps → Joins (λ q. join ps (a_required v) q (drop pos tokens.now)) X tokens.now pos (required + default) at waiting store.old store.new result }
 {
     match separator(tokens, pos, waiting) {
         Found::At(p, _) => {
@@ -297,7 +297,7 @@ fn join_variadic(
     waiting: usize,
 ) -> Joined
     requires { (pos ≤ length tokens.now) × (v < name_bound) }
-    ensures { (S X : List ℕ) (ps : Params) (u : ℕ) → Fitting ps required default u → take at S ≡ X ++ params_words ps → Joins (λ q. join ps (a-variadic v) q (drop pos tokens.now)) X tokens.now pos (required + default) at waiting S S result }
+    ensures { (S X : List ℕ) (ps : Params) (u : ℕ) → Fitting ps required default u → take at S ≡ X ++ params_words ps → Joins (λ q. join ps (a_variadic v) q (drop pos tokens.now)) X tokens.now pos (required + default) at waiting S S result }
 {
     match separator(tokens, pos, waiting) {
         Found::At(p, comma) => {
@@ -324,7 +324,7 @@ fn join_default(
     waiting: usize,
 ) -> Joined
     requires { (pos ≤ length tokens.now) × (default ≤ 65536) × (variadic ≤ name_bound) }
-    ensures { (S X : List ℕ) (ps : Params) (v : ℕ) (e : Tree) → Fitting ps required default variadic → take at S ≡ X ++ params_words (with_default ps v e) → Joins (λ q. join ps (a-default v e) q (drop pos tokens.now)) X tokens.now pos (required + default) at waiting S S result }
+    ensures { (S X : List ℕ) (ps : Params) (v : ℕ) (e : Tree) → Fitting ps required default variadic → take at S ≡ X ++ params_words (with_default ps v e) → Joins (λ q. join ps (a_default v e) q (drop pos tokens.now)) X tokens.now pos (required + default) at waiting S S result }
 {
     match separator(tokens, pos, waiting) {
         Found::At(p, _) => Joined::To(p, at, waiting, required, default + 1, variadic),

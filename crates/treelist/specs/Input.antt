@@ -6,7 +6,7 @@ use Rattle.treelist.specs.declared.lines.Scan.{Scan}
 use Rattle.treelist.specs.declared.input.Fed.{Fed}
 use Rattle.treelist.specs.declared.input.Fed.TheVariants.{More, End, Failed}
 use Rattle.treelist.specs.declared.input.Input.{Input}
-use Rattle.treelist.specs.declared.input.Input.TheVariants.{Whole, Failed as Read-failed}
+use Rattle.treelist.specs.declared.input.Input.TheVariants.{Whole, Failed as ReadFailed}
 
 -- what a read comes to, by its result: above 0, so many of the bytes came; 0, the input has ended; else the read failed, and why
 abbrev pub Feeds : Result ℕ Error → List ℕ → Scan → List ℕ → Fed → List ℕ → Type 0
@@ -21,4 +21,4 @@ FedOnce s before r sheet = (got : Result ℕ Error) × ((bytes : List ℕ) × Fe
 -- what all the reads come to: an input that was read to its end is some bytes, and the sheet has their lines; where a read failed, nothing is known of the sheet
 abbrev pub Reads : Input → List ℕ → Type 0
 Reads (Whole s) sheet = (bytes : List ℕ) × Comes (closed (read start bytes)) s sheet
-Reads (Read-failed why) sheet = Unit {0}
+Reads (ReadFailed why) sheet = Unit {0}

@@ -65,7 +65,7 @@ kids_start {L} {p} {n} z e = record { how = λ m s h. go m s h.how (e.how m s h)
     go nothing s a e = absurd (omega arith)
     go (just (node k v f)) s a e = (omega arith, rw (e, push_all f s) (pop a).under)
 
-module _ {L : List ℕ} {p q i : ℕ} (w : Kids L p q i) (i-some : 0 < i) where
+module _ {L : List ℕ} {p q i : ℕ} (w : Kids L p q i) (i_some : 0 < i) where
   -- the child number i as a tree, over those before it
   child : (m : Maybe Tree) (s : List Tree) → Spot L p m s → (t : Tree) × (kid_in i m ≡ just t) × At L q (t ∷ push (i - 1) (children_in m) s)
   child m s h =

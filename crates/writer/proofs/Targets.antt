@@ -125,12 +125,12 @@ pub record Behind (L : List ℕ) (p b n : ℕ) : Type 0 where
 
 -- the target's records end where those of the function begin, which begin with its signature's
 pub behind : {L : List ℕ} {p q z b k n : ℕ} → KidOf L p 2 q → KidOf L q 1 z → Says L q kind_in k → k ≡ NodeKind.FunctionDef → (z ≡ 0 → ⊥) → Skipped L z b → Says L z value_in n → Behind L p b n
-behind {L} {p} {q} {z} {b} {k} {n} function signature ke function-kind some skipped ne =
+behind {L} {p} {q} {z} {b} {k} {n} function signature ke function_kind some skipped ne =
     record {
       target = λ m s h. go s m (signature.how (kid_in 2 m) (push 1 (children_in m) s) (function.how m s h)).how;
       name = name;
       form = λ m s h.
-          has_is (children_in m) (sym ((of_kid function ke).how m s h) ∙ function-kind) (λ e. some (spot_zero e (signature.how _ _ (function.how m s h)))) ∙ rw (← name.how m s h);
+          has_is (children_in m) (sym ((of_kid function ke).how m s h) ∙ function_kind) (λ e. some (spot_zero e (signature.how _ _ (function.how m s h)))) ∙ rw (← name.how m s h);
     }
   where
     name : Says L p (λ m. value_in (kid_in 1 (kid_in 2 m))) n

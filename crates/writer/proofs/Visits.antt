@@ -21,19 +21,19 @@ use Rattle.writer.specs.declared.legal.Judged.{Judged}
 use Rattle.writer.specs.Stack.{At, Skipped}
 use Rattle.writer.specs.Standing.{serves, no_word, far, word, entry, Entry, Kept, On, AtNode, Keeps, Tells}
 use Rattle.writer.specs.Verdict.{First, Items, KidsFitAs, KidsFit, VisitedAs, Visited, Whole}
-use Rattle.writer.specs.contracts.legal.Children as children-type
-use Rattle.writer.specs.contracts.legal.Judged as judged-type
+use Rattle.writer.specs.contracts.legal.Children as children_type
+use Rattle.writer.specs.contracts.legal.Judged as judged_type
 use Rattle.writer.proofs.Laws.{at_many, length_back}
 use Rattle.writer.proofs.Places.{class_same}
 use Rattle.writer.proofs.Keeping.{at_one, at_each, kept_back, keeps_right, keeps_room}
 use Rattle.writer.proofs.Validity.{Passed, Next, way_at, passed_start, passed_next, passed_end, whole_bad, whole_good}
 
 -- ---------------------------------------------------------------- by the answers
-pub kids_not : (r : Children) → OneOf (1 ∷ []) (tag_of children-type.the_type r) → r ≡ Children.Not
+pub kids_not : (r : Children) → OneOf (1 ∷ []) (tag_of children_type.the_type r) → r ≡ Children.Not
 kids_not (Children.Stand b e items) o = absurd (omega arith)
 kids_not Children.Not o = refl
 
-pub judged_not : (r : Judged) → OneOf (1 ∷ []) (tag_of judged-type.the_type r) → r ≡ Judged.Not
+pub judged_not : (r : Judged) → OneOf (1 ∷ []) (tag_of judged_type.the_type r) → r ≡ Judged.Not
 judged_not (Judged.Fits w) o = absurd (omega arith)
 judged_not Judged.Not o = refl
 

@@ -5,7 +5,7 @@ use Rattle.operator.specs.Operator.{assign_code}
 use Rattle.tree.specs.NodeKind
 use Rattle.tree.specs.Tree.{Tree, Forest, node, one, two, kind_of}
 use Rattle.tree.specs.Node
-use Rattle.grammar.specs.Reading.Primary.{with_action, arguments as arguments-of}
+use Rattle.grammar.specs.Reading.Primary.{with_action, arguments as arguments_of}
 use Rattle.grammar.specs.Reading.Function.{target_name}
 use Rattle.grammar.specs.Canonical.Write.{Place, own, modified, target_atom, target_items, is_target, function_named, has_function, fun_gives}
 use Rattle.grammar.specs.Canonical.Valid.{prim, tight, unary, binop, assign, plain, ex, given, function, item, Valid, Valids, Arguments, Pattern, Target, v_nil, v_empty_tuple, v_identifier, v_true, v_false, v_integer, v_float, v_string, v_group, v_modified, v_atom, v_primary, v_prim, v_unpack, v_ellipsis, v_table, v_function, v_target, v_if, v_block, v_labelled, v_tight, v_unary_op, v_unary, v_up, v_binary_op, v_assign, v_inner, v_single, v_tuple, v_local, v_plain, v_keyword, v_given, v_given_assign, v_given_target, v_function_def, v_function_default, v_function_variadic, v_attribute, v_index, v_invoke, v_invoke_table, v_none, v_more, p_identifier, p_attribute, p_index, p_tuple, p_pack, p_ellipsis, p_modifier, one_argument, arguments, t_name, t_attribute, t_index}
@@ -164,16 +164,16 @@ no_tuple_view (is_function (v_function_variadic f v b)) = refl
 no_tuple_view (is_fun p d) = refl
 no_tuple_view (is_other o) = o.no_tuple
 
-one_itself : (t : Tree) → eqb (kind_of t) NodeKind.Tuple ≡ false → arguments-of t ≡ one t
+one_itself : (t : Tree) → eqb (kind_of t) NodeKind.Tuple ≡ false → arguments_of t ≡ one t
 one_itself (node k v f) e = rw e
 
-one_sound : {t : Tree} → Valid (ex true true) t → eqb (kind_of t) NodeKind.Tuple ≡ false → Arguments (arguments-of t)
+one_sound : {t : Tree} → Valid (ex true true) t → eqb (kind_of t) NodeKind.Tuple ≡ false → Arguments (arguments_of t)
 one_sound {t} h e = subst Arguments (sym (one_itself t e)) (one_argument h e)
 
 assign_no_tuple : {p : Place} {c : Bool} {a : ℕ} {t : Tree} → Valid (assign p c a) t → eqb (kind_of t) NodeKind.Tuple ≡ false
 assign_no_tuple (v_assign k e h g i) = refl
 
-pub arguments_sound : {t : Tree} → Valid (ex true true) t → Arguments (arguments-of t)
+pub arguments_sound : {t : Tree} → Valid (ex true true) t → Arguments (arguments_of t)
 arguments_sound (v_plain (v_inner h)) = one_sound (v_plain (v_inner h)) (no_tuple_view (view_binop h))
 arguments_sound (v_plain (v_single h)) = one_argument (v_plain (v_inner h)) (no_tuple_view (view_binop h))
 arguments_sound (v_plain (v_tuple h g f)) = arguments h g f

@@ -78,13 +78,13 @@ module _ (b : BadRecord) (X : List ℕ) where
   no_look_then q (n_ok t) h = h _ _ _ _ t
   no_look_then q (n_fail t) h = at_fail t
 
-  ruleset no-look = (n_ok, n_fail, no_look_if)
+  ruleset no_look = (n_ok, n_fail, no_look_if)
 
   joined_no_look : (ps : Params) (p : Param) (k : ℕ) (f : Bool) (q : List Error) (r s : List ℕ) → Alike b X f r s → NoLook f (joined ps p k q r) (joined ps p k q s)
   unfolding joined
-  joined_no_look ps (variadic n) k f q r s t = search no-look
-  joined_no_look ps (default n e) k f q r s t = search no-look
-  joined_no_look ps (required n) k f q r s t = search no-look
+  joined_no_look ps (variadic n) k f q r s t = search no_look
+  joined_no_look ps (default n e) k f q r s t = search no_look
+  joined_no_look ps (required n) k f q r s t = search no_look
 
   control_last_local : (end k : ℕ) → Locally b X (control_last end k)
   unfolding control_last

@@ -9,7 +9,7 @@ use Rattle.grammar.specs.Reading.Number
 use Rattle.grammar.specs.Reading.Result.{Error, ifb}
 use Rattle.grammar.specs.Reading.Pattern.{conv}
 use Rattle.grammar.specs.Reading.Expr.{Depth, Stmts}
-use Rattle.grammar.specs.Reading.Block.{Split, whole, result, split_before, split_kids, split_last, split, block_split, block_of, body as body-read, block_expr, expr_label, branches}
+use Rattle.grammar.specs.Reading.Block.{Split, whole, result, split_before, split_kids, split_last, split, block_split, block_of, body as body_read, block_expr, expr_label, branches}
 use Rattle.grammar.specs.Canonical.Valid.{IsName, tight, branch, else_clause, control, block, stmt, Valid, Valids, v_if, v_block, v_labelled, v_branch, v_no_else, v_else, v_continue, v_break, v_break_value, v_break_label, v_return, v_return_value, v_no_control, v_control, v_block_plain, v_block_control, v_block_result, v_expression, v_loop, v_while, v_for, v_assert, v_none, v_more}
 use Rattle.grammar.proofs.Laws.Post.{Post, p_ok, p_fail, post_then, post_if, post_map}
 use Rattle.grammar.proofs.Laws.Convert.{Converts, none_sound}
@@ -81,8 +81,8 @@ if_made none t (v_more h f) e = v_if h f e
 if_made (more u g) t (v_more h f) e = v_if h f e
 
 module _ (low : Depth) (S : Sound low) where
-  pub body_sound : (q : List Error) (ts : List ℕ) → Post (λ s r. ListOk s) (body-read low q ts)
-  unfolding body-read
+  pub body_sound : (q : List Error) (ts : List ℕ) → Post (λ s r. ListOk s) (body_read low q ts)
+  unfolding body_read
   body_sound q ts = post_then q (S.s_list 0 q ts) λ s q₁ r x. post_then q₁ (look_saw q₁ r) λ tok q₂ rest w. p_ok x
 
   block_expr_sound : (l : ℕ) (q : List Error) (ts : List ℕ) → Post (λ t r. Labelled l t) (block_expr low l q ts)

@@ -11,9 +11,9 @@ use Rattle.grammar.specs.Reading.Number
 use Rattle.grammar.specs.Reading.Result.{Error}
 use Rattle.grammar.specs.Reading.Look.{expect_pattern}
 use Rattle.grammar.specs.Reading.Expr.{Depth}
-use Rattle.grammar.specs.Reading.Primary.{literal, atom as atom-read, with_path}
+use Rattle.grammar.specs.Reading.Primary.{literal, atom as atom_read, with_path}
 use Rattle.grammar.specs.Reading.Pattern.{conv, to_pattern, by_item}
-use Rattle.grammar.specs.Reading.Function.{Param, required, variadic, default, Params, param_mode, variadic_param, plain_param, param as param-read, joined, params, function_def, function_assignment_target, target_name, function_decl_expr}
+use Rattle.grammar.specs.Reading.Function.{Param, required, variadic, default, Params, param_mode, variadic_param, plain_param, param as param_read, joined, params, function_def, function_assignment_target, target_name, function_decl_expr}
 use Rattle.grammar.specs.Canonical.Valid.{IsName, IsNamed, read_only, read_write, atom, tight, ex, function, item, param, block, Valid, Valids, Target, v_function, v_target, v_function_def, v_function_default, v_function_variadic, v_param, v_none, v_more, t_name, t_attribute, t_index, v_nil, v_empty_tuple, v_identifier, v_true, v_false, v_integer, v_float, v_string, v_group, v_modified, v_attribute, v_index}
 use Rattle.grammar.proofs.Laws.Facts.{clash, other, or_true}
 use Rattle.grammar.proofs.Laws.Post.{Post, p_ok, p_fail, post_then, post_if, post_map, post_both, post_success}
@@ -141,8 +141,8 @@ module _ (low : Depth) (S : Sound low) where
       (λ _ _. post_then q (post_both (expr_sound low S q rest) (post_success (S.s_comma q rest))) λ e q₂ r x. p_ok (is_default h (x.0.all.valid true true anyhow anyhow) x.1))
       (λ _ _. p_ok (is_required h))
 
-  param_sound : (q : List Error) (ts : List ℕ) → Post (λ p r. ParamOk r p) (param-read low q ts)
-  unfolding param-read
+  param_sound : (q : List Error) (ts : List ℕ) → Post (λ p r. ParamOk r p) (param_read low q ts)
+  unfolding param_read
   param_sound q ts =
       post_then q (mode_sound q ts) λ a q₁ r m.
       post_then q₁ (expect_took Kind.Identifier Number.invalid_param q₁ r) λ name q₂ s c.
@@ -164,8 +164,8 @@ module _ (low : Depth) (S : Sound low) where
   params_sound (suc n) ps q ts (with_variadic f v c) =
       post_then q (look_saw q ts) λ tok q₁ rest s. post_if (λ _ _. p_ok (with_variadic f v c)) (λ _ n. clash c (not_at s Kind.CloseParen n))
 
-  atom_target : (q : List Error) (ts : List ℕ) → eqb (kind_at ts) Kind.OpenParen ≡ false → Post (λ a r. target_atom (kind_of a) ≡ true) (atom-read low q ts)
-  unfolding atom-read
+  atom_target : (q : List Error) (ts : List ℕ) → eqb (kind_at ts) Kind.OpenParen ≡ false → Post (λ a r. target_atom (kind_of a) ≡ true) (atom_read low q ts)
+  unfolding atom_read
   atom_target q ts n = post_then q (look_saw q ts) λ tok q₁ rest s. post_if (λ _ e. clash (is_at s Kind.OpenParen e) n) (λ _ _. literal_target tok q rest)
 
   assignment_target_sound : (q : List Error) (ts : List ℕ) → eqb (kind_at ts) Kind.OpenParen ≡ false → Post (λ p r. Target p) (function_assignment_target low q ts)

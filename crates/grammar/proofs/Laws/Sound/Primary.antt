@@ -15,7 +15,7 @@ use Rattle.grammar.specs.Reading.Number
 use Rattle.grammar.specs.Reading.Result.{Error}
 use Rattle.grammar.specs.Reading.Pattern.{conv}
 use Rattle.grammar.specs.Reading.Expr.{Depth}
-use Rattle.grammar.specs.Reading.Primary.{with_action, group_expr, literal, atom as atom-read, indexing_expr, field_name, table_field, table_item as table-item-read, table_items, member_access, invocation, path, with_path, primary, unpack_expr}
+use Rattle.grammar.specs.Reading.Primary.{with_action, group_expr, literal, atom as atom_read, indexing_expr, field_name, table_field, table_item as table_item_read, table_items, member_access, invocation, path, with_path, primary, unpack_expr}
 use Rattle.grammar.specs.Canonical.Valid.{IsName, IsNamed, read_only, read_write, Role, atom, prim, tight, ex, item, field, table_item, Valid, Valids, v_nil, v_empty_tuple, v_identifier, v_true, v_false, v_integer, v_float, v_string, v_group, v_modified, v_atom, v_primary, v_prim, v_unpack, v_ellipsis, v_attribute, v_index, v_invoke, v_invoke_table, v_field, v_field_index, v_table_item, v_none, v_more, no_argument}
 use Rattle.grammar.proofs.Laws.Post.{Post, p_ok, p_fail, post_then, post_if, post_map}
 use Rattle.grammar.proofs.Laws.Convert.{Converts, none_sound, unpack_sound, group_sound, modified_sound, identifier_sound, ellipsis_sound, primary_sound}
@@ -69,8 +69,8 @@ module _ (low : Depth) (S : Sound low) where
       post_then q₃ (expect_took Kind.CloseParen Number.group_closing q₃ u) λ tok₂ q₄ v c.
       p_ok (grouped key x)
 
-  pub atom_sound : (q : List Error) (ts : List ℕ) → Post (λ t r. PrimOk atom ts t) (atom-read low q ts)
-  unfolding atom-read
+  pub atom_sound : (q : List Error) (ts : List ℕ) → Post (λ t r. PrimOk atom ts t) (atom_read low q ts)
+  unfolding atom_read
   atom_sound q ts =
       post_then q (look_saw q ts) λ tok q₁ rest s. post_if
       (λ _ e. post_map (λ t r x. record { valid = x.0; converts = x.1; start = isnt s Kind.OpenParen Kind.CloseParen e refl }) (group_expr_sound q rest))
@@ -100,8 +100,8 @@ module _ (low : Depth) (S : Sound low) where
       post_if (λ _ e. p_ok (v_field (read_only tok.value (name_value tok.kind tok.value e s.fits)))) λ _ _.
       p_fail
 
-  table_item_sound : (q : List Error) (ts : List ℕ) → Post (λ t r. Valid table_item t) (table-item-read low q ts)
-  unfolding table-item-read
+  table_item_sound : (q : List Error) (ts : List ℕ) → Post (λ t r. Valid table_item t) (table_item_read low q ts)
+  unfolding table_item_read
   table_item_sound q ts =
       post_then q (table_field_sound q ts) λ f q₁ r x.
       post_then q₁ (expect_took Kind.OpAssign Number.missing_assign q₁ r) λ tok q₂ s c.

@@ -16,7 +16,7 @@ use Rattle.grammar.specs.Reading.Result.{Error}
 use Rattle.grammar.specs.Reading.Look.{try_label}
 use Rattle.grammar.specs.Reading.Pattern.{conv, modified}
 use Rattle.grammar.specs.Reading.Expr.{Depth, Stmts}
-use Rattle.grammar.specs.Reading.Stmt.{loop, while_loop, lvalue_list, for_loop, stmt_label, stmt as stmt-read, ends, control_value, control_flow, control_last, is_control, stmts}
+use Rattle.grammar.specs.Reading.Stmt.{loop, while_loop, lvalue_list, for_loop, stmt_label, stmt as stmt_read, ends, control_value, control_flow, control_last, is_control, stmts}
 use Rattle.grammar.specs.Reading.Depth.{primary_expr, unary_expr, at_depth}
 use Rattle.grammar.specs.Canonical.Valid.{IsName, IsLabel, no_label, a_label, tight, unary, ex, jump, body, stmt, Valid, Valids, Pattern, v_table, v_tight, v_unary_op, v_continue, v_break, v_break_value, v_break_label, v_return, v_return_value, v_no_control, v_control, v_body, v_expression, v_loop, v_while, v_for, v_assert, v_none, p_modifier}
 use Rattle.grammar.proofs.Laws.Facts.{clash, apart}
@@ -106,8 +106,8 @@ module _ (low : Depth) (S : Sound low) where
       post_if (λ _ _. for_sound l q rest h) λ _ _.
       p_fail
 
-  pub stmt_sound : (q : List Error) (ts : List ℕ) → Post (StmtOk ts) (stmt-read low q ts)
-  unfolding stmt-read
+  pub stmt_sound : (q : List Error) (ts : List ℕ) → Post (StmtOk ts) (stmt_read low q ts)
+  unfolding stmt_read
   stmt_sound q ts =
       post_then q (look_saw q ts) λ tok q₁ rest s.
       post_if (λ _ e. post_map (λ t r x. record { valid = λ _. x; start = isnt s Kind.Loop Kind.CloseParen e refl }) (loop_sound 0 q rest no_label)) λ _ _.

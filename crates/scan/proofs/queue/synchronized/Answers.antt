@@ -16,7 +16,7 @@ use Rattle.scan.specs.Post.{Lacked, Unread, Taken, Resumes, waiting_errors}
 use Rattle.scan.specs.declared.Failure.{Failure}
 use Rattle.scan.specs.declared.Step.{Step}
 use Rattle.scan.specs.declared.Step.TheVariants.{Done, Fail, Stop}
-use Rattle.scan.specs.contracts.Step as step-type
+use Rattle.scan.specs.contracts.Step as step_type
 use Rattle.scan.proofs.Laws.{way, ends, refail, taken, not_taken, not_seen}
 use Rattle.scan.proofs.Waiting.{pops}
 use Rattle.scan.proofs.Variants.{not_fail}
@@ -35,7 +35,7 @@ at_error : {e f : ℕ} {q' : List Error} {r : List ℕ} (q : List Error) (ts : L
 unfolding synchronized either unclean pop
 at_error q ts l x = rw (l, x)
 
-at_stop : {T : List ℕ} {pos at w : ℕ} {Q : List ℕ} (s : Step) → OneOf (0 ∷ 2 ∷ []) (tag_of step-type.the_type s) → Unread (λ q. look q (drop pos T)) T pos (pos + 2) w s → Resumes (synchronized (waiting_errors w Q) (drop pos T)) T pos at w Q Q s
+at_stop : {T : List ℕ} {pos at w : ℕ} {Q : List ℕ} (s : Step) → OneOf (0 ∷ 2 ∷ []) (tag_of step_type.the_type s) → Unread (λ q. look q (drop pos T)) T pos (pos + 2) w s → Resumes (synchronized (waiting_errors w Q) (drop pos T)) T pos at w Q Q s
 unfolding synchronized either
 at_stop (Done p a v) o u = absurd u.how
 at_stop (Fail failure) o u = absurd (⊎_elim (λ e. omega arith) (λ e. omega arith) o)

@@ -13,7 +13,7 @@ use Rattle.scan.specs.declared.Seen.{Seen}
 use Rattle.scan.specs.declared.Seen.TheVariants.{Token as Took, Not as Unseen}
 use Rattle.scan.specs.declared.Listed.{Listed}
 use Rattle.scan.specs.declared.Listed.TheVariants.{Suite, Control as LControl, Not as LNot}
-use Rattle.scan.specs.contracts.Seen as seen-type
+use Rattle.scan.specs.contracts.Seen as seen_type
 use Rattle.scan.proofs.Laws.{not_taken, not_seen}
 use Rattle.scan.proofs.tokens.past.Goals as goal
 
@@ -23,11 +23,11 @@ within_suite e h = rw e at h.how
 within_control : {n p a w : ℕ} {l : Listed} → l ≡ LControl p a w → Within n l → p ≤ n
 within_control e h = rw e at h.how
 
-token_within : {T : List ℕ} {p w : ℕ} (s : Seen) → OneOf (0 ∷ []) (tag_of seen-type.the_type s) → Saw T p w s → p + 2 ≤ length T
+token_within : {T : List ℕ} {p w : ℕ} (s : Seen) → OneOf (0 ∷ []) (tag_of seen_type.the_type s) → Saw T p w s → p + 2 ≤ length T
 token_within (Took k n v) o h = h.how.within
 token_within (Unseen r) o h = absurd (omega arith)
 
-passed_token : {T : List ℕ} {p w : ℕ} {on : Listed} (s : Seen) → OneOf (0 ∷ []) (tag_of seen-type.the_type s) → Saw T p w s → Passing T p w on on
+passed_token : {T : List ℕ} {p w : ℕ} {on : Listed} (s : Seen) → OneOf (0 ∷ []) (tag_of seen_type.the_type s) → Saw T p w s → Passing T p w on on
 passed_token (Took k n v) o h = took h.how refl
 passed_token (Unseen r) o h = absurd (omega arith)
 
