@@ -23,11 +23,6 @@ not_fail {r = Done p a w} n = inl refl
 not_fail {r = Fail f} n = absurd (n f refl)
 not_fail {r = Stop k} n = inr refl
 
-pub only_stop : {r : Step} → ((p a w : ℕ) → r ≡ Done p a w → ⊥) → ((f : Failure) → r ≡ Fail f → ⊥) → OneOf (2 ∷ []) (tag_of the_type r)
-only_stop {r = Done p a w} m n = absurd (m p a w refl)
-only_stop {r = Fail f} m n = absurd (n f refl)
-only_stop {r = Stop k} m n = refl
-
 pub is_stop : {r : Step} {n : ℕ} → r ≡ Stop n → OneOf (2 ∷ []) (tag_of the_type r)
 is_stop e = rw e refl
 

@@ -154,7 +154,7 @@ cond-loop-p1-preserved t c = let g = c.loop-p1.invariant in
     let tk = taken c.in-Token.is c.look.ensures in
     let step = link gr.same (way _ (branches_step _ g.fuel gr.what _ _ _ g.enough)) in
     let on = goes _ step b.same in
-    record { fuel = g.fuel - 1; enough = omega (arith, g.enough, b.moved); run = record { what = snoc gr.what b.what; same = link on (way _ (behind_more _ _ _ _ _ tk c.in_default-kind.in_default-kind-own.rest.0.1 c.in_default-kind.in_default-kind-own.rest.1)); moved = omega (arith, gr.moved, b.moved, tk.within); room = omega (arith, gr.moved, gr.room, b.moved, b.room, tk.within); text = arm_text gr b }; many = arm_count gr b g.many; short = omega (arith, gs, b.moved); kept = omega (arith, gk, c.arm-r.auto.store) }
+    record { fuel = g.fuel - 1; enough = omega (arith, g.enough, b.moved); run = record { what = snoc gr.what b.what; same = link on (way _ (behind_more _ _ _ _ _ tk (search) (search))); moved = omega (arith, gr.moved, b.moved, tk.within); room = omega (arith, gr.moved, gr.room, b.moved, b.room, tk.within); text = arm_text gr b }; many = arm_count gr b g.many; short = omega (arith, gs, b.moved); kept = omega (arith, gk, c.arm-r.auto.store) }
 
 pub cond-returns-in-Not : goal.cond-returns-in-Not
 cond-returns-in-Not t c = let g = c.loop-p1.invariant in

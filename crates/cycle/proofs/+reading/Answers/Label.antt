@@ -48,8 +48,7 @@ label-returns-in-59 t c = let tk = taken c.in-Token.is c.look.ensures in
 
 pub label-returns-in_default : goal.label-returns-in_default
 label-returns-in_default t c = let tk = taken c.in-Token.is c.look.ensures in
-    let r = c.in_default.in_default-own.rest in
-    fails_with (label_alone _ _ tk _ r.0.0.1 r.0.1 r.1) (omega arith) (omega arith)
+    fails_with (label_alone _ _ tk _ (search) (search) (search)) (omega arith) (omega arith)
 
 pub label-returns-in-Not : goal.label-returns-in-Not
 label-returns-in-Not t c = did_not (fails_unseen here (stmt_label_looks _ _ _ _) (not_taken c.in-Not.is c.look.ensures) refl (omega arith))

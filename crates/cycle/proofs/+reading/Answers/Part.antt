@@ -20,8 +20,7 @@ part-emit-requires t c = let w = done c.in-Done.is c.index-r.ensures in
     omega (arith, c.requires.0, c.requires.1, w.moved, w.room, c.index-r.auto.store)
 
 pub part-returns-in_default-r-2 : goal.part-returns-in_default-r-2
-part-returns-in_default-r-2 t c = let r = c.in_default.in_default-own.rest in
-    let path2 = way _ (part_table _ _ _ r.0.0.1 r.0.1 r.1) in
+part-returns-in_default-r-2 t c = let path2 = way _ (part_table _ _ _ (search) (search) (search)) in
     did_not (fails _ path2 (undone (not_done c.in_default-r-2.not-Done) c.table-r.ensures) refl (omega arith))
 
 pub part-emit-requires-in_default : goal.part-emit-requires-in_default
@@ -40,7 +39,6 @@ pub part-returns-in-0 : goal.part-returns-in-0
 part-returns-in-0 t c = later (part_call _ _ _ c.in-0.is) c.call.ensures (omega arith) (omega arith) (omega arith)
 
 pub part-returns-in-Done-r : goal.part-returns-in-Done-r
-part-returns-in-Done-r t c = let r = c.in_default.in_default-own.rest in
-    let path2 = way _ (part_table _ _ _ r.0.0.1 r.0.1 r.1) in
+part-returns-in-Done-r t c = let path2 = way _ (part_table _ _ _ (search) (search) (search)) in
     let w2 = done c.in-Done-r.is c.table-r.ensures in
     record { how = made_list 40 w2 c.emit-in_default.ensures (goes _ path2 w2.same) w2.moved (omega (arith, w2.room, c.emit-in_default.ensures.next)) refl }

@@ -74,14 +74,12 @@ stmt-overflow_add-result t c = let tk = taken c.in-Token.is c.look.ensures in
 
 pub stmt-returns-then-is_control : goal.stmt-returns-then-is_control
 stmt-returns-then-is_control t c = let tk = taken c.in-Token.is c.look.ensures in
-    let r = c.in_default.in_default-own.rest in
     let na = c.not_allowed.ensures in
-    fails_with (stmt_control _ _ tk r.0.0.0.0.1 r.0.0.0.1 r.0.0.1 r.0.1 r.1 c.is_control.ensures c.if-is_control.true ∙ rw (← na)) (omega arith) (omega arith)
+    fails_with (stmt_control _ _ tk (search) (search) (search) (search) (search) c.is_control.ensures c.if-is_control.true ∙ rw (← na)) (omega arith) (omega arith)
 
 pub stmt-returns-in_default-r-2 : goal.stmt-returns-in_default-r-2
 stmt-returns-in_default-r-2 t c = let tk = taken c.in-Token.is c.look.ensures in
-    let r = c.in_default.in_default-own.rest in
-    let track = way _ (stmt_expr _ _ tk r.0.0.0.0.1 r.0.0.0.1 r.0.0.1 r.0.1 r.1 c.is_control.ensures c.if-is_control.false) in
+    let track = way _ (stmt_expr _ _ tk (search) (search) (search) (search) (search) c.is_control.ensures c.if-is_control.false) in
     did_not (fails _ track (undone (not_done c.in_default-r-2.not-Done) c.expr-r-in_default.ensures) refl (omega arith))
 
 pub stmt-expression_end-requires : goal.stmt-expression_end-requires
@@ -115,8 +113,7 @@ stmt-returns-in-Done t c = let tk = taken c.in-Token.is c.look.ensures in
 pub stmt-returns-in-Done-r : goal.stmt-returns-in-Done-r
 stmt-returns-in-Done-r t c = let tk = taken c.in-Token.is c.look.ensures in
     let v = done c.in-Done-r.is c.expr-r-in_default.ensures in
-    let r = c.in_default.in_default-own.rest in
-    let track = way _ (stmt_expr _ _ tk r.0.0.0.0.1 r.0.0.0.1 r.0.0.1 r.0.1 r.1 c.is_control.ensures c.if-is_control.false) in
+    let track = way _ (stmt_expr _ _ tk (search) (search) (search) (search) (search) c.is_control.ensures c.if-is_control.false) in
     let sh = given (expr_shape _ _ _) v.same in
     written (c.expression_end.ensures _ _ _ sh v.text v.moved.within) refl (goes _ track v.same) (prefix v (omega (arith, c.requires, v.moved, v.room))) (omega (arith, c.requires, v.moved, v.room, tk.within))
 

@@ -96,8 +96,7 @@ term-returns-in-73 t c = let tk = taken c.in-Token.is c.look.ensures in
 
 pub term-returns-in_default : goal.term-returns-in_default
 term-returns-in_default t c = let tk = taken c.in-Token.is c.look.ensures in
-    let r = c.in_default.in_default-own.rest in
-    as_agrees (operand_other _ _ tk r.0.0.0.0.0.1 r.0.0.0.0.1 r.0.0.0.1 r.0.0.1 r.0.1 r.1) c.dots.ensures
+    as_agrees (operand_other _ _ tk (search) (search) (search) (search) (search) (search)) c.dots.ensures
 
 pub term-returns-in-Not : goal.term-returns-in-Not
 term-returns-in-Not t c = did_not (fails_unseen here (operand_looks _ _ _) (not_taken c.in-Not.is c.look.ensures) refl (omega arith))

@@ -2,6 +2,7 @@
 use mathlib.Core.Path.{refl}
 use native.Mathlib.Omega.{arith}
 use borrow.Author.Tests.{ne_eqb}
+use Rattle.token.specs.Kind
 use Rattle.tree.specs.NodeKind
 use Rattle.tree.specs.Node
 use Rattle.grammar.specs.Reading.Result.{ifb}
@@ -27,5 +28,4 @@ returns-in-69 c =
 
 pub returns-in_default : goal.returns-in_default
 unfolding named_field ifb
-returns-in_default c = let r = c.in_default.in_default-own.rest in
-    unwrote (record { how = record { same = λ q. rw (ne_eqb _ _ r.0.0.1, ne_eqb _ _ r.0.1, ne_eqb _ _ r.1); waits = refl; on = omega arith; within = c.requires.0; far = omega arith } })
+returns-in_default c = unwrote (record { how = record { same = λ q. rw (ne_eqb c.args.kind Kind.Var (search), ne_eqb c.args.kind Kind.Let (search), ne_eqb c.args.kind Kind.Identifier (search)); waits = refl; on = omega arith; within = c.requires.0; far = omega arith } })

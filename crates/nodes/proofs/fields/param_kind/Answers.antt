@@ -2,6 +2,7 @@
 use mathlib.Core.Path.{refl}
 use native.Mathlib.Omega.{arith}
 use borrow.Author.Tests.{ne_eqb}
+use Rattle.token.specs.Kind
 use Rattle.grammar.specs.Reading.Result.{then, ifb}
 use Rattle.nodes.specs.Parts.{param_kind, h_required, h_default}
 use Rattle.scan.proofs.Laws.{taken, not_taken, not_seen}
@@ -21,7 +22,7 @@ returns-in-39 c = let tk = taken c.in-Token.is c.look.ensures in
 pub returns-in_default : goal.returns-in_default
 unfolding param_kind then ifb
 returns-in_default c = let tk = taken c.in-Token.is c.look.ensures in
-    record { how = record { got = record { what = h_required c.args.v; same = λ q. rw (tk.same q, ne_eqb _ _ c.in_default.in_default-own.rest.0.1, ne_eqb _ _ c.in_default.in_default-own.rest.1); on = omega arith; within = omega arith }; is = refl; below = omega arith } }
+    record { how = record { got = record { what = h_required c.args.v; same = λ q. rw (tk.same q, ne_eqb c.in-Token.kind Kind.Ellipsis (search), ne_eqb c.in-Token.kind Kind.OpAssign (search)); on = omega arith; within = omega arith }; is = refl; below = omega arith } }
 
 pub returns-in-Not : goal.returns-in-Not
 unfolding param_kind

@@ -2,6 +2,7 @@
 use mathlib.Core.Path.{refl}
 use native.Mathlib.Omega.{arith}
 use borrow.Author.Tests.{ne_eqb}
+use Rattle.token.specs.Kind
 use Rattle.grammar.specs.Reading.Result.{then, ifb}
 use Rattle.grammar.specs.Reading.Function.{param_mode}
 use Rattle.scan.proofs.Laws.{taken, not_taken, not_seen}
@@ -26,8 +27,7 @@ returns-in-69 c = let tk = taken c.in-Token.is c.look.ensures in
 pub returns-in_default : goal.returns-in_default
 unfolding param_mode then ifb
 returns-in_default c = let tk = taken c.in-Token.is c.look.ensures in
-    let r = c.in_default.in_default-own.rest in
-    record { how = record { how = record { same = λ q. rw (tk.same q, ne_eqb _ _ r.0.0.1, ne_eqb _ _ r.0.1, ne_eqb _ _ r.1); waits = refl; on = omega arith; within = omega arith; far = omega arith } } }
+    record { how = record { how = record { same = λ q. rw (tk.same q, ne_eqb c.in-Token.kind Kind.Var (search), ne_eqb c.in-Token.kind Kind.Let (search), ne_eqb c.in-Token.kind Kind.Identifier (search)); waits = refl; on = omega arith; within = omega arith; far = omega arith } } }
 
 pub returns-in-Not : goal.returns-in-Not
 unfolding param_mode

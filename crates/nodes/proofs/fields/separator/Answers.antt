@@ -2,6 +2,7 @@
 use mathlib.Core.Path.{refl}
 use native.Mathlib.Omega.{arith}
 use borrow.Author.Tests.{ne_eqb}
+use Rattle.token.specs.Kind
 use Rattle.grammar.specs.Reading.Result.{then, ifb}
 use Rattle.nodes.specs.Parts.{separator}
 use Rattle.scan.proofs.Laws.{taken, not_taken, not_seen}
@@ -21,8 +22,7 @@ returns-in-1 c = let tk = taken c.in-Token.is c.look.ensures in
 pub returns-in_default : goal.returns-in_default
 unfolding separator then ifb
 returns-in_default c = let tk = taken c.in-Token.is c.look.ensures in
-    let r = c.in_default.in_default-own.rest in
-    record { how = record { how = record { same = λ q. rw (tk.same q, ne_eqb _ _ r.0.1, ne_eqb _ _ r.1); waits = refl; on = omega arith; within = omega arith; far = omega arith } } }
+    record { how = record { how = record { same = λ q. rw (tk.same q, ne_eqb c.in-Token.kind Kind.Comma (search), ne_eqb c.in-Token.kind Kind.CloseParen (search)); waits = refl; on = omega arith; within = omega arith; far = omega arith } } }
 
 pub returns-in-Not : goal.returns-in-Not
 unfolding separator

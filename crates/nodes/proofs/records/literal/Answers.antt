@@ -46,5 +46,5 @@ returns-in-70 c = λ T h. let e = c.emit-in-70.ensures in
     wrote (Node.string_literal c.args.value) (λ q. of_kind c.args.value c.in-70.is q (drop c.args.pos T)) h (omega arith) e.text
 
 pub returns-in_default : goal.returns-in_default
-returns-in_default c = λ T h. let n = c.in_default.in_default-own.rest in
-    refused (λ q. no_literal c.args.kind c.args.value q (drop c.args.pos T) n.0.0.0.0.0.0.1 n.0.0.0.0.0.1 n.0.0.0.0.1 n.0.0.0.1 n.0.0.1 n.0.1 n.1 ∙ ap (λ (e : ℕ). fail e q (drop c.args.pos T)) (sym c.atom_error.ensures)) h refl
+returns-in_default c = λ T h.
+    refused (λ q. no_literal c.args.kind c.args.value q (drop c.args.pos T) (search) (search) (search) (search) (search) (search) (search) ∙ ap (λ (e : ℕ). fail e q (drop c.args.pos T)) (sym c.atom_error.ensures)) h refl

@@ -1,35 +1,19 @@
 -- `scan::tokens::past` meets its contract. Assumes nothing.
 use mathlib.Core.Path.{◌≡◌, refl}
-use mathlib.Core.List.{List, [], ◌∷◌}
-use Prim.Native.Nat.{ℕ, ◌+◌, ◌≤◌}
-use native.Mathlib.Omega.{arith}
-use types.Run.{OneOf}
-use denote.Enum.Declared.{tag_of}
-use lib.ListN.{length}
+use mathlib.Core.List.{List}
+use Prim.Native.Nat.{ℕ, ◌+◌}
 use Rattle.scan.specs.Post.{Saw}
-use Rattle.scan.specs.Lists.{Passing, took, lacks, Passes, Within}
+use Rattle.scan.specs.Lists.{Passing, took, lacks, Passes}
 use Rattle.scan.specs.declared.Step.{Step}
 use Rattle.scan.specs.declared.Seen.{Seen}
-use Rattle.scan.specs.declared.Seen.TheVariants.{Token as Took, Not as Unseen}
+use Rattle.scan.specs.declared.Seen.TheVariants.{Token as Took}
 use Rattle.scan.specs.declared.Listed.{Listed}
 use Rattle.scan.specs.declared.Listed.TheVariants.{Suite, Control as LControl, Not as LNot}
-use Rattle.scan.specs.contracts.Seen as seen_type
 use Rattle.scan.proofs.Laws.{not_taken, not_seen}
 use Rattle.scan.proofs.tokens.past.Goals as goal
 
-within_suite : {n p a w m last : ℕ} {l : Listed} → l ≡ Suite p a w m last → Within n l → p ≤ n
-within_suite e h = rw e at h.how
-
-within_control : {n p a w : ℕ} {l : Listed} → l ≡ LControl p a w → Within n l → p ≤ n
-within_control e h = rw e at h.how
-
-token_within : {T : List ℕ} {p w : ℕ} (s : Seen) → OneOf (0 ∷ []) (tag_of seen_type.the_type s) → Saw T p w s → p + 2 ≤ length T
-token_within (Took k n v) o h = h.how.within
-token_within (Unseen r) o h = absurd (omega arith)
-
-passed_token : {T : List ℕ} {p w : ℕ} {on : Listed} (s : Seen) → OneOf (0 ∷ []) (tag_of seen_type.the_type s) → Saw T p w s → Passing T p w on on
-passed_token (Took k n v) o h = took h.how refl
-passed_token (Unseen r) o h = absurd (omega arith)
+passed_token : {T : List ℕ} {p w : ℕ} {on : Listed} {s : Seen} {k n v : ℕ} → s ≡ Took k n v → Saw T p w s → Passing T p w on on
+passed_token e h = took (rw e at h).how refl
 
 passes_suite : {T : List ℕ} {p a w m last : ℕ} {l r : Listed} → l ≡ Suite p a w m last → Passing T p w (Suite (p + 2) a w m last) r → Passes T l r
 passes_suite e h = record { how = rw e h }
@@ -41,13 +25,13 @@ passes_not : {T : List ℕ} {s : Step} {l : Listed} → l ≡ LNot s → Passes 
 passes_not e = record { how = rw e refl }
 
 pub returns-in-Token : goal.returns-in-Token
-returns-in-Token c = passes_suite c.in-Suite.is (passed_token _ c.in-Token.in-Token-own.keys1 c.look.ensures)
+returns-in-Token c = passes_suite c.in-Suite.is (passed_token c.in-Token.is c.look.ensures)
 
 pub returns-in-Not-look : goal.returns-in-Not-look
 returns-in-Not-look c = passes_suite c.in-Suite.is (lacks (not_seen (not_taken c.in-Not-look.is c.look.ensures)) refl)
 
 pub returns-in-Token-look : goal.returns-in-Token-look
-returns-in-Token-look c = passes_control c.in-Control.is (passed_token _ c.in-Token-look.in-Token-look-own.keys1 c.look-in-Control.ensures)
+returns-in-Token-look c = passes_control c.in-Control.is (passed_token c.in-Token-look.is c.look-in-Control.ensures)
 
 pub returns-in-Not-look-2 : goal.returns-in-Not-look-2
 returns-in-Not-look-2 c = passes_control c.in-Control.is (lacks (not_seen (not_taken c.in-Not-look-2.is c.look-in-Control.ensures)) refl)

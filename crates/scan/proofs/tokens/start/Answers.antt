@@ -35,7 +35,7 @@ loop-kind-preserved c = let g = c.loop-kind.invariant in
 pub returns-in_default : goal.returns-in_default
 returns-in_default c = let g = c.loop-kind.invariant in
     let tk = taken c.in-Token.is c.look.ensures in
-    record { how = record { got = record { what = tt; same = λ q. g.same q ∙ start_here q g.fuel _ g.enough tk c.in_default.in_default-own.rest.0.1 c.in_default.in_default-own.rest.1; on = g.on; within = g.within }; place = refl; waits = refl } }
+    record { how = record { got = record { what = tt; same = λ q. g.same q ∙ start_here q g.fuel _ g.enough tk (search) (search); on = g.on; within = g.within }; place = refl; waits = refl } }
 
 pub returns-then-f-eq-END_OF_TOKENS : goal.returns-then-f-eq-END_OF_TOKENS
 returns-then-f-eq-END_OF_TOKENS c = let g = c.loop-kind.invariant in
