@@ -10,8 +10,9 @@ use lib.ListN.{length, drop}
 use borrow.Author.Tests.{eq-eqb, ne_eqb, lt-ltb, le-ltb, ltb-true, ltb-false}
 use Rattle.token.specs.Look.{seen_word}
 use Rattle.token.specs.declared.Token.{Token}
-use Rattle.token.specs.declared.Seen.{Seen}
-use Rattle.token.specs.declared.Seen.TheVariants.{Good, LexerError, Nothing, Bad}
+use Rattle.std.proofs.Common.{Result, Ok, Err}
+use Rattle.token.specs.declared.Unread.{Unread}
+use Rattle.token.specs.declared.Unread.TheVariants.{LexerError, Nothing, Bad}
 use Rattle.operator.specs.Operator.{op_level, op_number}
 use Rattle.tree.specs.Tree.{Tree}
 use Rattle.tree.specs.Node
@@ -51,12 +52,12 @@ abbrev first_level : List ℕ → ℕ
 first_level ts = level_seen (look [] ts)
 
 -- what a look tells
-looked_then : {B : Type 0} (q : List Error) (r : List ℕ) (s : Seen) (f g : Token → List Error → List ℕ → Res B) → ((tok : Token) → looked q r s ≡ ok tok r → level_seen (looked [] r s) ≡ op_level tok.kind → f tok q r ≡ g tok q r) → then q (looked q r s) f ≡ then q (looked q r s) g
+looked_then : {B : Type 0} (q : List Error) (r : List ℕ) (s : (Result Token Unread)) (f g : Token → List Error → List ℕ → Res B) → ((tok : Token) → looked q r s ≡ ok tok r → level_seen (looked [] r s) ≡ op_level tok.kind → f tok q r ≡ g tok q r) → then q (looked q r s) f ≡ then q (looked q r s) g
 unfolding looked then
-looked_then q r (Good tok) f g h = h tok refl refl
-looked_then q r LexerError f g h = refl
-looked_then q r Nothing f g h = refl
-looked_then q r Bad f g h = refl
+looked_then q r (Ok tok) f g h = h tok refl refl
+looked_then q r (Err LexerError) f g h = refl
+looked_then q r (Err Nothing) f g h = refl
+looked_then q r (Err Bad) f g h = refl
 
 look_then : {B : Type 0} (q : List Error) (ts : List ℕ) (f g : Token → List Error → List ℕ → Res B) → ((tok : Token) (r : List ℕ) → look q ts ≡ ok tok r → first_level ts ≡ op_level tok.kind → length r < length ts → f tok q r ≡ g tok q r) → then q (look q ts) f ≡ then q (look q ts) g
 unfolding look then
@@ -64,12 +65,12 @@ look_then q [] f g h = refl
 look_then q (w ∷ []) f g h = refl
 look_then q (w ∷ (v ∷ r)) f g h = looked_then q r (seen_word w v) f g λ tok e i. h tok r e i (omega arith)
 
-looked_keep : {B : Type 0} {I : List ℕ → Type 0} (q : List Error) (r : List ℕ) (s : Seen) (f : Token → List Error → List ℕ → Res B) → ((tok : Token) → level_seen (looked [] r s) ≡ op_level tok.kind → Keep I (λ e s. Unit {0}) (f tok q r)) → Keep I (λ e s. Unit {0}) (then q (looked q r s) f)
+looked_keep : {B : Type 0} {I : List ℕ → Type 0} (q : List Error) (r : List ℕ) (s : (Result Token Unread)) (f : Token → List Error → List ℕ → Res B) → ((tok : Token) → level_seen (looked [] r s) ≡ op_level tok.kind → Keep I (λ e s. Unit {0}) (f tok q r)) → Keep I (λ e s. Unit {0}) (then q (looked q r s) f)
 unfolding looked then
-looked_keep q r (Good tok) f h = h tok refl
-looked_keep q r LexerError f h = k_fail tt
-looked_keep q r Nothing f h = k_fail tt
-looked_keep q r Bad f h = k_stop
+looked_keep q r (Ok tok) f h = h tok refl
+looked_keep q r (Err LexerError) f h = k_fail tt
+looked_keep q r (Err Nothing) f h = k_fail tt
+looked_keep q r (Err Bad) f h = k_stop
 
 look_keep : {B : Type 0} {I : List ℕ → Type 0} (q : List Error) (ts : List ℕ) (f : Token → List Error → List ℕ → Res B) → ((tok : Token) (r : List ℕ) → first_level ts ≡ op_level tok.kind → Keep I (λ e s. Unit {0}) (f tok q r)) → Keep I (λ e s. Unit {0}) (then q (look q ts) f)
 unfolding look then

@@ -5,8 +5,9 @@ use mathlib.Core.List.{List, [], ◌∷◌}
 use Prim.Native.Nat.{ℕ}
 use Rattle.token.specs.Look.{seen_word}
 use Rattle.token.specs.declared.Token.{Token}
-use Rattle.token.specs.declared.Seen.{Seen}
-use Rattle.token.specs.declared.Seen.TheVariants.{Good, LexerError, Nothing, Bad}
+use Rattle.std.proofs.Common.{Result, Ok, Err}
+use Rattle.token.specs.declared.Unread.{Unread}
+use Rattle.token.specs.declared.Unread.TheVariants.{LexerError, Nothing, Bad}
 use Rattle.grammar.specs.Reading.Result.{Res, ok, bad, fail, stop, unclean, either, then, ifb, Error}
 use Rattle.grammar.specs.Reading.Look.{looked, look}
 use native.Mathlib.Omega.{arith}
@@ -76,12 +77,12 @@ pub data Plain {A : Type 0} : Res A → Type 0 where
   a_fail : {e : ℕ} {q : List Error} {r : List ℕ} → Plain (fail e q r)
   a_stop : {n : ℕ} → Plain (stop n)
 
-looked_plain : (q : List Error) (r : List ℕ) (s : Seen) → Plain (looked q r s)
+looked_plain : (q : List Error) (r : List ℕ) (s : (Result Token Unread)) → Plain (looked q r s)
 unfolding looked
-looked_plain q r (Good tok) = an_ok
-looked_plain q r LexerError = a_fail
-looked_plain q r Nothing = a_fail
-looked_plain q r Bad = a_stop
+looked_plain q r (Ok tok) = an_ok
+looked_plain q r (Err LexerError) = a_fail
+looked_plain q r (Err Nothing) = a_fail
+looked_plain q r (Err Bad) = a_stop
 
 pub plain_not_bad : {A : Type 0} {d : Res A} {a : A} {q : List Error} {r : List ℕ} → Plain d → d ≡ bad a q r → ⊥
 plain_not_bad an_ok e = let z : ◌≡◌ {A = ℕ} 0 1 = cc in omega arith

@@ -1,8 +1,7 @@
 -- Laws of the operators' tables at all token kinds or all numbers: below a bound by one test that antt computes, and past the symbols there is no operator. Assumes nothing.
-use Rattle.std.specs.Prelude.{◌≡◌, refl, ◌≢◌, true, false, List, [], ◌∷◌, ℕ, zero, suc, ◌-◌, ◌≤◌, ◌<◌, T, eqb, ltb, leb, length, get_or}
+use Rattle.std.specs.Prelude.{Option, Some, None, ◌≡◌, refl, ◌≢◌, true, false, List, [], ◌∷◌, ℕ, zero, suc, ◌-◌, ◌≤◌, ◌<◌, T, eqb, ltb, leb, length, get_or}
 use Rattle.std.proofs.Common.{ap, ⊎_elim, eq-zero-or-pos, arith, eqb→eq, ne_eqb, leb-true}
-use Rattle.operator.specs.declared.WhichBinary.{WhichBinary}
-use Rattle.operator.specs.declared.WhichBinary.TheVariants.{Binary, NotBinary}
+use Rattle.operator.specs.declared.BinaryOp.{BinaryOp}
 use Rattle.operator.specs.Operator.{which_unary_op, which_binary_op, which_assignment_op, op_level, op_number, number_found, binary_code, binary_found, op_tokens, op_token, number_level, unary_code, unary_token, assign_code, assign_token, no_token, level_count}
 use Rattle.operator.specs.Below.{sum_below, none_below, fails, passes, below, equal_below, most_below, back_below}
 use Rattle.operator.specs.Table.{column_count, decision, entry, faults}
@@ -78,9 +77,9 @@ unfolding decision
 decision_far kind column h = simp (unary_far h, binary_far h, op_far h, assign_far h) (none column)
 
 -- the number of a binary operator, from what the table has for it
-number_found_code : (w : WhichBinary) → binary_found w - 1 ≡ number_found w
-number_found_code (Binary op) = omega arith
-number_found_code NotBinary = refl
+number_found_code : (w : Option BinaryOp) → binary_found w - 1 ≡ number_found w
+number_found_code (Some op) = omega arith
+number_found_code None = refl
 
 pub number_code : (k : ℕ) → binary_code k - 1 ≡ op_number k
 unfolding binary_code op_number

@@ -1,66 +1,62 @@
 -- The operators: which one a token kind is, its level and its number, and the token kinds of the numbers. Assumes nothing.
-use Rattle.std.specs.Prelude.{Bool, cond, List, [], ◌∷◌, ℕ, suc, eqb, get_or}
+use Rattle.std.specs.Prelude.{Bool, cond, Option, Some, None, List, [], ◌∷◌, ℕ, suc, eqb, get_or}
 use Rattle.token.specs.Kind
 use Rattle.operator.specs.declared.UnaryOp.{UnaryOp}
 use Rattle.operator.specs.declared.UnaryOp.TheVariants.{Neg, Pos, Inv, Not}
 use Rattle.operator.specs.declared.BinaryOp.{BinaryOp}
 use Rattle.operator.specs.declared.BinaryOp.TheVariants.{Mul, Div, Mod, Add, Sub, LShift, RShift, BitAnd, BitXor, BitOr, LT, GT, LE, GE, EQ, NE, And, Or}
-use Rattle.operator.specs.declared.WhichUnary.{WhichUnary}
-use Rattle.operator.specs.declared.WhichUnary.TheVariants.{Unary, NotUnary}
-use Rattle.operator.specs.declared.WhichBinary.{WhichBinary}
-use Rattle.operator.specs.declared.WhichBinary.TheVariants.{Binary, NotBinary}
-use Rattle.operator.specs.declared.WhichAssignment.{WhichAssignment}
-use Rattle.operator.specs.declared.WhichAssignment.TheVariants.{Plain, With, NotAssignment}
+use Rattle.operator.specs.declared.AssignmentOp.{AssignmentOp}
+use Rattle.operator.specs.declared.AssignmentOp.TheVariants.{Plain, With}
 
 -- so that a table reads line by line
 infixr 5 when◌then◌else◌
 abbrev when◌then◌else◌ : {A : Type 0} → Bool → A → A → A
 when b then x else y = cond b x y
 
-unfoldable pub which_unary_op : ℕ → WhichUnary
+unfoldable pub which_unary_op : ℕ → Option UnaryOp
 which_unary_op kind =
-    when eqb kind Kind.OpAdd then Unary Pos else
-    when eqb kind Kind.OpSub then Unary Neg else
-    when eqb kind Kind.OpInv then Unary Inv else
-    when eqb kind Kind.Not then Unary Not else
-    NotUnary
+    when eqb kind Kind.OpAdd then Some Pos else
+    when eqb kind Kind.OpSub then Some Neg else
+    when eqb kind Kind.OpInv then Some Inv else
+    when eqb kind Kind.Not then Some Not else
+    None
 
-unfoldable pub which_binary_op : ℕ → WhichBinary
+unfoldable pub which_binary_op : ℕ → Option BinaryOp
 which_binary_op kind =
-    when eqb kind Kind.OpMul then Binary Mul else
-    when eqb kind Kind.OpDiv then Binary Div else
-    when eqb kind Kind.OpMod then Binary Mod else
-    when eqb kind Kind.OpAdd then Binary Add else
-    when eqb kind Kind.OpSub then Binary Sub else
-    when eqb kind Kind.OpLShift then Binary LShift else
-    when eqb kind Kind.OpRShift then Binary RShift else
-    when eqb kind Kind.OpAnd then Binary BitAnd else
-    when eqb kind Kind.OpXor then Binary BitXor else
-    when eqb kind Kind.OpOr then Binary BitOr else
-    when eqb kind Kind.OpLT then Binary LT else
-    when eqb kind Kind.OpGT then Binary GT else
-    when eqb kind Kind.OpLE then Binary LE else
-    when eqb kind Kind.OpGE then Binary GE else
-    when eqb kind Kind.OpEQ then Binary EQ else
-    when eqb kind Kind.OpNE then Binary NE else
-    when eqb kind Kind.And then Binary And else
-    when eqb kind Kind.Or then Binary Or else
-    NotBinary
+    when eqb kind Kind.OpMul then Some Mul else
+    when eqb kind Kind.OpDiv then Some Div else
+    when eqb kind Kind.OpMod then Some Mod else
+    when eqb kind Kind.OpAdd then Some Add else
+    when eqb kind Kind.OpSub then Some Sub else
+    when eqb kind Kind.OpLShift then Some LShift else
+    when eqb kind Kind.OpRShift then Some RShift else
+    when eqb kind Kind.OpAnd then Some BitAnd else
+    when eqb kind Kind.OpXor then Some BitXor else
+    when eqb kind Kind.OpOr then Some BitOr else
+    when eqb kind Kind.OpLT then Some LT else
+    when eqb kind Kind.OpGT then Some GT else
+    when eqb kind Kind.OpLE then Some LE else
+    when eqb kind Kind.OpGE then Some GE else
+    when eqb kind Kind.OpEQ then Some EQ else
+    when eqb kind Kind.OpNE then Some NE else
+    when eqb kind Kind.And then Some And else
+    when eqb kind Kind.Or then Some Or else
+    None
 
-unfoldable pub which_assignment_op : ℕ → WhichAssignment
+unfoldable pub which_assignment_op : ℕ → Option AssignmentOp
 which_assignment_op kind =
-    when eqb kind Kind.OpAssign then Plain else
-    when eqb kind Kind.OpAddAssign then With Add else
-    when eqb kind Kind.OpSubAssign then With Sub else
-    when eqb kind Kind.OpMulAssign then With Mul else
-    when eqb kind Kind.OpDivAssign then With Div else
-    when eqb kind Kind.OpModAssign then With Mod else
-    when eqb kind Kind.OpAndAssign then With BitAnd else
-    when eqb kind Kind.OpOrAssign then With BitOr else
-    when eqb kind Kind.OpXorAssign then With BitXor else
-    when eqb kind Kind.OpLShiftAssign then With LShift else
-    when eqb kind Kind.OpRShiftAssign then With RShift else
-    NotAssignment
+    when eqb kind Kind.OpAssign then Some Plain else
+    when eqb kind Kind.OpAddAssign then Some (With Add) else
+    when eqb kind Kind.OpSubAssign then Some (With Sub) else
+    when eqb kind Kind.OpMulAssign then Some (With Mul) else
+    when eqb kind Kind.OpDivAssign then Some (With Div) else
+    when eqb kind Kind.OpModAssign then Some (With Mod) else
+    when eqb kind Kind.OpAndAssign then Some (With BitAnd) else
+    when eqb kind Kind.OpOrAssign then Some (With BitOr) else
+    when eqb kind Kind.OpXorAssign then Some (With BitXor) else
+    when eqb kind Kind.OpLShiftAssign then Some (With LShift) else
+    when eqb kind Kind.OpRShiftAssign then Some (With RShift) else
+    None
 
 -- how many levels there are
 abbrev pub level_count : ℕ
@@ -115,42 +111,42 @@ binary_number And = 16
 binary_number Or = 17
 
 -- the level of the binary operator that a token kind is, 0 if it is none
-abbrev pub level_found : WhichBinary → ℕ
-level_found (Binary op) = precedence_level op
-level_found NotBinary = 0
+abbrev pub level_found : Option BinaryOp → ℕ
+level_found (Some op) = precedence_level op
+level_found None = 0
 
 unfoldable pub op_level : ℕ → ℕ
 op_level kind = level_found (which_binary_op kind)
 
 -- 0 if a token kind is no binary operator, else 1 + its number
-abbrev pub binary_found : WhichBinary → ℕ
-binary_found (Binary op) = suc (binary_number op)
-binary_found NotBinary = 0
+abbrev pub binary_found : Option BinaryOp → ℕ
+binary_found (Some op) = suc (binary_number op)
+binary_found None = 0
 
 unfoldable pub binary_code : ℕ → ℕ
 binary_code kind = binary_found (which_binary_op kind)
 
 -- the number of the binary operator that a token kind is, 0 if it is none
-abbrev pub number_found : WhichBinary → ℕ
-number_found (Binary op) = binary_number op
-number_found NotBinary = 0
+abbrev pub number_found : Option BinaryOp → ℕ
+number_found (Some op) = binary_number op
+number_found None = 0
 
 unfoldable pub op_number : ℕ → ℕ
 op_number kind = number_found (which_binary_op kind)
 
 -- 0 if a token kind is no unary operator, else 1 + its number
-abbrev pub unary_found : WhichUnary → ℕ
-unary_found (Unary op) = suc (unary_number op)
-unary_found NotUnary = 0
+abbrev pub unary_found : Option UnaryOp → ℕ
+unary_found (Some op) = suc (unary_number op)
+unary_found None = 0
 
 unfoldable pub unary_code : ℕ → ℕ
 unary_code kind = unary_found (which_unary_op kind)
 
 -- 0 if a token kind is no assignment operator, 1 if it is the plain one, else 2 + the number of its binary operator
-abbrev pub assignment_found : WhichAssignment → ℕ
-assignment_found Plain = 1
-assignment_found (With op) = suc (suc (binary_number op))
-assignment_found NotAssignment = 0
+abbrev pub assignment_found : Option AssignmentOp → ℕ
+assignment_found (Some Plain) = 1
+assignment_found (Some (With op)) = suc (suc (binary_number op))
+assignment_found None = 0
 
 unfoldable pub assign_code : ℕ → ℕ
 assign_code kind = assignment_found (which_assignment_op kind)

@@ -2,7 +2,7 @@
 #![tactic(auto)]
 
 ghost use Rattle.std.specs.Prelude.{◌≡◌, ◌≤◌, ◌<◌};
-ghost use Rattle.operator.specs.Operator.{which_unary_op as which_unary_op_def, which_binary_op as which_binary_op_def, which_assignment_op as which_assignment_op_def, precedence_level as precedence_level_def, unary_number as unary_number_def, binary_number as binary_number_def, unary_code as unary_code_def, op_level as op_level_def, op_number as op_number_def, assign_code as assign_code_def};
+ghost use Rattle.operator.specs.Operator.{which_unary_op as which_unary_op_def, which_binary_op as which_binary_op_def, which_assignment_op as which_assignment_op_def, precedence_level as precedence_level_def, unary_number, binary_number, unary_code as unary_code_def, op_level as op_level_def, op_number as op_number_def, assign_code as assign_code_def};
 ghost use Rattle.operator.specs.Table.{column_count, decision, faults};
 
 pub mod table;
@@ -10,7 +10,7 @@ pub mod table;
 use table::{ASSIGNMENT, BINARY, LEVEL, TABLE, Table, UNARY};
 use token::kind;
 
-#[derive(Drop)]
+#[derive(Clone, Copy)]
 pub enum UnaryOp {
     Neg,
     Pos,
@@ -18,7 +18,7 @@ pub enum UnaryOp {
     Not,
 }
 
-#[derive(Drop)]
+#[derive(Clone, Copy)]
 pub enum BinaryOp {
     Mul,
     Div,
@@ -45,83 +45,70 @@ pub const PRECEDENCE_END: u64 = 0;
 
 pub const PRECEDENCE_START: u64 = 10;
 
-#[derive(Drop)]
-pub enum WhichUnary {
-    Unary(UnaryOp),
-    NotUnary,
-}
-
-#[derive(Drop)]
-pub enum WhichBinary {
-    Binary(BinaryOp),
-    NotBinary,
-}
-
 // An assignment is plain, or with the operator that is applied first.
-#[derive(Drop)]
-pub enum WhichAssignment {
+#[derive(Clone, Copy)]
+pub enum AssignmentOp {
     Plain,
     With(BinaryOp),
-    NotAssignment,
 }
 
 #[tactic(auto, unfolding(crate::specs::Operator::which_unary_op))]
-pub fn which_unary_op(kind: u64) -> WhichUnary
+pub fn which_unary_op(kind: u64) -> Option<UnaryOp>
     ensures { result ≡ which_unary_op_def kind }
 {
     match kind {
-        kind::OP_ADD => WhichUnary::Unary(UnaryOp::Pos),
-        kind::OP_SUB => WhichUnary::Unary(UnaryOp::Neg),
-        kind::OP_INV => WhichUnary::Unary(UnaryOp::Inv),
-        kind::NOT => WhichUnary::Unary(UnaryOp::Not),
-        _ => WhichUnary::NotUnary,
+        kind::OP_ADD => Some(UnaryOp::Pos),
+        kind::OP_SUB => Some(UnaryOp::Neg),
+        kind::OP_INV => Some(UnaryOp::Inv),
+        kind::NOT => Some(UnaryOp::Not),
+        _ => None,
     }
 }
 
 #[tactic(auto, unfolding(crate::specs::Operator::which_binary_op))]
-pub fn which_binary_op(kind: u64) -> WhichBinary
+pub fn which_binary_op(kind: u64) -> Option<BinaryOp>
     ensures { result ≡ which_binary_op_def kind }
 {
     match kind {
-        kind::OP_MUL => WhichBinary::Binary(BinaryOp::Mul),
-        kind::OP_DIV => WhichBinary::Binary(BinaryOp::Div),
-        kind::OP_MOD => WhichBinary::Binary(BinaryOp::Mod),
-        kind::OP_ADD => WhichBinary::Binary(BinaryOp::Add),
-        kind::OP_SUB => WhichBinary::Binary(BinaryOp::Sub),
-        kind::OP_LSHIFT => WhichBinary::Binary(BinaryOp::LShift),
-        kind::OP_RSHIFT => WhichBinary::Binary(BinaryOp::RShift),
-        kind::OP_AND => WhichBinary::Binary(BinaryOp::BitAnd),
-        kind::OP_XOR => WhichBinary::Binary(BinaryOp::BitXor),
-        kind::OP_OR => WhichBinary::Binary(BinaryOp::BitOr),
-        kind::OP_LT => WhichBinary::Binary(BinaryOp::LT),
-        kind::OP_GT => WhichBinary::Binary(BinaryOp::GT),
-        kind::OP_LE => WhichBinary::Binary(BinaryOp::LE),
-        kind::OP_GE => WhichBinary::Binary(BinaryOp::GE),
-        kind::OP_EQ => WhichBinary::Binary(BinaryOp::EQ),
-        kind::OP_NE => WhichBinary::Binary(BinaryOp::NE),
-        kind::AND => WhichBinary::Binary(BinaryOp::And),
-        kind::OR => WhichBinary::Binary(BinaryOp::Or),
-        _ => WhichBinary::NotBinary,
+        kind::OP_MUL => Some(BinaryOp::Mul),
+        kind::OP_DIV => Some(BinaryOp::Div),
+        kind::OP_MOD => Some(BinaryOp::Mod),
+        kind::OP_ADD => Some(BinaryOp::Add),
+        kind::OP_SUB => Some(BinaryOp::Sub),
+        kind::OP_LSHIFT => Some(BinaryOp::LShift),
+        kind::OP_RSHIFT => Some(BinaryOp::RShift),
+        kind::OP_AND => Some(BinaryOp::BitAnd),
+        kind::OP_XOR => Some(BinaryOp::BitXor),
+        kind::OP_OR => Some(BinaryOp::BitOr),
+        kind::OP_LT => Some(BinaryOp::LT),
+        kind::OP_GT => Some(BinaryOp::GT),
+        kind::OP_LE => Some(BinaryOp::LE),
+        kind::OP_GE => Some(BinaryOp::GE),
+        kind::OP_EQ => Some(BinaryOp::EQ),
+        kind::OP_NE => Some(BinaryOp::NE),
+        kind::AND => Some(BinaryOp::And),
+        kind::OR => Some(BinaryOp::Or),
+        _ => None,
     }
 }
 
 #[tactic(auto, unfolding(crate::specs::Operator::which_assignment_op))]
-pub fn which_assignment_op(kind: u64) -> WhichAssignment
+pub fn which_assignment_op(kind: u64) -> Option<AssignmentOp>
     ensures { result ≡ which_assignment_op_def kind }
 {
     match kind {
-        kind::OP_ASSIGN => WhichAssignment::Plain,
-        kind::OP_ADD_ASSIGN => WhichAssignment::With(BinaryOp::Add),
-        kind::OP_SUB_ASSIGN => WhichAssignment::With(BinaryOp::Sub),
-        kind::OP_MUL_ASSIGN => WhichAssignment::With(BinaryOp::Mul),
-        kind::OP_DIV_ASSIGN => WhichAssignment::With(BinaryOp::Div),
-        kind::OP_MOD_ASSIGN => WhichAssignment::With(BinaryOp::Mod),
-        kind::OP_AND_ASSIGN => WhichAssignment::With(BinaryOp::BitAnd),
-        kind::OP_OR_ASSIGN => WhichAssignment::With(BinaryOp::BitOr),
-        kind::OP_XOR_ASSIGN => WhichAssignment::With(BinaryOp::BitXor),
-        kind::OP_LSHIFT_ASSIGN => WhichAssignment::With(BinaryOp::LShift),
-        kind::OP_RSHIFT_ASSIGN => WhichAssignment::With(BinaryOp::RShift),
-        _ => WhichAssignment::NotAssignment,
+        kind::OP_ASSIGN => Some(AssignmentOp::Plain),
+        kind::OP_ADD_ASSIGN => Some(AssignmentOp::With(BinaryOp::Add)),
+        kind::OP_SUB_ASSIGN => Some(AssignmentOp::With(BinaryOp::Sub)),
+        kind::OP_MUL_ASSIGN => Some(AssignmentOp::With(BinaryOp::Mul)),
+        kind::OP_DIV_ASSIGN => Some(AssignmentOp::With(BinaryOp::Div)),
+        kind::OP_MOD_ASSIGN => Some(AssignmentOp::With(BinaryOp::Mod)),
+        kind::OP_AND_ASSIGN => Some(AssignmentOp::With(BinaryOp::BitAnd)),
+        kind::OP_OR_ASSIGN => Some(AssignmentOp::With(BinaryOp::BitOr)),
+        kind::OP_XOR_ASSIGN => Some(AssignmentOp::With(BinaryOp::BitXor)),
+        kind::OP_LSHIFT_ASSIGN => Some(AssignmentOp::With(BinaryOp::LShift)),
+        kind::OP_RSHIFT_ASSIGN => Some(AssignmentOp::With(BinaryOp::RShift)),
+        _ => None,
     }
 }
 
@@ -144,39 +131,19 @@ pub fn precedence_level(op: BinaryOp) -> u64
 }
 
 // An operator's number is its place in its enum.
-pub fn unary_number(op: UnaryOp) -> u64
-    ensures { result ≡ unary_number_def op }
-{
-    match op {
-        UnaryOp::Neg => 0,
-        UnaryOp::Pos => 1,
-        UnaryOp::Inv => 2,
-        UnaryOp::Not => 3,
+impl From<UnaryOp> for u64 {
+    ghost from_gives = { λ op number. number ≡ unary_number op };
+
+    fn from(op: UnaryOp) -> u64 {
+        op as u64
     }
 }
 
-pub fn binary_number(op: BinaryOp) -> u64
-    ensures { result ≡ binary_number_def op }
-{
-    match op {
-        BinaryOp::Mul => 0,
-        BinaryOp::Div => 1,
-        BinaryOp::Mod => 2,
-        BinaryOp::Add => 3,
-        BinaryOp::Sub => 4,
-        BinaryOp::LShift => 5,
-        BinaryOp::RShift => 6,
-        BinaryOp::BitAnd => 7,
-        BinaryOp::BitXor => 8,
-        BinaryOp::BitOr => 9,
-        BinaryOp::LT => 10,
-        BinaryOp::GT => 11,
-        BinaryOp::LE => 12,
-        BinaryOp::GE => 13,
-        BinaryOp::EQ => 14,
-        BinaryOp::NE => 15,
-        BinaryOp::And => 16,
-        BinaryOp::Or => 17,
+impl From<BinaryOp> for u64 {
+    ghost from_gives = { λ op number. number ≡ binary_number op };
+
+    fn from(op: BinaryOp) -> u64 {
+        op as u64
     }
 }
 
@@ -187,12 +154,6 @@ pub fn operators() -> Table
     TABLE
 }
 
-fn wide(x: u8) -> u64
-    ensures { result ≡ x }
-{
-    x as u64
-}
-
 // What the table has for a token kind; 0 where the kind is above the last.
 fn entry(table: &Table, kind: u64, column: usize) -> u64
     requires { (faults table.now ≡ 0) × (column < column_count) }
@@ -201,8 +162,7 @@ fn entry(table: &Table, kind: u64, column: usize) -> u64
     if kind::LEXER_ERROR < kind {
         return 0;
     }
-    let row = kind as usize;
-    wide(table[row][column])
+    u64::from(table[kind as usize][column])
 }
 
 // 0 if a token kind is no unary operator, else 1 + its number.

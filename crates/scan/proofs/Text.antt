@@ -11,8 +11,9 @@ use lib.Seq.{drop-cons, take-suc, take-suc-set, length-take-le, take-take, take-
 use Rattle.token.specs.Kind
 use Rattle.token.specs.Look.{value_fits, token_fits, seen}
 use Rattle.token.specs.declared.Token.{Token}
-use Rattle.token.specs.declared.Seen.{Seen}
-use Rattle.token.specs.declared.Seen.TheVariants.{Good, LexerError, Nothing, Bad}
+use Rattle.std.proofs.Common.{Result, Ok, Err}
+use Rattle.token.specs.declared.Unread.{Unread}
+use Rattle.token.specs.declared.Unread.TheVariants.{LexerError, Nothing, Bad}
 use Rattle.grammar.specs.Reading.Limit.{malformed, queue_limit}
 use Rattle.grammar.specs.Reading.Number
 use Rattle.grammar.specs.Reading.Result.{ok, fail, stop, Error}
@@ -97,7 +98,7 @@ module _ (S S' X : List ℕ) (at a : ℕ) (text : take a S' ≡ take at S ++ X) 
 
 -- LOOKING at the words of a run
 -- where something is seen: what the look answers, and that a token's words stand there
-module _ {s : Seen} (some : s ≡ Nothing → ⊥) where
+module _ {s : (Result Token Unread)} (some : s ≡ (Err Nothing) → ⊥) where
   seen_looked : (l : List ℕ) → s ≡ seen l → (q : List Error) → look q l ≡ looked q (drop 2 l) s
   unfolding seen look
   seen_looked [] e q = absurd (some e)
@@ -110,17 +111,17 @@ module _ {s : Seen} (some : s ≡ Nothing → ⊥) where
   seen_long (w ∷ []) e = absurd (some e)
   seen_long (w ∷ (v ∷ r)) e = omega arith
 
-good_some : {t : Token} → Good t ≡ Nothing → ⊥
+good_some : {t : Token} → Ok t ≡ (Err Nothing) → ⊥
 good_some e = let z : ◌≡◌ {A = ℕ} 0 1 = cc in omega arith
 
-lexer_some : LexerError ≡ Nothing → ⊥
+lexer_some : (Err LexerError) ≡ (Err Nothing) → ⊥
 lexer_some e = let z : ◌≡◌ {A = ℕ} 0 1 = cc in omega arith
 
-bad_some : Bad ≡ Nothing → ⊥
+bad_some : (Err Bad) ≡ (Err Nothing) → ⊥
 bad_some e = let z : ◌≡◌ {A = ℕ} 0 1 = cc in omega arith
 
 module _ {t : Token} where
-  good_token : (k n v : ℕ) (a b : Bool) → token_fits k n v ≡ a → Good t ≡ cond a (cond b LexerError (Good (record { kind = k; newline = n; value = v }))) Bad → value_fits t.kind t.value ≡ true
+  good_token : (k n v : ℕ) (a b : Bool) → token_fits k n v ≡ a → Ok t ≡ cond a (cond b (Err LexerError) (Ok (record { kind = k; newline = n; value = v }))) (Err Bad) → value_fits t.kind t.value ≡ true
   good_token k n v true true f e = absurd (let z : ◌≡◌ {A = ℕ} 0 1 = cc in omega arith)
   good_token k n v true false f e =
       let i : t ≡ record { kind = k; newline = n; value = v } = cc in
@@ -132,55 +133,55 @@ module _ {t : Token} where
       last_true false b c h = absurd (let z : ◌≡◌ {A = ℕ} 0 1 = cc in omega arith)
   good_token k n v false b f e = absurd (let z : ◌≡◌ {A = ℕ} 0 1 = cc in omega arith)
 
-  good_fits : (l : List ℕ) → Good t ≡ seen l → value_fits t.kind t.value ≡ true
+  good_fits : (l : List ℕ) → Ok t ≡ seen l → value_fits t.kind t.value ≡ true
   unfolding seen
   good_fits [] e = absurd (let z : ◌≡◌ {A = ℕ} 0 1 = cc in omega arith)
   good_fits (w ∷ []) e = absurd (let z : ◌≡◌ {A = ℕ} 0 1 = cc in omega arith)
   good_fits (w ∷ (v ∷ r)) e = good_token (w % 256) (w / 256) v (token_fits (w % 256) (w / 256) v) (eqb (w % 256) Kind.LexerError) refl e
 
-  pub token_taken : (T : List ℕ) (pos : ℕ) → Good t ≡ seen (drop pos T) → Taken T pos t.kind t.newline t.value
+  pub token_taken : (T : List ℕ) (pos : ℕ) → Ok t ≡ seen (drop pos T) → Taken T pos t.kind t.newline t.value
   unfolding looked
   token_taken T pos e =
       let n = seen_long good_some (drop pos T) e in
       let l : length (drop pos T) ≡ length T - pos = length-drop pos T in
       record { same = λ q. seen_looked good_some (drop pos T) e q ∙ ap (ok t) (drop-drop 2 pos T); within = omega arith; fits = good_fits (drop pos T) e }
 
-pub lexer_room : (T : List ℕ) (pos : ℕ) → LexerError ≡ seen (drop pos T) → pos + 2 ≤ length T
+pub lexer_room : (T : List ℕ) (pos : ℕ) → (Err LexerError) ≡ seen (drop pos T) → pos + 2 ≤ length T
 lexer_room T pos e =
     let n = seen_long lexer_some (drop pos T) e in
     let l : length (drop pos T) ≡ length T - pos = length-drop pos T in
     omega arith
 
-pub lexer_missed : (T : List ℕ) (pos w : ℕ) → LexerError ≡ seen (drop pos T) → Missed T pos w (record { error = Number.lexer_error; pos = pos + 2; waiting = w })
+pub lexer_missed : (T : List ℕ) (pos w : ℕ) → (Err LexerError) ≡ seen (drop pos T) → Missed T pos w (record { error = Number.lexer_error; pos = pos + 2; waiting = w })
 unfolding looked
 lexer_missed T pos w e =
     let r = lexer_room T pos e in
     record { lacks = record { same = λ q. seen_looked lexer_some (drop pos T) e q ∙ ap (fail Number.lexer_error q) (drop-drop 2 pos T); waits = refl; on = omega arith; within = r; far = omega arith }; past = λ h. omega arith }
 
 -- two words are something
-word_something : (w v : ℕ) (a b : Bool) → Nothing ≡ cond a (cond b LexerError (Good (record { kind = w % 256; newline = w / 256; value = v }))) Bad → ⊥
+word_something : (w v : ℕ) (a b : Bool) → (Err Nothing) ≡ cond a (cond b (Err LexerError) (Ok (record { kind = w % 256; newline = w / 256; value = v }))) (Err Bad) → ⊥
 word_something w v true true e = let z : ◌≡◌ {A = ℕ} 0 1 = cc in omega arith
 word_something w v true false e = let z : ◌≡◌ {A = ℕ} 0 1 = cc in omega arith
 word_something w v false b e = let z : ◌≡◌ {A = ℕ} 0 1 = cc in omega arith
 
-seen_nothing : (l : List ℕ) → Nothing ≡ seen l → (q : List Error) → look q l ≡ fail Number.end_of_tokens q l
+seen_nothing : (l : List ℕ) → (Err Nothing) ≡ seen l → (q : List Error) → look q l ≡ fail Number.end_of_tokens q l
 unfolding seen look
 seen_nothing [] e q = refl
 seen_nothing (w ∷ []) e q = refl
 seen_nothing (w ∷ (v ∷ r)) e q = absurd (word_something w v (token_fits (w % 256) (w / 256) v) (eqb (w % 256) Kind.LexerError) e)
 
-nothing_short : (l : List ℕ) → Nothing ≡ seen l → length l ≤ 1
+nothing_short : (l : List ℕ) → (Err Nothing) ≡ seen l → length l ≤ 1
 unfolding seen
 nothing_short [] e = omega arith
 nothing_short (w ∷ []) e = omega arith
 nothing_short (w ∷ (v ∷ r)) e = absurd (word_something w v (token_fits (w % 256) (w / 256) v) (eqb (w % 256) Kind.LexerError) e)
 
-pub nothing_missed : (T : List ℕ) (pos w : ℕ) → pos ≤ length T → Nothing ≡ seen (drop pos T) → Missed T pos w (record { error = Number.end_of_tokens; pos = pos; waiting = w })
+pub nothing_missed : (T : List ℕ) (pos w : ℕ) → pos ≤ length T → (Err Nothing) ≡ seen (drop pos T) → Missed T pos w (record { error = Number.end_of_tokens; pos = pos; waiting = w })
 nothing_missed T pos w h e =
     let n = nothing_short (drop pos T) e in
     let l : length (drop pos T) ≡ length T - pos = length-drop pos T in
     record { lacks = record { same = λ q. seen_nothing (drop pos T) e q; waits = refl; on = omega arith; within = h; far = omega arith }; past = λ h. absurd (h refl) }
 
-pub bad_stops : (l : List ℕ) → Bad ≡ seen l → (q : List Error) → look q l ≡ stop malformed
+pub bad_stops : (l : List ℕ) → (Err Bad) ≡ seen l → (q : List Error) → look q l ≡ stop malformed
 unfolding looked
 bad_stops l e q = seen_looked bad_some l e q

@@ -1,97 +1,136 @@
-// The errors that wait, the oldest first, in the first places of an array.
-ghost use Rattle.std.specs.Prelude.{◌≡◌, ◌≤◌, ◌<◌, length, take, drop};
+// The errors that wait, the oldest first.
+ghost use Rattle.std.specs.Prelude.{◌≡◌, ◌≤◌, ◌<◌, ◌&&◌, ◌++◌, ◌∷◌, [], not, eqb, length, drop, IfErr};
 ghost use Rattle.grammar.specs.Reading.Limit.{queue_limit};
 ghost use Rattle.grammar.specs.Reading.Stmt.{control_last as control_last_def, synchronized as synchronized_def};
 ghost use Rattle.grammar.specs.Reading.Next.{is_error as is_error_def, is_stop as is_stop_def, queue_fits as queue_fits_def, pad};
-ghost use Rattle.scan.specs.Post.{Pushed, Popped, Queues, Resumes, waiting_errors};
-ghost use Rattle.scan.specs.Parts.{holds_errors as holds_errors_def};
+ghost use Rattle.scan.specs.Post.{Queues, Resumes};
 
 use crate::tokens::{ends, look, not_last};
-use crate::{Failure, Seen, Step, number};
+use crate::{Failure, Halt, number};
 use grammar::{Queue, limit};
+use std::marker::Model;
 use token::kind;
 
-// An error joins the queue's back, where there is a place.
-pub fn push(queue: &mut Queue, waiting: usize, e: u64) -> usize
-    requires { (waiting < queue_limit) × (length queue.old ≡ queue_limit) }
-    ensures { Pushed waiting e result queue.old queue.new }
-{
-    queue[waiting] = e;
-    waiting + 1
+// A contract sees the errors that wait as a list. They stand in the first places of an array, as in the reader that C keeps.
+#[derive(Drop)]
+pub struct Waiting {
+    errors: Queue,
+    count: usize,
 }
 
-// The front of the queue; the others move up.
-pub fn pop(queue: &mut Queue, waiting: usize) -> u64
-    requires { (1 ≤ waiting) × (waiting ≤ queue_limit) × (length queue.old ≡ queue_limit) }
-    ensures { Popped waiting result queue.old queue.new }
-{
-    let front = queue[0];
-    let mut i = 1;
-    while i < waiting {
-        queue[i - 1] = queue[i];
-        i += 1;
+impl Model for Waiting {
+    ghost use Rattle.std.specs.Prelude.{List, ℕ, take};
+    ghost use Rattle.grammar.specs.Reading.Limit.{queue_limit};
+
+    ghost Value = { List ℕ };
+
+    ghost view = { λ w. take w.count w.errors };
+
+    ghost invariant = { λ w. w.count ≤ queue_limit };
+}
+
+impl Waiting {
+    // None waits.
+    pub fn new() -> Waiting
+        ensures { result ≡ [] }
+    {
+        Waiting {
+            errors: [0; limit::QUEUE],
+            count: 0,
+        }
     }
-    front
+
+    // The first places of a queue wait.
+    pub fn of(errors: Queue, count: usize) -> Waiting
+        requires { count ≤ queue_limit }
+        ensures { result ≡ take count errors }
+    {
+        Waiting { errors, count }
+    }
+
+    pub fn len(&self) -> usize
+        ensures { (result ≡ length self.now) × (result ≤ queue_limit) }
+    {
+        self.count
+    }
+
+    pub fn is_full(&self) -> bool
+        ensures { result ≡ eqb (length self.now) queue_limit }
+    {
+        self.count == limit::QUEUE
+    }
+
+    // An error joins the back, where there is a place.
+    pub fn push(&mut self, error: u64)
+        requires { length self.old < queue_limit }
+        ensures { self.new ≡ self.old ++ error ∷ [] }
+    {
+        self.errors[self.count] = error;
+        self.count += 1;
+    }
+
+    // The front; the others move up.
+    pub fn pop(&mut self) -> u64
+        requires { 1 ≤ length self.old }
+        ensures { self.old ≡ result ∷ self.new }
+    {
+        let front = self.errors[0];
+        let count = self.count;
+        self.errors.copy_within(1..count, 0);
+        self.count = count - 1;
+        front
+    }
+
+    // The queue with 0 behind the errors that wait.
+    pub fn padded(self) -> Queue
+        ensures { result ≡ pad self.entry }
+    {
+        let Waiting { mut errors, count } = self;
+        errors[count..].fill(0);
+        errors
+    }
 }
 
-// Behind a control of the token kind k: a token that does not end the list is taken, and an error waits.
+// Behind a control of the token kind k: a token that does not end the list is taken, and an error waits. Answers past which word the reading stands.
 pub fn control_last(
     tokens: &[u64],
-    queue: &mut Queue,
+    queue: &mut Waiting,
     end: u64,
     k: u64,
     pos: usize,
-    at: usize,
-    waiting: usize,
-) -> Step
-    requires { (pos ≤ length tokens.now) × (waiting ≤ queue_limit) × (length queue.old ≡ queue_limit) }
-    ensures { Queues (control_last_def end k (waiting_errors waiting queue.old) (drop pos tokens.now)) tokens.now pos at waiting queue.old queue.new result }
+) -> Result<usize, Halt>
+    requires { pos ≤ length tokens.now }
+    ensures { Queues (control_last_def end k queue.old (drop pos tokens.now)) tokens.now pos queue.old queue.new result }
 {
-    match look(tokens, pos, waiting) {
-        Seen::Token(kind, _, _) => {
-            if ends(end, kind) {
-                return Step::Done(pos, at, waiting);
-            }
-            if waiting == limit::QUEUE {
-                return Step::Stop(limit::QUEUE_FULL);
-            }
-            let w = push(queue, waiting, not_last(k));
-            Step::Done(pos + 2, at, w)
-        }
-        Seen::Not(s) => s,
+    let token = look(tokens, pos)?;
+    if ends(end, token.kind) {
+        return Ok(pos);
     }
+    if queue.is_full() {
+        return Err(Halt::Stop(limit::QUEUE_FULL));
+    }
+    queue.push(not_last(k));
+    Ok(pos + 2)
 }
 
 // After a resynchronization in a list: `EOF`, no token or a lexer error fails the list with the queue's front.
-pub fn synchronized(
-    tokens: &[u64],
-    queue: &mut Queue,
-    pos: usize,
-    at: usize,
-    waiting: usize,
-) -> Step
-    requires { (pos ≤ length tokens.now) × (1 ≤ waiting) × (waiting ≤ queue_limit) × (length queue.old ≡ queue_limit) }
-    ensures { Resumes (synchronized_def (waiting_errors waiting queue.old) (drop pos tokens.now)) tokens.now pos at waiting queue.old queue.new result }
+pub fn synchronized(tokens: &[u64], queue: &mut Waiting, pos: usize) -> Result<(), Halt>
+    requires { (pos ≤ length tokens.now) × (1 ≤ length queue.old) }
+    ensures { Resumes (synchronized_def queue.old (drop pos tokens.now)) tokens.now pos queue.old queue.new result }
 {
-    match look(tokens, pos, waiting) {
-        Seen::Token(kind, _, _) => {
-            if kind == kind::EOF {
-                return Step::Fail(Failure {
-                    error: pop(queue, waiting),
-                    pos,
-                    waiting: waiting - 1,
-                });
+    match look(tokens, pos) {
+        Ok(token) => {
+            if token.kind == kind::EOF {
+                let error = queue.pop();
+                return Err(Halt::Fail(Failure { error, pos }));
             }
-            Step::Done(pos, at, waiting)
+            Ok(())
         }
-        Seen::Not(s) => match s {
-            Step::Fail(f) => Step::Fail(Failure {
-                error: pop(queue, waiting),
-                pos: f.pos,
-                waiting: waiting - 1,
-            }),
-            _ => s,
-        },
+        Err(Halt::Fail(failure)) => {
+            let error = queue.pop();
+            Err(Halt::Fail(Failure { error, ..failure }))
+        }
+        Err(stop) => Err(stop),
     }
 }
 
@@ -100,14 +139,8 @@ fn is_error(e: u64) -> bool
     ensures { result ≡ is_error_def e }
 {
     match e {
-        number::LEXER_ERROR => true,
-        number::END_OF_TOKENS => true,
-        _ => {
-            if e < number::CONTINUE_NOT_ALLOWED {
-                return false;
-            }
-            e <= number::CLASS_DEFINITION
-        }
+        number::LEXER_ERROR | number::END_OF_TOKENS => true,
+        _ => number::CONTINUE_NOT_ALLOWED <= e && e <= number::CLASS_DEFINITION,
     }
 }
 
@@ -115,43 +148,10 @@ fn is_error(e: u64) -> bool
 pub fn is_stop(n: u64) -> bool
     ensures { result ≡ is_stop_def n }
 {
-    match n {
-        0 => true,
-        limit::MALFORMED => true,
-        limit::TOO_DEEP => true,
-        limit::QUEUE_FULL => true,
-        _ => false,
-    }
-}
-
-// Whether the first places hold errors.
-fn holds_errors(queue: Queue, waiting: usize) -> bool
-    requires { waiting ≤ queue_limit }
-    ensures { result ≡ holds_errors_def waiting queue }
-{
-    let mut i = 0;
-    while i < waiting {
-        if !is_error(queue[i]) {
-            return false;
-        }
-        i += 1;
-    }
-    true
-}
-
-// Whether the places from `from` on hold 0.
-fn holds_zeros(queue: Queue, from: usize) -> bool
-    requires { from ≤ queue_limit }
-    ensures { result ≡ queue_fits_def 0 (drop from queue) }
-{
-    let mut i = from;
-    while i < limit::QUEUE {
-        if queue[i] != 0 {
-            return false;
-        }
-        i += 1;
-    }
-    true
+    matches!(
+        n,
+        0 | limit::MALFORMED | limit::TOO_DEEP | limit::QUEUE_FULL
+    )
 }
 
 // The first places hold errors, the others 0.
@@ -159,22 +159,5 @@ pub fn queue_fits(queue: Queue, waiting: usize) -> bool
     requires { waiting ≤ queue_limit }
     ensures { result ≡ queue_fits_def waiting queue }
 {
-    if !holds_errors(queue, waiting) {
-        return false;
-    }
-    holds_zeros(queue, waiting)
-}
-
-// The queue with 0 behind the errors that wait.
-pub fn wipe(queue: Queue, waiting: usize) -> Queue
-    requires { waiting ≤ queue_limit }
-    ensures { result ≡ pad (take waiting queue) }
-{
-    let mut q = queue;
-    let mut i = waiting;
-    while i < limit::QUEUE {
-        q[i] = 0;
-        i += 1;
-    }
-    q
+    queue[..waiting].iter().all(|e| is_error(*e)) && queue[waiting..].iter().all(|e| *e == 0)
 }

@@ -8,91 +8,74 @@ ghost use Rattle.grammar.specs.Reading.Primary.{atom_error as atom_error_def};
 ghost use Rattle.grammar.specs.Reading.Stmt.{ends as ends_def, is_control as is_control_def, not_last as not_last_def, starts_stmt};
 ghost use Rattle.grammar.specs.Reading.Next.{start as start_def};
 ghost use Rattle.scan.specs.Post.{Saw, Reads, Finds, itself, value_of};
-ghost use Rattle.scan.specs.Parts.{unassigned_step, goes_on, not_allowed as not_allowed_def};
+ghost use Rattle.scan.specs.Parts.{unassigned_result, goes_on, not_allowed as not_allowed_def};
 ghost use Rattle.scan.specs.Lists.{Within, Passes};
 
-use crate::{Failure, Found, Listed, Seen, Step, number};
+use crate::{Cursor, Failure, Found, Halt, Listed, Suite, number};
 use grammar::limit;
-use operator::{WhichAssignment, WhichBinary, WhichUnary};
-use token::kind;
+use operator::AssignmentOp;
+use token::{Token, Unread, kind};
 
-pub fn look(tokens: &[u64], pos: usize, waiting: usize) -> Seen
+pub fn look(tokens: &[u64], pos: usize) -> Result<Token, Halt>
     requires { pos ≤ length tokens.now }
-    ensures { Saw tokens.now pos waiting result }
+    ensures { Saw tokens.now pos result }
 {
     match token::look(tokens, pos) {
-        token::Seen::Good(t) => Seen::Token(t.kind, t.newline, t.value),
-        token::Seen::LexerError => Seen::Not(Step::Fail(Failure {
+        Ok(token) => Ok(token),
+        Err(Unread::LexerError) => Err(Halt::Fail(Failure {
             error: number::LEXER_ERROR,
             pos: pos + 2,
-            waiting,
         })),
-        token::Seen::Nothing => Seen::Not(Step::Fail(Failure {
+        Err(Unread::Nothing) => Err(Halt::Fail(Failure {
             error: number::END_OF_TOKENS,
             pos,
-            waiting,
         })),
-        token::Seen::Bad => Seen::Not(Step::Stop(limit::MALFORMED)),
+        Err(Unread::Bad) => Err(Halt::Stop(limit::MALFORMED)),
     }
 }
 
-// The next token is taken, and is of the kind k; else the error e.
-pub fn expect(tokens: &[u64], k: u64, e: u64, pos: usize, at: usize, waiting: usize) -> Step
+// The next token is taken, and is of the kind k; else the error e. Answers past which word the reading stands.
+pub fn expect(tokens: &[u64], k: u64, e: u64, pos: usize) -> Result<usize, Halt>
     requires { pos ≤ length tokens.now }
-    ensures { Reads (λ q. expect_def k e q (drop pos tokens.now)) tokens.now pos (pos + 2) at waiting result }
+    ensures { Reads (λ q. expect_def k e q (drop pos tokens.now)) tokens.now pos (pos + 2) result }
 {
-    match look(tokens, pos, waiting) {
-        Seen::Token(kind, _, _) => {
-            if kind == k {
-                Step::Done(pos + 2, at, waiting)
-            } else {
-                Step::Fail(Failure {
-                    error: e,
-                    pos: pos + 2,
-                    waiting,
-                })
-            }
-        }
-        Seen::Not(s) => s,
+    let token = look(tokens, pos)?;
+    let pos = pos + 2;
+    if token.kind != k {
+        return Err(Halt::Fail(Failure { error: e, pos }));
     }
+    Ok(pos)
 }
 
 // The next token is taken, and is a name; else the error e.
-pub fn expect_name(tokens: &[u64], e: u64, pos: usize, waiting: usize) -> Found
+pub fn expect_name(tokens: &[u64], e: u64, pos: usize) -> Result<Found, Halt>
     requires { pos ≤ length tokens.now }
-    ensures { Finds value_of (λ q. expect_def Kind.Identifier e q (drop pos tokens.now)) tokens.now pos (pos + 2) (pos + 2) 4294967296 waiting result }
+    ensures { Finds value_of (λ q. expect_def Kind.Identifier e q (drop pos tokens.now)) tokens.now pos (pos + 2) (pos + 2) 4294967296 result }
 {
-    match look(tokens, pos, waiting) {
-        Seen::Token(kind, _, value) => {
-            if kind == kind::IDENTIFIER {
-                Found::At(pos + 2, value)
-            } else {
-                Found::Not(Step::Fail(Failure {
-                    error: e,
-                    pos: pos + 2,
-                    waiting,
-                }))
-            }
-        }
-        Seen::Not(s) => Found::Not(s),
+    let token = look(tokens, pos)?;
+    let pos = pos + 2;
+    if token.kind != kind::IDENTIFIER {
+        return Err(Halt::Fail(Failure { error: e, pos }));
     }
+    Ok(Found {
+        pos,
+        number: token.value,
+    })
 }
 
 // `try_parse_label`: 0, or 1 + the label's name.
-pub fn try_label(tokens: &[u64], pos: usize, waiting: usize) -> Found
+pub fn try_label(tokens: &[u64], pos: usize) -> Result<Found, Halt>
     requires { pos ≤ length tokens.now }
-    ensures { Finds itself (λ q. try_label_def q (drop pos tokens.now)) tokens.now pos pos (pos + 2) 4294967297 waiting result }
+    ensures { Finds itself (λ q. try_label_def q (drop pos tokens.now)) tokens.now pos pos (pos + 2) 4294967297 result }
 {
-    match look(tokens, pos, waiting) {
-        Seen::Token(kind, _, value) => {
-            if kind == kind::LABEL {
-                Found::At(pos + 2, value + 1)
-            } else {
-                Found::At(pos, 0)
-            }
-        }
-        Seen::Not(s) => Found::Not(s),
+    let token = look(tokens, pos)?;
+    if token.kind != kind::LABEL {
+        return Ok(Found { pos, number: 0 });
     }
+    Ok(Found {
+        pos: pos + 2,
+        number: token.value + 1,
+    })
 }
 
 // 0, or 1 + the `MatchAction` of a keyword.
@@ -109,21 +92,18 @@ fn keyword(kind: u64) -> u64
 }
 
 // `try_parse_assign_keyword`: 0, or 1 + the `MatchAction`.
-pub fn assign_keyword(tokens: &[u64], pos: usize, waiting: usize) -> Found
+pub fn assign_keyword(tokens: &[u64], pos: usize) -> Result<Found, Halt>
     requires { pos ≤ length tokens.now }
-    ensures { Finds itself (λ q. try_assign_keyword q (drop pos tokens.now)) tokens.now pos pos (pos + 2) 5 waiting result }
+    ensures { Finds itself (λ q. try_assign_keyword q (drop pos tokens.now)) tokens.now pos pos (pos + 2) 5 result }
 {
-    match look(tokens, pos, waiting) {
-        Seen::Token(kind, _, _) => {
-            let m = keyword(kind);
-            if m == 0 {
-                Found::At(pos, 0)
-            } else {
-                Found::At(pos + 2, m)
-            }
-        }
-        Seen::Not(s) => Found::Not(s),
+    let number = keyword(look(tokens, pos)?.kind);
+    if number == 0 {
+        return Ok(Found { pos, number });
     }
+    Ok(Found {
+        pos: pos + 2,
+        number,
+    })
 }
 
 // The action of an assignment: `AssignLocal`, 0, without a keyword.
@@ -149,57 +129,54 @@ fn keyword_alone(m: u64) -> u64
 }
 
 // An expression that no assignment operator follows: it may not have a keyword before it.
-pub fn unassigned(m: u64, pos: usize, at: usize, waiting: usize) -> Step
-    ensures { result ≡ unassigned_step m pos at waiting }
+pub fn unassigned(m: u64, cursor: Cursor) -> Result<Cursor, Halt>
+    ensures { result ≡ unassigned_result m cursor }
 {
     if m == 0 {
-        return Step::Done(pos, at, waiting);
+        return Ok(cursor);
     }
-    Step::Fail(Failure {
+    Err(Halt::Fail(Failure {
         error: keyword_alone(m),
-        pos,
-        waiting,
-    })
+        pos: cursor.pos,
+    }))
 }
 
 // The level of the binary operator that a token kind is, 0 if it is none.
+#[tactic(auto, unfolding(operator::specs::Operator::op_level))]
 pub fn op_level(kind: u64) -> u64
     ensures { result ≡ op_level_def kind }
 {
-    match operator::which_binary_op(kind) {
-        WhichBinary::Binary(op) => operator::precedence_level(op),
-        WhichBinary::NotBinary => 0,
-    }
+    operator::which_binary_op(kind).map_or(0, operator::precedence_level)
 }
 
 // The number of the binary operator that a token kind is, 0 if it is none.
+#[tactic(auto, unfolding(operator::specs::Operator::op_number))]
 pub fn op_number(kind: u64) -> u64
     ensures { result ≡ op_number_def kind }
 {
-    match operator::which_binary_op(kind) {
-        WhichBinary::Binary(op) => operator::binary_number(op),
-        WhichBinary::NotBinary => 0,
-    }
+    operator::which_binary_op(kind).map_or(0, operator::binary_number)
 }
 
 // 0 if a token kind is no unary operator, else 1 + its number.
+#[tactic(auto, unfolding(operator::specs::Operator::unary_code))]
 pub fn unary_code(kind: u64) -> u64
     ensures { (result ≡ unary_code_def kind) × (result ≤ 4) }
 {
     match operator::which_unary_op(kind) {
-        WhichUnary::Unary(op) => 1 + operator::unary_number(op),
-        WhichUnary::NotUnary => 0,
+        Some(op) => 1 + operator::unary_number(op),
+        None => 0,
     }
 }
 
 // 0 if a token kind is no assignment operator, 1 if it is the plain one, else 2 + the number of its binary operator.
+#[tactic(auto, unfolding(operator::specs::Operator::assign_code))]
 pub fn assign_code(kind: u64) -> u64
     ensures { (result ≡ assign_code_def kind) × (result ≤ 19) }
 {
     match operator::which_assignment_op(kind) {
-        WhichAssignment::Plain => 1,
-        WhichAssignment::With(op) => 2 + operator::binary_number(op),
-        WhichAssignment::NotAssignment => 0,
+        Some(AssignmentOp::Plain) => 1,
+        Some(AssignmentOp::With(op)) => 2 + operator::binary_number(op),
+        None => 0,
     }
 }
 
@@ -313,59 +290,59 @@ pub fn halts(inside: bool, kind: u64) -> bool
 }
 
 // The token behind a list is taken.
-pub fn past(tokens: &[u64], list: Listed) -> Listed
+pub fn past(tokens: &[u64], list: Listed) -> Result<Listed, Halt>
     requires { Within (length tokens.now) list }
     ensures { Passes tokens.now list result }
 {
     match list {
-        Listed::Suite(p, a, w, n, last) => match look(tokens, p, w) {
-            Seen::Token(_, _, _) => Listed::Suite(p + 2, a, w, n, last),
-            Seen::Not(s) => Listed::Not(s),
-        },
-        Listed::Control(p, a, w) => match look(tokens, p, w) {
-            Seen::Token(_, _, _) => Listed::Control(p + 2, a, w),
-            Seen::Not(s) => Listed::Not(s),
-        },
-        Listed::Not(s) => Listed::Not(s),
+        Listed::Suite(suite) => {
+            let end = suite.end;
+            look(tokens, end.pos)?;
+            let end = Cursor {
+                pos: end.pos + 2,
+                ..end
+            };
+            Ok(Listed::Suite(Suite { end, ..suite }))
+        }
+        Listed::Control(end) => {
+            look(tokens, end.pos)?;
+            Ok(Listed::Control(Cursor {
+                pos: end.pos + 2,
+                ..end
+            }))
+        }
     }
 }
 
-// At the top level separators are passed over; `EOF`, which stays unread, or no token is the end, here as the error `END`.
-pub fn start(tokens: &[u64], pos: usize) -> Step
+// At the top level separators are passed over; `EOF`, which stays unread, or no token is the end, here as the error `END`. Answers past which word a
+// statement begins.
+pub fn start(tokens: &[u64], pos: usize) -> Result<usize, Halt>
     requires { pos ≤ length tokens.now }
-    ensures { Reads (λ q. start_def (length (drop pos tokens.now)) q (drop pos tokens.now)) tokens.now pos pos 0 0 result }
+    ensures { Reads (λ q. start_def (length (drop pos tokens.now)) q (drop pos tokens.now)) tokens.now pos pos result }
 {
-    let mut p = pos;
+    let mut pos = pos;
     loop {
-        match look(tokens, p, 0) {
-            Seen::Token(kind, _, _) => match kind {
-                kind::EOF => return Step::Fail(Failure {
-                    error: number::END,
-                    pos: p,
-                    waiting: 0,
-                }),
-                kind::SEMICOLON => {
-                    p += 2;
+        match look(tokens, pos) {
+            Ok(token) => match token.kind {
+                kind::EOF => {
+                    return Err(Halt::Fail(Failure {
+                        error: number::END,
+                        pos,
+                    }));
                 }
-                _ => return Step::Done(p, 0, 0),
+                kind::SEMICOLON => pos += 2,
+                _ => return Ok(pos),
             },
-            Seen::Not(s) => match s {
-                Step::Fail(f) => {
-                    if f.error == number::END_OF_TOKENS {
-                        return Step::Fail(Failure {
-                            error: number::END,
-                            pos: p,
-                            waiting: 0,
-                        });
-                    }
-                    return Step::Fail(Failure {
-                        error: f.error,
-                        pos: f.pos,
-                        waiting: 0,
-                    });
+            Err(Halt::Fail(failure)) => {
+                if failure.error == number::END_OF_TOKENS {
+                    return Err(Halt::Fail(Failure {
+                        error: number::END,
+                        pos,
+                    }));
                 }
-                _ => return s,
-            },
+                return Err(Halt::Fail(failure));
+            }
+            Err(stop) => return Err(stop),
         }
     }
 }

@@ -1,8 +1,9 @@
 -- What looking at the words of a run finds: the first two as a token, unless they are none. Assumes nothing.
-use Rattle.std.specs.Prelude.{Bool, ◌&&◌, ◌||◌, cond, List, [], ◌∷◌, ℕ, ◌%◌, ◌/◌, eqb, leb, ltb}
+use Rattle.std.specs.Prelude.{Bool, Result, Ok, Err, ◌&&◌, ◌||◌, cond, List, [], ◌∷◌, ℕ, ◌%◌, ◌/◌, eqb, leb, ltb}
 use Rattle.token.specs.Kind
-use Rattle.token.specs.declared.Seen.{Seen}
-use Rattle.token.specs.declared.Seen.TheVariants.{Good, LexerError, Nothing, Bad}
+use Rattle.token.specs.declared.Token.{Token}
+use Rattle.token.specs.declared.Unread.{Unread}
+use Rattle.token.specs.declared.Unread.TheVariants.{LexerError, Nothing, Bad}
 
 -- the kinds that carry a name's number
 abbrev pub has_name : ℕ → Bool
@@ -20,18 +21,18 @@ value_fits kind value = cond (has_name kind) (ltb value 4294967296) (has_bits ki
 abbrev pub token_fits : ℕ → ℕ → ℕ → Bool
 token_fits kind newline value = leb kind Kind.LexerError && leb newline 1 && value_fits kind value
 
-abbrev pub seen_token : ℕ → ℕ → ℕ → Seen
+abbrev pub seen_token : ℕ → ℕ → ℕ → Result Token Unread
 seen_token kind newline value =
     cond (token_fits kind newline value)
-    (cond (eqb kind Kind.LexerError) LexerError (Good (record { kind = kind; newline = newline; value = value })))
-    Bad
+    (cond (eqb kind Kind.LexerError) (Err LexerError) (Ok (record { kind = kind; newline = newline; value = value })))
+    (Err Bad)
 
 -- a record's first word is the kind + 256 × newline, its second the value
-abbrev pub seen_word : ℕ → ℕ → Seen
+abbrev pub seen_word : ℕ → ℕ → Result Token Unread
 seen_word word value = seen_token (word % 256) (word / 256) value
 
 -- a single word is no record
-unfoldable pub seen : List ℕ → Seen
-seen [] = Nothing
-seen (word ∷ []) = Nothing
+unfoldable pub seen : List ℕ → Result Token Unread
+seen [] = Err Nothing
+seen (word ∷ []) = Err Nothing
 seen (word ∷ value ∷ rest) = seen_word word value

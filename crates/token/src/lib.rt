@@ -7,17 +7,16 @@ ghost use Rattle.token.specs.Look.{value_fits as value_fits_def, seen};
 pub mod kind;
 
 // A token: its kind, 1 if it is the first of its line and else 0, and the name number or bits that it carries.
-#[derive(Drop)]
+#[derive(Clone, Copy)]
 pub struct Token {
     pub kind: u64,
     pub newline: u64,
     pub value: u64,
 }
 
-// What stands at a place: a token; the error that the lexer met there; nothing, where no two words are left; words that are no token's.
-#[derive(Drop)]
-pub enum Seen {
-    Good(Token),
+// Why no token stands at a place: the lexer met an error there; no two words are left; the words are no token's.
+#[derive(Clone, Copy)]
+pub enum Unread {
     LexerError,
     Nothing,
     Bad,
@@ -31,42 +30,39 @@ fn value_fits(kind: u64, value: u64) -> bool
     ensures { result ≡ value_fits_def kind value }
 {
     match kind {
-        kind::IDENTIFIER => value < NAMES,
-        kind::STRING_LITERAL => value < NAMES,
-        kind::LABEL => value < NAMES,
-        kind::INTEGER_LITERAL => true,
-        kind::FLOAT_LITERAL => true,
+        kind::IDENTIFIER | kind::STRING_LITERAL | kind::LABEL => value < NAMES,
+        kind::INTEGER_LITERAL | kind::FLOAT_LITERAL => true,
         _ => value == 0,
     }
 }
 
-// What the word at this place and the one behind it say. The place may lie past the end.
-pub fn look(tokens: &[u64], at: usize) -> Seen
+// The token of the word at this place and the one behind it. The place may lie past the end.
+pub fn look(tokens: &[u64], at: usize) -> Result<Token, Unread>
     ensures { result ≡ seen (drop at tokens.now) }
 {
     if tokens.len() < 2 {
-        return Seen::Nothing;
+        return Err(Unread::Nothing);
     }
     if tokens.len() - 2 < at {
-        return Seen::Nothing;
+        return Err(Unread::Nothing);
     }
     let word = tokens[at];
     let value = tokens[at + 1];
     let kind = word % 256;
     let newline = word / 256;
     if kind::LEXER_ERROR < kind {
-        return Seen::Bad;
+        return Err(Unread::Bad);
     }
     if 1 < newline {
-        return Seen::Bad;
+        return Err(Unread::Bad);
     }
     if !value_fits(kind, value) {
-        return Seen::Bad;
+        return Err(Unread::Bad);
     }
     if kind == kind::LEXER_ERROR {
-        return Seen::LexerError;
+        return Err(Unread::LexerError);
     }
-    Seen::Good(Token {
+    Ok(Token {
         kind,
         newline,
         value,

@@ -7,8 +7,9 @@ use Prim.Native.Nat.{ℕ, zero, suc}
 use Rattle.std.proofs.Common.{arith}
 use Rattle.token.specs.Kind
 use Rattle.token.specs.declared.Token.{Token}
-use Rattle.token.specs.declared.Seen.{Seen}
-use Rattle.token.specs.declared.Seen.TheVariants.{Good, LexerError, Nothing, Bad}
+use Rattle.std.proofs.Common.{Result, Ok, Err}
+use Rattle.token.specs.declared.Unread.{Unread}
+use Rattle.token.specs.declared.Unread.TheVariants.{LexerError, Nothing, Bad}
 use Rattle.tree.specs.Tree.{Tree, Forest, empty}
 use Rattle.tree.specs.Maybe.{Maybe, nothing, just}
 use Rattle.grammar.specs.Reading.Limit.{malformed, too_deep}
@@ -38,12 +39,12 @@ pub record Nums (J : Error → Type 0) (low : Depth) : Type 0 where
 
 -- where J holds of each error's number but 24, 28 and 32
 module _ {J : Error → Type 0} (others : (e : Error) → ErrorBut three_never e → J e) where
-  looked_nums : (n : ℕ) (q : List Error) (r : List ℕ) (s : Seen) → Waits J n q → Num J n (looked q r s)
+  looked_nums : (n : ℕ) (q : List Error) (r : List ℕ) (s : (Result Token Unread)) → Waits J n q → Num J n (looked q r s)
   unfolding looked
-  looked_nums m q r (Good tok) w = n_ok
-  looked_nums m q r LexerError w = n_fail (others _ refl) w
-  looked_nums m q r Nothing w = n_fail (others _ refl) w
-  looked_nums m q r Bad w = n_stop {k = malformed} (refl, omega arith)
+  looked_nums m q r (Ok tok) w = n_ok
+  looked_nums m q r (Err LexerError) w = n_fail (others _ refl) w
+  looked_nums m q r (Err Nothing) w = n_fail (others _ refl) w
+  looked_nums m q r (Err Bad) w = n_stop {k = malformed} (refl, omega arith)
 
   pub look_nums : Numbered J look
   unfolding look

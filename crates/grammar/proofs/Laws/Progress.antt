@@ -4,8 +4,9 @@ use Rattle.std.specs.Prelude.{Bool}
 use mathlib.Core.List.{List, [], ◌∷◌}
 use Prim.Native.Nat.{ℕ, zero, suc}
 use Rattle.token.specs.declared.Token.{Token}
-use Rattle.token.specs.declared.Seen.{Seen}
-use Rattle.token.specs.declared.Seen.TheVariants.{Good, LexerError, Nothing, Bad}
+use Rattle.std.proofs.Common.{Result, Ok, Err}
+use Rattle.token.specs.declared.Unread.{Unread}
+use Rattle.token.specs.declared.Unread.TheVariants.{LexerError, Nothing, Bad}
 use Rattle.tree.specs.Tree.{Tree, Forest}
 use Rattle.tree.specs.Maybe.{Maybe, nothing, just}
 use Rattle.grammar.specs.Reading.Result.{Error, Res}
@@ -20,12 +21,12 @@ use Rattle.grammar.specs.Reading.Next.{start, failed, next}
 use Rattle.grammar.proofs.Laws.Keep.{Keep, k_ok, k_bad, k_fail, k_stop, Kept, Near, here, past, k_weaken, k_lose, k_on, First, Behind, Keeps, keeps}
 
 module _ (I : List ℕ → Type 0) (step : Kept I) where
-  looked_keeps : (q : List Error) (r : List ℕ) (s : Seen) → I r → Keep I (λ e. I) (looked q r s)
+  looked_keeps : (q : List Error) (r : List ℕ) (s : (Result Token Unread)) → I r → Keep I (λ e. I) (looked q r s)
   unfolding looked
-  looked_keeps q r (Good tok) i = k_ok i
-  looked_keeps q r LexerError i = k_fail i
-  looked_keeps q r Nothing i = k_fail i
-  looked_keeps q r Bad i = k_stop
+  looked_keeps q r (Ok tok) i = k_ok i
+  looked_keeps q r (Err LexerError) i = k_fail i
+  looked_keeps q r (Err Nothing) i = k_fail i
+  looked_keeps q r (Err Bad) i = k_stop
 
   pub look_keeps : First I look
   unfolding look

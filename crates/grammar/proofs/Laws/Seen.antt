@@ -4,7 +4,8 @@ use Rattle.std.proofs.Common.{sym}
 use Rattle.token.specs.Kind
 use Rattle.token.specs.Look.{value_fits, token_fits, seen_token}
 use Rattle.token.specs.declared.Token.{Token}
-use Rattle.token.specs.declared.Seen.TheVariants.{Good, LexerError, Bad}
+use Rattle.std.proofs.Common.{Ok, Err}
+use Rattle.token.specs.declared.Unread.TheVariants.{LexerError, Bad}
 use Rattle.grammar.specs.Reading.Result.{Error}
 use Rattle.grammar.specs.Reading.Look.{looked, look}
 use Rattle.grammar.proofs.Laws.Facts.{other, and_r}
@@ -31,7 +32,7 @@ unfolding looked
 looked_sees q rest ts k n v h = go (token_fits k n v) refl (eqb k Kind.LexerError) refl
   where
     go : (b : Bool) → token_fits k n v ≡ b → (c : Bool) → eqb k Kind.LexerError ≡ c
-        → Yields (Saw ts) (λ e r. NotClose ts) (looked q rest (cond b (cond c LexerError (Good (record { kind = k; newline = n; value = v }))) Bad))
+        → Yields (Saw ts) (λ e r. NotClose ts) (looked q rest (cond b (cond c (Err LexerError) (Ok (record { kind = k; newline = n; value = v }))) (Err Bad)))
     go true e true f = k_fail (rw (sym h) (other k Kind.LexerError Kind.CloseParen f refl))
     go true e false f = k_ok (record { at = h; fits = and_r (leb k Kind.LexerError && leb n 1) (value_fits k v) e })
     go false e c f = k_stop

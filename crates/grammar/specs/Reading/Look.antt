@@ -1,10 +1,10 @@
 -- Looking at a token, which is a reading too: `advance` goes on with the words behind it, `peek` with the old ones. Definitions; they assume nothing.
-use Rattle.std.specs.Prelude.{cond, List, [], ◌∷◌, ℕ, zero, suc, eqb}
+use Rattle.std.specs.Prelude.{cond, List, [], ◌∷◌, ℕ, zero, suc, eqb, Result, Ok, Err}
 use Rattle.token.specs.Kind
 use Rattle.token.specs.Look.{seen_word}
 use Rattle.token.specs.declared.Token.{Token}
-use Rattle.token.specs.declared.Seen.{Seen}
-use Rattle.token.specs.declared.Seen.TheVariants.{Good, LexerError, Nothing, Bad}
+use Rattle.token.specs.declared.Unread.{Unread}
+use Rattle.token.specs.declared.Unread.TheVariants.{LexerError, Nothing, Bad}
 use Rattle.tree.specs.Tree.{Tree}
 use Rattle.tree.specs.Node
 use Rattle.tree.specs.Maybe.{Maybe, nothing, just}
@@ -13,11 +13,11 @@ use Rattle.grammar.specs.Reading.Number
 use Rattle.grammar.specs.Reading.Result.{Error, Res, ok, fail, stop, then, ifb}
 
 -- a lexer error is taken, also by a peek; a bad record stops the reading. Two words are never `Nothing`: that clause is never reached
-unfoldable pub looked : List Error → List ℕ → Seen → Res Token
-looked q rest (Good tok) = ok tok rest
-looked q rest LexerError = fail Number.lexer_error q rest
-looked q rest Nothing = fail Number.end_of_tokens q rest
-looked q rest Bad = stop malformed
+unfoldable pub looked : List Error → List ℕ → (Result Token Unread) → Res Token
+looked q rest (Ok tok) = ok tok rest
+looked q rest (Err LexerError) = fail Number.lexer_error q rest
+looked q rest (Err Nothing) = fail Number.end_of_tokens q rest
+looked q rest (Err Bad) = stop malformed
 
 -- the next token: two words, and what stands behind them
 unfoldable pub look : List Error → List ℕ → Res Token

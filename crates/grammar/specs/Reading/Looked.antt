@@ -1,9 +1,10 @@
 -- Which tokens a reading and a call look at. A reading looks at a token, or at the place behind the last one, exactly if it would meet a bad record that stood there;
 -- it looks at no token behind a bad record. Definitions; they assume nothing.
-use Rattle.std.specs.Prelude.{◌≡◌, refl, Bool, true, false, not, ◌&&◌, ◌||◌, List, [], ◌∷◌, ℕ, suc, ◌+◌, ◌-◌, ◌*◌, ◌/◌, ◌%◌, eqb, ltb, length, drop}
+use Rattle.std.specs.Prelude.{◌≡◌, refl, Bool, true, false, not, ◌&&◌, ◌||◌, List, [], ◌∷◌, ℕ, suc, ◌+◌, ◌-◌, ◌*◌, ◌/◌, ◌%◌, eqb, ltb, length, drop, Result, Ok, Err}
 use Rattle.token.specs.Look.{seen_word}
-use Rattle.token.specs.declared.Seen.{Seen}
-use Rattle.token.specs.declared.Seen.TheVariants.{Good, LexerError, Nothing, Bad}
+use Rattle.token.specs.declared.Unread.{Unread}
+use Rattle.token.specs.declared.Token.{Token}
+use Rattle.token.specs.declared.Unread.TheVariants.{LexerError, Nothing, Bad}
 use Rattle.tree.specs.NodeKind
 use Rattle.tree.specs.Tree.{Tree, kind_of}
 use Rattle.grammar.specs.Reading.Limit.{depth_limit, length_limit, queue_limit, store_share, malformed}
@@ -17,7 +18,7 @@ pub record BadRecord : Type 0 where
   pub word : ℕ
   pub value : ℕ
   pub behind : List ℕ
-  pub is : seen_word word value ≡ Bad
+  pub is : seen_word word value ≡ (Err Bad)
 
 abbrev pub words_of : BadRecord → List ℕ
 words_of b = b.word ∷ b.value ∷ b.behind
@@ -38,11 +39,11 @@ abbrev pub looks_first : {A : Type 0} → (List ℕ → Res A) → Bool
 looks_first m = meets (m (words_of bad_record))
 
 -- two words that are seen so are a bad record
-unfoldable pub is_bad : Seen → Bool
-is_bad (Good tok) = false
-is_bad LexerError = false
-is_bad Nothing = false
-is_bad Bad = true
+unfoldable pub is_bad : (Result Token Unread) → Bool
+is_bad (Ok tok) = false
+is_bad (Err LexerError) = false
+is_bad (Err Nothing) = false
+is_bad (Err Bad) = true
 
 -- the furthest token of ts that the reading m looks at, counted from 1; 0 if it looks at none; one more than there are if it looks for a token behind the last
 unfoldable pub looks : {A : Type 0} → (List ℕ → Res A) → List ℕ → ℕ

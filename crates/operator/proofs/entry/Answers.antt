@@ -9,4 +9,4 @@ returns-then-kind-gt-LEXER_ERROR c = sym (decision_far _ _ (omega arith))
 
 pub returns : goal.returns
 returns c = let p = c.requires in
-    c.wide.ensures ∙ entry_is _ p.0 _ _ (omega arith) p.1
+    c.from.ensures ∙ entry_is _ p.0 _ _ (omega arith) p.1

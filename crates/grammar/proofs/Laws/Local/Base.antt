@@ -8,8 +8,9 @@ use Rattle.std.proofs.Math.Bool.{true}
 use mathlib.Core.List.{List, [], ◌∷◌}
 use Rattle.token.specs.Look.{seen_word}
 use Rattle.token.specs.declared.Token.{Token}
-use Rattle.token.specs.declared.Seen.{Seen}
-use Rattle.token.specs.declared.Seen.TheVariants.{Good, LexerError, Nothing, Bad}
+use Rattle.std.proofs.Common.{Result, Ok, Err}
+use Rattle.token.specs.declared.Unread.{Unread}
+use Rattle.token.specs.declared.Unread.TheVariants.{LexerError, Nothing, Bad}
 use Rattle.grammar.specs.Reading.Limit.{malformed}
 use Rattle.grammar.specs.Reading.Result.{Error, Res, ok, bad, fail, stop, unclean, either, then, ifb, push, pop}
 use Rattle.grammar.specs.Reading.Look.{looked, look}
@@ -155,21 +156,21 @@ module _ {b : BadRecord} {X : List ℕ} where
   on_look_behind : {A B : Type 0} {ts us : List ℕ} {go go' : A → List Error → List ℕ → Res B} → OnLook b X ts us go go' → Left X us → (a : A) (q : List Error) (r : List ℕ) → Left X r → Reached X (go' a q r)
   on_look_behind h l a q r i = reached (h false a q r r (a_behind l) (a_behind i))
 
-  looked_then : {B : Type 0} (q : List Error) {r s : List ℕ} (x : Seen) {go go' : Token → List Error → List ℕ → Res B} → Alike b X true r s → OnAt b X true go go'
+  looked_then : {B : Type 0} (q : List Error) {r s : List ℕ} (x : (Result Token Unread)) {go go' : Token → List Error → List ℕ → Res B} → Alike b X true r s → OnAt b X true go go'
       → Local b X true (then q (looked q r x) go) (then q (looked q s x) go')
   unfolding looked then
-  looked_then q (Good tok) t h = h tok q _ _ t
-  looked_then q LexerError t h = l_fail t
-  looked_then q Nothing t h = l_fail t
-  looked_then q Bad t h = l_stop
+  looked_then q (Ok tok) t h = h tok q _ _ t
+  looked_then q (Err LexerError) t h = l_fail t
+  looked_then q (Err Nothing) t h = l_fail t
+  looked_then q (Err Bad) t h = l_stop
 
-  looked_either : {B : Type 0} (q : List Error) {r s : List ℕ} (x : Seen) {go go' : Token → List Error → List ℕ → Res B} {or or' : Error → List Error → List ℕ → Res B}
+  looked_either : {B : Type 0} (q : List Error) {r s : List ℕ} (x : (Result Token Unread)) {go go' : Token → List Error → List ℕ → Res B} {or or' : Error → List Error → List ℕ → Res B}
       → Alike b X true r s → OnAt b X true go go' → OnAt b X true or or' → Local b X true (either q (looked q r x) go or) (either q (looked q s x) go' or')
   unfolding looked either
-  looked_either q (Good tok) t h k = h tok q _ _ t
-  looked_either q LexerError t h k = at_unclean _ (k _ q _ _ t)
-  looked_either q Nothing t h k = at_unclean _ (k _ q _ _ t)
-  looked_either q Bad t h k = l_stop
+  looked_either q (Ok tok) t h k = h tok q _ _ t
+  looked_either q (Err LexerError) t h k = at_unclean _ (k _ q _ _ t)
+  looked_either q (Err Nothing) t h k = at_unclean _ (k _ q _ _ t)
+  looked_either q (Err Bad) t h k = l_stop
 
   pub look_then : {f : Bool} {B : Type 0} (q : List Error) {ts us : List ℕ} {go go' : Token → List Error → List ℕ → Res B} → Alike b X f ts us → OnLook b X ts us go go'
       → Local b X f (then q (look q ts) go) (then q (look q us) go')

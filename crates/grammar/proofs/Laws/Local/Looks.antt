@@ -8,8 +8,10 @@ use Rattle.std.proofs.Math.Bool.{true}
 use mathlib.Core.List.{List, [], ◌∷◌, ◌++◌}
 use Rattle.std.proofs.Math.Dec.{leb-suc-zero, leb-suc-suc}
 use Rattle.token.specs.Look.{seen_word}
-use Rattle.token.specs.declared.Seen.{Seen}
-use Rattle.token.specs.declared.Seen.TheVariants.{Good, LexerError, Nothing, Bad}
+use Rattle.std.proofs.Common.{Result, Ok, Err}
+use Rattle.token.specs.declared.Unread.{Unread}
+use Rattle.token.specs.declared.Token.{Token}
+use Rattle.token.specs.declared.Unread.TheVariants.{LexerError, Nothing, Bad}
 use Rattle.grammar.specs.Reading.Limit.{malformed}
 use Rattle.grammar.specs.Reading.Result.{Error, Res, stop, either, then, ifb}
 use Rattle.grammar.specs.Reading.Look.{looked, look}
@@ -100,7 +102,7 @@ module _ {A : Type 0} {m : List ℕ → Res A} (l : IsLocal m) where
       go (l_met k) e = k
 
   -- a reading that meets one bad record meets any that stands there
-  pub stops : (w v : ℕ) (Z : List ℕ) → seen_word w v ≡ Bad → looks_first m ≡ true → m (w ∷ v ∷ Z) ≡ stop malformed
+  pub stops : (w v : ℕ) (Z : List ℕ) → seen_word w v ≡ (Err Bad) → looks_first m ≡ true → m (w ∷ v ∷ Z) ≡ stop malformed
   unfolding meets
   stops w v Z e = go (l (record { word = w; value = v; behind = Z; is = e }) (words_of bad_record) _ _ a_place)
     where
@@ -115,15 +117,15 @@ module _ {A : Type 0} {m : List ℕ → Res A} (l : IsLocal m) where
 pub data LooksAt {A : Type 0} : (List ℕ → Res A) → List ℕ → ℕ → Type 0 where
   looks_none : {m : List ℕ → Res A} {ts : List ℕ} → looks_first m ≡ false → LooksAt m ts 0
   looks_behind : {m : List ℕ → Res A} {ts : List ℕ} → looks_first m ≡ true → length ts < 2 → LooksAt m ts 1
-  looks_bad : {m : List ℕ → Res A} {w v : ℕ} {ts : List ℕ} → looks_first m ≡ true → seen_word w v ≡ Bad → LooksAt m (w ∷ v ∷ ts) 1
+  looks_bad : {m : List ℕ → Res A} {w v : ℕ} {ts : List ℕ} → looks_first m ≡ true → seen_word w v ≡ (Err Bad) → LooksAt m (w ∷ v ∷ ts) 1
   looks_token : {m : List ℕ → Res A} {w v n : ℕ} {ts : List ℕ} → looks_first m ≡ true → is_bad (seen_word w v) ≡ false → LooksAt (λ r. m (w ∷ v ∷ r)) ts n → LooksAt m (w ∷ v ∷ ts) (suc n)
 
-bad_is : (x : Seen) → is_bad x ≡ true → x ≡ Bad
+bad_is : (x : (Result Token Unread)) → is_bad x ≡ true → x ≡ (Err Bad)
 unfolding is_bad
-bad_is (Good tok) e = clash e refl
-bad_is LexerError e = clash e refl
-bad_is Nothing e = clash e refl
-bad_is Bad e = refl
+bad_is (Ok tok) e = clash e refl
+bad_is (Err LexerError) e = clash e refl
+bad_is (Err Nothing) e = clash e refl
+bad_is (Err Bad) e = refl
 
 pub looks_at : {A : Type 0} (m : List ℕ → Res A) (ts : List ℕ) → LooksAt m ts (looks m ts)
 unfolding looks ifb

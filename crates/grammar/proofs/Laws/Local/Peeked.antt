@@ -4,8 +4,10 @@
 use Rattle.std.specs.Prelude.{◌≡◌, refl, ◌⊎◌, Bool, true, false, List, [], ◌∷◌, ℕ, zero, suc, ◌+◌, ◌*◌, ◌%◌, ◌≤◌, ◌<◌, eqb, length}
 use Rattle.std.proofs.Common.{◌∙◌, inl, inr, arith}
 use Rattle.token.specs.Look.{seen_word, seen}
-use Rattle.token.specs.declared.Seen.{Seen}
-use Rattle.token.specs.declared.Seen.TheVariants.{Good, LexerError, Nothing, Bad}
+use Rattle.std.proofs.Common.{Result, Ok, Err}
+use Rattle.token.specs.declared.Unread.{Unread}
+use Rattle.token.specs.declared.Token.{Token}
+use Rattle.token.specs.declared.Unread.TheVariants.{LexerError, Nothing, Bad}
 use Rattle.tree.specs.Tree.{Tree}
 use Rattle.grammar.specs.Reading.Number
 use Rattle.grammar.specs.Reading.Result.{Error, Res, ok, unclean, either, then, ifb}
@@ -102,11 +104,11 @@ look_fits q [] = k_fail (refl, refl)
 look_fits q (w ∷ []) = k_fail (refl, refl)
 look_fits q (w ∷ (v ∷ r)) = go (seen_word w v)
   where
-    go : (x : Seen) → Keep (λ s. is_bad x ≡ false) (λ e s. (is_bad x ≡ false) × (no_lexer e ≡ eqb e Number.end_of_tokens)) (looked q r x)
-    go (Good tok) = k_ok refl
-    go LexerError = k_fail (refl, refl)
-    go Nothing = k_fail (refl, refl)
-    go Bad = k_stop
+    go : (x : (Result Token Unread)) → Keep (λ s. is_bad x ≡ false) (λ e s. (is_bad x ≡ false) × (no_lexer e ≡ eqb e Number.end_of_tokens)) (looked q r x)
+    go (Ok tok) = k_ok refl
+    go (Err LexerError) = k_fail (refl, refl)
+    go (Err Nothing) = k_fail (refl, refl)
+    go (Err Bad) = k_stop
 
 look_takes : (w v : ℕ) (r : List ℕ) (q : List Error) → Keep (λ s. Fits (w ∷ v ∷ r) × Left r s) (λ e s. AtLook (w ∷ v ∷ r) e s × Left r s) (look q (w ∷ v ∷ r))
 look_takes w v r q = k_both (look_fits q (w ∷ v ∷ r)) (look_keeps (Left r) (left_step r) q (w ∷ v ∷ r) (past (omega arith)))
