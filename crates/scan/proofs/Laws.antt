@@ -1,27 +1,22 @@
 -- Combinators over the contracts: they hold for any grammar. Assumes nothing.
 use mathlib.Core.Path.{◌≡◌, refl, sym, ap, ◌∙◌, subst}
-use mathlib.Core.Logic.{⊎_elim}
 use mathlib.Core.List.{List, [], ◌∷◌, ◌++◌, append_assoc}
 use Prim.Native.Nat.{ℕ, ◌+◌, ◌*◌, ◌≤◌}
 use native.Mathlib.Omega.{arith}
-use types.Run.{OneOf}
-use denote.Enum.Declared.{tag_of}
 use lib.ListN.{length, take, drop}
 use lib.Seq.{take-take}
 use Rattle.token.specs.declared.Token.{Token}
-use Rattle.grammar.specs.Reading.Limit.{queue_limit}
 use Rattle.grammar.specs.Reading.Result.{Res, ok, bad, fail, stop, unclean, either, then, Error}
 use Rattle.grammar.specs.Reading.Look.{look}
 use Rattle.grammar.proofs.Laws.Keep.{Keep, k_ok, k_bad, k_fail, k_stop}
-use Rattle.scan.specs.Post.{Out, won, lost, halt, out, As, clean, Moved, Room, Lost, FailedAs, Failed, Wrote, Agrees, Unread, Taken, Missed, Saw, Got, Passed, Reads, NumberAt, Finds, waiting_errors}
+use Rattle.scan.specs.Post.{Out, won, lost, halt, out, As, clean, Moved, Room, Lost, FailedAs, Failed, Wrote, Agrees, Crosses, Unread, Taken, Missed, Saw, Got, Reads, NumberAt, Finds}
+use Rattle.std.proofs.Common.{Result, Ok, Err}
+use Rattle.std.specs.Result.{IsErrAnd}
+use Rattle.scan.specs.declared.Cursor.{Cursor}
 use Rattle.scan.specs.declared.Failure.{Failure}
-use Rattle.scan.specs.declared.Step.{Step}
-use Rattle.scan.specs.declared.Step.TheVariants.{Done, Fail, Stop}
-use Rattle.scan.specs.declared.Seen.{Seen}
-use Rattle.scan.specs.declared.Seen.TheVariants.{Token as Took, Not}
 use Rattle.scan.specs.declared.Found.{Found}
-use Rattle.scan.specs.declared.Found.TheVariants.{At, Not as Nor}
-use Rattle.scan.specs.contracts.Step.{the_type}
+use Rattle.scan.specs.declared.Halt.{Halt}
+use Rattle.scan.specs.declared.Halt.TheVariants.{Fail, Stop}
 use Rattle.scan.proofs.Text.{prefix_of}
 
 -- seen as
@@ -141,82 +136,72 @@ module _ {A B : Type 0} {D : Res B} {d : Res A} {q q₁ : List Error} (go : A �
   pub halts : (or : ℕ → List Error → List ℕ → Res B) {n : ℕ} → As q D q₁ (either q₁ d go or) → As q₁ d [] (stop n) → As q D [] (stop n)
   halts or a b = record { is = a.is ∙ either_halt go or q₁ d b.is }
 
+-- what a `?` hands on is what the call answered
+pub handed : {A : Type 0} {h : Halt} {r : Result A Halt} → IsErrAnd r (λ e. e ≡ h) → r ≡ Err h
+handed {r = Ok x} e = absurd e
+handed {r = Err g} e = ap Err e
+
 -- from what a call answered
-module _ {A : Type 0} {words : A → List ℕ} {d : Res A} {T : List ℕ} {pos least slack at w₀ : ℕ} {S Q S' Q' : List ℕ} where
-  pub done : {p a w : ℕ} {r : Step} → r ≡ Done p a w → Agrees words d T pos least slack at w₀ S Q S' Q' r → Wrote words d clean T pos least slack at w₀ S Q p a w S' Q'
-  done e h = rw e at h.how
+module _ {A : Type 0} {words : A → List ℕ} {d : Res A} {T : List ℕ} {pos least slack at : ℕ} {S Q S' Q' : List ℕ} where
+  pub done : {c : Cursor} → Agrees words d T pos least slack at S Q S' Q' (Ok c) → Wrote words d clean T pos least slack at S Q c.pos c.at S' Q'
+  done a = a.how
 
-  pub missed : {f : Failure} {r : Step} → r ≡ Fail f → Agrees words d T pos least slack at w₀ S Q S' Q' r → Lost d T pos least at w₀ S Q f S' Q'
-  missed q h = (rw q at h.how).how
-
-  pub undone : {r : Step} → OneOf (1 ∷ 2 ∷ []) (tag_of the_type r) → Agrees words d T pos least slack at w₀ S Q S' Q' r → Failed d T pos least at w₀ S Q S' Q' r
-  undone {r = Done p a w} o h = absurd (⊎_elim (λ e. omega arith) (λ e. omega arith) o)
-  undone {r = Fail failure} o h = h.how
-  undone {r = Stop n} o h = h.how
-
-  pub stopped : {r : Step} → OneOf (2 ∷ []) (tag_of the_type r) → Agrees words d T pos least slack at w₀ S Q S' Q' r → Failed d T pos least at w₀ S Q S' Q' r
-  stopped {r = Done p a w} o h = absurd (omega arith)
-  stopped {r = Fail failure} o h = absurd (omega arith)
-  stopped {r = Stop n} o h = h.how
+  pub undone : {h : Halt} → Agrees words d T pos least slack at S Q S' Q' (Err h) → Failed d T pos least at S Q S' Q' h
+  undone a = a.how
 
   -- to what a function answers
-  pub did_not : {r : Step} → Failed d T pos least at w₀ S Q S' Q' r → Agrees words d T pos least slack at w₀ S Q S' Q' r
-  did_not {r = Done p a w} f = absurd f.how
-  did_not {r = Fail failure} f = record { how = f }
-  did_not {r = Stop n} f = record { how = f }
+  pub did_not : {h : Halt} → Failed d T pos least at S Q S' Q' h → Agrees words d T pos least slack at S Q S' Q' (Err h)
+  did_not f = record { how = f }
 
-module _ {A B : Type 0} {words : A → List ℕ} {D : Res B} {d : Res A} {T : List ℕ} {pos least at w₀ : ℕ} {S Q : List ℕ} {pos₁ least₁ slack₁ at₁ w₁ : ℕ} {S₁ Q₁ S' Q' : List ℕ} (go : A → List Error → List ℕ → Res B) (or : ℕ → List Error → List ℕ → Res B) where
+-- an error, or a stop
+module _ {A : Type 0} {d : Res A} {T : List ℕ} {pos least at : ℕ} {S Q S' Q' : List ℕ} where
+  pub missed : {f : Failure} {h : Halt} → h ≡ Fail f → Failed d T pos least at S Q S' Q' h → Lost d T pos least at S Q f S' Q'
+  missed e g = rw e at g.how
+
+module _ {A B : Type 0} {D : Res B} {d : Res A} {T : List ℕ} {pos least at : ℕ} {S Q : List ℕ} {pos₁ least₁ at₁ : ℕ} {S₁ Q₁ S' Q' : List ℕ} (go : A → List Error → List ℕ → Res B) (or : ℕ → List Error → List ℕ → Res B) where
   -- D goes on from d, by `go` or `or`, and d stopped
-  pub stops : {r : Step} → As (waiting_errors w₀ Q) D (waiting_errors w₁ Q₁) (either (waiting_errors w₁ Q₁) d go or) → OneOf (2 ∷ []) (tag_of the_type r) → Agrees words d T pos₁ least₁ slack₁ at₁ w₁ S₁ Q₁ S' Q' r → Failed D T pos least at w₀ S Q S' Q' r
-  stops {r = Done p b w} a o h = absurd (omega arith)
-  stops {r = Fail failure} a o h = absurd (omega arith)
-  stops {r = Stop n} a o h = record { how = halts go or a h.how.how }
+  pub stops : {n : ℕ} → As Q D Q₁ (either Q₁ d go or) → Failed d T pos₁ least₁ at₁ S₁ Q₁ S' Q' (Stop n) → Failed D T pos least at S Q S' Q' (Stop n)
+  stops a f = record { how = halts go or a f.how }
 
 -- what has no store fails with any
-pub elsewhere : {A : Type 0} {d : Res A} {T : List ℕ} {pos least at w₀ : ℕ} {Q Q' : List ℕ} {r : Step} (S : List ℕ) → Failed d T pos least at w₀ [] Q [] Q' r → Failed d T pos least at w₀ S Q S Q' r
-elsewhere {r = Done p a w} S f = record { how = f.how }
-elsewhere {r = Fail failure} S f = record { how = record { same = f.how.same; moved = f.how.moved; far = f.how.far; text = refl } }
-elsewhere {r = Stop n} S f = record { how = f.how }
+pub elsewhere : {A : Type 0} {d : Res A} {T : List ℕ} {pos least at : ℕ} {Q Q' : List ℕ} {h : Halt} (S : List ℕ) → Failed d T pos least 0 [] Q [] Q' h → Failed d T pos least at S Q S Q' h
+elsewhere {h = Fail failure} S f = record { how = record { same = f.how.same; moved = f.how.moved; far = f.how.far; text = refl } }
+elsewhere {h = Stop n} S f = record { how = f.how }
 
 -- TOKENS
-pub taken : {T : List ℕ} {pos w k n v : ℕ} {s : Seen} → s ≡ Took k n v → Saw T pos w s → Taken T pos k n v
-taken e h = rw e at h.how
-
-pub not_taken : {T : List ℕ} {pos w : ℕ} {s : Seen} {r : Step} → s ≡ Not r → Saw T pos w s → Saw T pos w (Not r)
-not_taken e h = rw e at h
+pub taken : {T : List ℕ} {pos : ℕ} {tok : Token} → Saw T pos (Ok tok) → Taken T pos tok.kind tok.newline tok.value
+taken s = s.how
 
 -- a call further on, as what went before sees it
-pub record Later (pos least at w₀ pos₁ least₁ at₁ w₁ : ℕ) : Type 0 where
+pub record Later (pos least at pos₁ least₁ at₁ : ℕ) (Q Q₁ : List ℕ) : Type 0 where
   pub pos_le : pos ≤ pos₁
   pub least_le : least ≤ least₁
   pub at_le : at ≤ at₁
-  pub w_le : w₀ ≤ w₁
+  pub w_le : length Q ≤ length Q₁
 
 pub shorter : (S S₁ : List ℕ) (at at₁ : ℕ) → at ≤ at₁ → take at₁ S ≡ take at₁ S₁ → take at S ≡ take at S₁
 shorter S S₁ at at₁ h e = sym (take-take at at₁ S h) ∙ ap (take at) e ∙ take-take at at₁ S₁ h
 
-module _ {B : Type 0} {D : Res B} {T : List ℕ} {pos least at w₀ : ℕ} {S Q : List ℕ} {pos₁ least₁ at₁ w₁ : ℕ} {S₁ Q₁ S' Q' : List ℕ} where
+module _ {B : Type 0} {D : Res B} {T : List ℕ} {pos least at : ℕ} {S Q : List ℕ} {pos₁ least₁ at₁ : ℕ} {S₁ Q₁ S' Q' : List ℕ} where
   -- D is at last d, which failed
-  pub onto : {d : Res B} {r : Step} → As (waiting_errors w₀ Q) D (waiting_errors w₁ Q₁) d → Failed d T pos₁ least₁ at₁ w₁ S₁ Q₁ S' Q' r → take at S₁ ≡ take at S → Later pos least at w₀ pos₁ least₁ at₁ w₁ → Failed D T pos least at w₀ S Q S' Q' r
-  onto {r = Done p b w} a f x l = record { how = f.how }
-  onto {r = Fail failure} a f x l =
+  pub onto : {d : Res B} {h : Halt} → As Q D Q₁ d → Failed d T pos₁ least₁ at₁ S₁ Q₁ S' Q' h → take at S₁ ≡ take at S → Later pos least at pos₁ least₁ at₁ Q Q₁ → Failed D T pos least at S Q S' Q' h
+  onto {h = Fail failure} a f x l =
       let g = f.how in
       let m = g.moved in
       let h = g.far in
       record { how = record { same = link a g.same; moved = omega arith; far = omega arith; text = shorter S' S₁ at at₁ l.at_le g.text ∙ x } }
-  onto {r = Stop n} a f x l = record { how = link a f.how }
+  onto {h = Stop n} a f x l = record { how = link a f.how }
 
-then_failed : {A B : Type 0} {d : Res A} (k : A → List Error → List ℕ → Res B) {T : List ℕ} {pos least at w₀ : ℕ} {S Q S' Q' : List ℕ} (r : Step) → Failed d T pos least at w₀ S Q S' Q' r → FailedAs (then (waiting_errors w₀ Q) d k) T pos least at w₀ S Q S' Q' r
-then_failed k (Done p a w) h = h.how
-then_failed {d = d} k {w₀ = w₀} {Q = Q} (Fail failure) h =
-    let g = h.how in
-    record { same = record { is = then_lost k (waiting_errors w₀ Q) d g.same.is }; moved = g.moved; far = g.far; text = g.text }
-then_failed {d = d} k {w₀ = w₀} {Q = Q} (Stop n) h = record { is = then_halt k (waiting_errors w₀ Q) d h.how.is }
+then_failed : {A B : Type 0} {d : Res A} (k : A → List Error → List ℕ → Res B) {T : List ℕ} {pos least at : ℕ} {S Q S' Q' : List ℕ} (h : Halt) → Failed d T pos least at S Q S' Q' h → FailedAs (then Q d k) T pos least at S Q S' Q' h
+then_failed {d = d} k {Q = Q} (Fail failure) f =
+    let g = f.how in
+    record { same = record { is = then_lost k Q d g.same.is }; moved = g.moved; far = g.far; text = g.text }
+then_failed {d = d} k {Q = Q} (Stop n) f = record { is = then_halt k Q d f.how.is }
 
-module _ {A B : Type 0} {D : Res B} {d : Res A} {T : List ℕ} {pos least at w₀ : ℕ} {S Q : List ℕ} {pos₁ least₁ at₁ w₁ : ℕ} {S₁ Q₁ S' Q' : List ℕ} {r : Step} where
+module _ {A B : Type 0} {D : Res B} {d : Res A} {T : List ℕ} {pos least at : ℕ} {S Q : List ℕ} {pos₁ least₁ at₁ : ℕ} {S₁ Q₁ S' Q' : List ℕ} {h : Halt} where
   -- D goes on from d, which failed
-  pub fails : (k : A → List Error → List ℕ → Res B) → As (waiting_errors w₀ Q) D (waiting_errors w₁ Q₁) (then (waiting_errors w₁ Q₁) d k) → Failed d T pos₁ least₁ at₁ w₁ S₁ Q₁ S' Q' r → take at S₁ ≡ take at S → Later pos least at w₀ pos₁ least₁ at₁ w₁ → Failed D T pos least at w₀ S Q S' Q' r
-  fails k a f x l = onto a (record { how = then_failed k r f }) x l
+  pub fails : (k : A → List Error → List ℕ → Res B) → As Q D Q₁ (then Q₁ d k) → Failed d T pos₁ least₁ at₁ S₁ Q₁ S' Q' h → take at S₁ ≡ take at S → Later pos least at pos₁ least₁ at₁ Q Q₁ → Failed D T pos least at S Q S' Q' h
+  fails k a f x l = onto a (record { how = then_failed k h f }) x l
 
 -- a reader that looks first
 pub record Looks {B : Type 0} (q : List Error) (ts : List ℕ) (d : Res B) : Type 0 where
@@ -225,87 +210,78 @@ pub record Looks {B : Type 0} (q : List Error) (ts : List ℕ) (d : Res B) : Typ
 
 -- WITHOUT QUEUE
 -- a reading further on, which takes no error from the queue and adds none
-pub record Beyond (pos least w₀ p least₁ w z : ℕ) : Type 0 where
+pub record Beyond (pos least p least₁ : ℕ) (Q Q' : List ℕ) : Type 0 where
   pub pos_le : pos ≤ p
   pub least_le : least ≤ least₁
-  pub w_le : w₀ ≤ w
-  pub few : w ≤ queue_limit
-  pub whole : z ≡ queue_limit
+  pub w_le : length Q ≤ length Q'
 
-unread_failed : {A : Type 0} {d : List Error → Res A} {T : List ℕ} {p least at w : ℕ} {S' Q' : List ℕ} → w ≤ queue_limit → length Q' ≡ queue_limit → (r : Step) → Unread d T p least w r → Failed (d (waiting_errors w Q')) T p least at w S' Q' S' Q' r
-unread_failed few whole (Done p' a w') s = record { how = s.how }
-unread_failed {w = w} {Q' = Q'} few whole (Fail failure) s =
+unread_failed : {A : Type 0} {d : List Error → Res A} {T : List ℕ} {p least at : ℕ} {S' Q' : List ℕ} (h : Halt) → Unread d T p least h → Failed (d Q') T p least at S' Q' S' Q' h
+unread_failed {Q' = Q'} (Fail failure) s =
     let m = s.how in
-    let v = m.waits in
     let on = m.on in
     let within = m.within in
     let far = m.far in
-    record { how = record { same = record { is = ap (out (waiting_errors w Q')) (m.same (waiting_errors w Q')) ∙ rw m.waits }; moved = omega arith; far = omega arith; text = refl } }
-unread_failed {w = w} {Q' = Q'} few whole (Stop n) s = record { how = record { is = ap (out (waiting_errors w Q')) (s.how (waiting_errors w Q')) } }
+    record { how = record { same = record { is = ap (out Q') (m.same Q') }; moved = omega arith; far = omega arith; text = refl } }
+unread_failed {Q' = Q'} (Stop n) s = record { how = record { is = ap (out Q') (s.how Q') } }
 
-module _ {A B : Type 0} {D : Res B} {d : List Error → Res A} {T : List ℕ} {pos least at w₀ : ℕ} {S Q : List ℕ} {p least₁ w : ℕ} {S' Q' : List ℕ} {r : Step} where
+module _ {A B : Type 0} {D : Res B} {d : List Error → Res A} {T : List ℕ} {pos least at : ℕ} {S Q : List ℕ} {p least₁ : ℕ} {S' Q' : List ℕ} {h : Halt} where
   -- D goes on from d by k, and d failed
-  pub lacks : (k : A → List Error → List ℕ → Res B) → Unread d T p least₁ w r → As (waiting_errors w₀ Q) D (waiting_errors w Q') (then (waiting_errors w Q') (d (waiting_errors w Q')) k) → take at S' ≡ take at S
-      → Beyond pos least w₀ p least₁ w (length Q') → Failed D T pos least at w₀ S Q S' Q' r
-  lacks k u a x b = fails k a (unread_failed {at = at} b.few b.whole r u) x (omega arith)
+  pub lacks : (k : A → List Error → List ℕ → Res B) → Unread d T p least₁ h → As Q D Q' (then Q' (d Q') k) → take at S' ≡ take at S
+      → Beyond pos least p least₁ Q Q' → Failed D T pos least at S Q S' Q' h
+  lacks k u a x b = fails k a (unread_failed {at = at} h u) x (omega arith)
 
 -- D is at last d, and d failed
-pub lacking : {B : Type 0} {D : Res B} {d : List Error → Res B} {T : List ℕ} {pos least at w₀ : ℕ} {S Q : List ℕ} {p least₁ w : ℕ} {S' Q' : List ℕ} {r : Step} → Unread d T p least₁ w r → As (waiting_errors w₀ Q) D (waiting_errors w Q') (d (waiting_errors w Q')) → take at S' ≡ take at S
-    → Beyond pos least w₀ p least₁ w (length Q') → Failed D T pos least at w₀ S Q S' Q' r
-lacking {at = at} {r = r} u a x b = onto a (unread_failed {at = at} b.few b.whole r u) x (omega arith)
+pub lacking : {B : Type 0} {D : Res B} {d : List Error → Res B} {T : List ℕ} {pos least at : ℕ} {S Q : List ℕ} {p least₁ : ℕ} {S' Q' : List ℕ} {h : Halt} → Unread d T p least₁ h → As Q D Q' (d Q') → take at S' ≡ take at S
+    → Beyond pos least p least₁ Q Q' → Failed D T pos least at S Q S' Q' h
+lacking {at = at} {h = h} u a x b = onto a (unread_failed {at = at} h u) x (omega arith)
 
 -- no token was taken
-pub not_seen : {T : List ℕ} {p w : ℕ} {r : Step} → Saw T p w (Not r) → Unread (λ q. look q (drop p T)) T p (p + 2) w r
-not_seen {r = Done p' a w'} s = record { how = s.how }
-not_seen {r = Fail failure} s = record { how = s.how.lacks }
-not_seen {r = Stop n} s = record { how = s.how }
+pub not_seen : {T : List ℕ} {p : ℕ} {h : Halt} → Saw T p (Err h) → Unread (λ q. look q (drop p T)) T p (p + 2) h
+not_seen {h = Fail failure} s = record { how = s.how.lacks }
+not_seen {h = Stop n} s = record { how = s.how }
 
 -- D is at last d, which looks first, and no token was seen
-pub fails_unseen : {B : Type 0} {D d : Res B} {T : List ℕ} {pos least at w₀ : ℕ} {S Q : List ℕ} {p w : ℕ} {S' Q' : List ℕ} {r : Step} → As (waiting_errors w₀ Q) D (waiting_errors w Q') d → Looks (waiting_errors w Q') (drop p T) d → Saw T p w (Not r) → take at S' ≡ take at S
-    → Beyond pos least w₀ p (p + 2) w (length Q') → Failed D T pos least at w₀ S Q S' Q' r
-fails_unseen {at = at} {r = r} a l f x b = lacks l.go (not_seen f) (link a (way _ l.is)) x b
+pub fails_unseen : {B : Type 0} {D d : Res B} {T : List ℕ} {pos least at : ℕ} {S Q : List ℕ} {p : ℕ} {S' Q' : List ℕ} {h : Halt} → As Q D Q' d → Looks Q' (drop p T) d → Saw T p (Err h) → take at S' ≡ take at S
+    → Beyond pos least p (p + 2) Q Q' → Failed D T pos least at S Q S' Q' h
+fails_unseen a l s x b = lacks l.go (not_seen s) (link a (way _ l.is)) x b
 
 -- what a function that reads tokens only answers
-module _ {A : Type 0} {d : List Error → Res A} {T : List ℕ} {pos least at w₀ : ℕ} where
-  pub passed : {p a w : ℕ} {r : Step} → r ≡ Done p a w → Reads d T pos least at w₀ r → Passed d T least at w₀ p a w
-  passed e h = rw e at h.how
+module _ {A : Type 0} {d : List Error → Res A} {T : List ℕ} {pos least : ℕ} where
+  pub passed : {p : ℕ} → Reads d T pos least (Ok p) → Got d T least p
+  passed r = r.how
 
-  pub unpassed : {r : Step} → OneOf (1 ∷ 2 ∷ []) (tag_of the_type r) → Reads d T pos least at w₀ r → Unread d T pos least w₀ r
-  unpassed {r = Done p a w} o h = absurd (⊎_elim (λ e. omega arith) (λ e. omega arith) o)
-  unpassed {r = Fail failure} o h = h.how
-  unpassed {r = Stop n} o h = h.how
+  pub unpassed : {h : Halt} → Reads d T pos least (Err h) → Unread d T pos least h
+  unpassed r = r.how
 
-module _ {A : Type 0} {number : A → ℕ} {d : List Error → Res A} {T : List ℕ} {pos least far bound w₀ : ℕ} {s : Found} where
-  pub found : {p v : ℕ} → s ≡ At p v → Finds number d T pos least far bound w₀ s → NumberAt number d T least bound p v
-  found e h = rw e at h.how
+module _ {A : Type 0} {number : A → ℕ} {d : List Error → Res A} {T : List ℕ} {pos least far bound : ℕ} where
+  pub found : {f : Found} → Finds number d T pos least far bound (Ok f) → NumberAt number d T least bound f.pos f.number
+  found r = r.how
 
-  pub unfound : {r : Step} → s ≡ Nor r → Finds number d T pos least far bound w₀ s → Unread d T pos far w₀ r
-  unfound e h = rw e at h.how
+  pub unfound : {h : Halt} → Finds number d T pos least far bound (Err h) → Unread d T pos far h
+  unfound r = r.how
 
 -- what was got, as D goes on from it by k
 pub gets : {A B : Type 0} {D : Res B} {d : List Error → Res A} {T : List ℕ} {least p : ℕ} {q q₁ : List Error} (k : A → List Error → List ℕ → Res B) (g : Got d T least p) → As q D q₁ (then q₁ (d q₁) k) → As q D q₁ (k g.what q₁ (drop p T))
 gets k g a = goes k a (way _ (g.same _))
 
--- D is at last d, and stops where no token was seen: where an error is no end of d, that is what a look that did not fail did
-pub stops_unseen : {B : Type 0} {D d : Res B} {T : List ℕ} {pos least at w₀ : ℕ} {S Q : List ℕ} {p w : ℕ} {S' Q' : List ℕ} {r : Step} → OneOf (0 ∷ 2 ∷ []) (tag_of the_type r) → Saw T p w (Not r) → As (waiting_errors w₀ Q) D (waiting_errors w Q') d → ((n : ℕ) → ((q : List Error) → look q (drop p T) ≡ stop n) → d ≡ stop n)
-    → Failed D T pos least at w₀ S Q S' Q' r
-stops_unseen {r = Done p' b w'} o s a h = record { how = s.how }
-stops_unseen {r = Fail failure} o s a h = absurd (⊎_elim (λ e. omega arith) (λ e. omega arith) o)
-stops_unseen {r = Stop n} o s a h = record { how = link a (record { is = ap (out _) (h n s.how) }) }
+-- D is at last d, and stops as the look does
+pub stops_unseen : {B : Type 0} {D d : Res B} {T : List ℕ} {pos least at n : ℕ} {S Q : List ℕ} {S' Q' : List ℕ} (p : ℕ) → ((q : List Error) → look q (drop p T) ≡ stop n) → As Q D Q' d → ((k : ℕ) → ((q : List Error) → look q (drop p T) ≡ stop k) → d ≡ stop k)
+    → Failed D T pos least at S Q S' Q' (Stop n)
+stops_unseen {n = n} p s a h = record { how = link a (record { is = ap (out _) (h n s) }) }
 
-pub unseen : {T : List ℕ} {p w : ℕ} {f : Failure} {r : Step} → r ≡ Fail f → Saw T p w (Not r) → Missed T p w f
-unseen e s = (rw e at s).how
+module _ {T : List ℕ} {p : ℕ} {h : Halt} where
+  pub unseen : {f : Failure} → h ≡ Fail f → Saw T p (Err h) → Missed T p f
+  unseen e s = rw e at s.how
+
+  pub unread_stop : {n : ℕ} → h ≡ Stop n → Saw T p (Err h) → (q : List Error) → look q (drop p T) ≡ stop n
+  unread_stop e s = rw e at s.how
 
 -- what a function answers that does as another one
-pub as_agrees : {A : Type 0} {words : A → List ℕ} {D d : Res A} {T : List ℕ} {pos least slack at w₀ : ℕ} {S Q S' Q' : List ℕ} {r : Step} → D ≡ d → Agrees words d T pos least slack at w₀ S Q S' Q' r → Agrees words D T pos least slack at w₀ S Q S' Q' r
+pub as_agrees : {A : Type 0} {words : A → List ℕ} {D d : Res A} {T : List ℕ} {pos least slack at : ℕ} {S Q S' Q' : List ℕ} {r : Result Cursor Halt} → D ≡ d → Agrees words d T pos least slack at S Q S' Q' r → Agrees words D T pos least slack at S Q S' Q' r
 as_agrees e h = rw e h
 
--- a step that is made anew
-pub anew : {A : Type 0} {words : A → List ℕ} {d : Res A} {T : List ℕ} {pos least slack at w₀ : ℕ} {S Q S' Q' : List ℕ} {r r₁ : Step} → r ≡ r₁ → Agrees words d T pos least slack at w₀ S Q S' Q' r₁ → Agrees words d T pos least slack at w₀ S Q S' Q' r
-anew e h = rw e h
-
 -- a reader leaves what stands before «at» as it was
-module _ {A C : Type 0} {words : A → List ℕ} {d : Res C} {k : A → List Error → List ℕ → Res C} {T : List ℕ} {pos least slack at w₀ : ℕ} {S Q : List ℕ} {p a w : ℕ} {S' Q' : List ℕ} (g : Wrote words d k T pos least slack at w₀ S Q p a w S' Q') where
+module _ {A C : Type 0} {words : A → List ℕ} {d : Res C} {k : A → List Error → List ℕ → Res C} {T : List ℕ} {pos least slack at : ℕ} {S Q : List ℕ} {p a : ℕ} {S' Q' : List ℕ} (g : Wrote words d k T pos least slack at S Q p a S' Q') where
   pub prefix : at ≤ length S → take at S' ≡ take at S
   prefix h = prefix_of S S' (words g.what) at a g.text h
 
@@ -313,29 +289,26 @@ module _ {A C : Type 0} {words : A → List ℕ} {d : Res C} {k : A → List Err
   rebased h = rw (prefix h) g.text
 
   -- the same text under another name
-  abbrev pub relabel : {B E : Type 0} {words' : B → List ℕ} {D : Res E} {K : B → List Error → List ℕ → Res E} {pos' least' slack' w₁ : ℕ} {Q₁ : List ℕ} {p' w' : ℕ} {Q'' : List ℕ} → (x : B) → words' x ≡ words g.what → As (waiting_errors w₁ Q₁) D (waiting_errors w' Q'') (K x (waiting_errors w' Q'') (drop p' T))
-      → Moved (length T) least' w₁ p' w' (length Q'') → Room pos' at slack' p' a → Wrote words' D K T pos' least' slack' at w₁ S Q₁ p' a w' S' Q''
+  abbrev pub relabel : {B E : Type 0} {words' : B → List ℕ} {D : Res E} {K : B → List Error → List ℕ → Res E} {pos' least' slack' : ℕ} {Q₁ : List ℕ} {p' : ℕ} {Q'' : List ℕ} → (x : B) → words' x ≡ words g.what → As Q₁ D Q'' (K x Q'' (drop p' T))
+      → Moved (length T) least' p' Q₁ Q'' → Room pos' at slack' p' a → Wrote words' D K T pos' least' slack' at S Q₁ p' a S' Q''
   relabel x e same moved room = record { what = x; same = same; moved = moved; room = room; text = g.text ∙ rw e }
 
 -- what a loop did, told from where the function began: D is, where the loop began, D₁
-module _ {B : Type 0} {D D₁ : Res B} {T : List ℕ} {pos at w₀ : ℕ} {S Q : List ℕ} {w₁ : ℕ} {S₁ Q₁ : List ℕ} (l : As (waiting_errors w₀ Q) D (waiting_errors w₁ Q₁) D₁) (x : take at S₁ ≡ take at S) (more : w₀ ≤ w₁) where
-  abbrev pub home : {A : Type 0} {words : A → List ℕ} {K : A → List Error → List ℕ → Res B} {least slack p a w : ℕ} {S' Q' : List ℕ} → Wrote words D₁ K T pos least slack at w₁ S₁ Q₁ p a w S' Q' → Wrote words D K T pos least slack at w₀ S Q p a w S' Q'
+module _ {B : Type 0} {D D₁ : Res B} {T : List ℕ} {pos at : ℕ} {S Q : List ℕ} {S₁ Q₁ : List ℕ} (l : As Q D Q₁ D₁) (x : take at S₁ ≡ take at S) (more : length Q ≤ length Q₁) where
+  abbrev pub home : {A : Type 0} {words : A → List ℕ} {K : A → List Error → List ℕ → Res B} {least slack p a : ℕ} {S' Q' : List ℕ} → Wrote words D₁ K T pos least slack at S₁ Q₁ p a S' Q' → Wrote words D K T pos least slack at S Q p a S' Q'
   home g =
       let m = g.moved in
       record { what = g.what; same = link l g.same; moved = omega arith; room = g.room; text = rw (← x) g.text }
 
 -- a last call that starts further on
-pub later : {A : Type 0} {words : A → List ℕ} {D d : Res A} {T : List ℕ} {pos least slack pos' least' slack' at w₀ : ℕ} {S Q S' Q' : List ℕ} {r : Step} → D ≡ d → Agrees words d T pos' least' slack' at w₀ S Q S' Q' r → pos ≤ pos' → least ≤ least' → 8 * pos + slack ≤ 8 * pos' + slack' → Agrees words D T pos least slack at w₀ S Q S' Q' r
-later {r = Done p a w} e f h i j =
+pub later : {A : Type 0} {words : A → List ℕ} {D d : Res A} {T : List ℕ} {pos least slack pos' least' slack' at : ℕ} {S Q S' Q' : List ℕ} {r : Result Cursor Halt} → D ≡ d → Agrees words d T pos' least' slack' at S Q S' Q' r → pos ≤ pos' → least ≤ least' → 8 * pos + slack ≤ 8 * pos' + slack' → Agrees words D T pos least slack at S Q S' Q' r
+later {r = Ok c} e f h i j =
     let u = f.how in
     let m = u.moved in
     let o = u.room in
     record { how = record { what = u.what; same = link (way _ e) u.same; moved = omega arith; room = omega arith; text = u.text } }
-later {r = Fail failure} e f h i j = record { how = onto (way _ e) f.how refl (omega arith) }
-later {r = Stop n} e f h i j = record { how = record { how = link (way _ e) f.how.how } }
-
-pub halted_as : {A : Type 0} {words : A → List ℕ} {d : Res A} {T : List ℕ} {pos least slack at w₀ n : ℕ} {S Q S' Q' : List ℕ} {r : Step} → r ≡ Stop n → Agrees words d T pos least slack at w₀ S Q S' Q' r → As (waiting_errors w₀ Q) d [] (stop n)
-halted_as e h = (rw e at h.how).how
+later {r = Err (Fail failure)} e f h i j = record { how = onto (way _ e) f.how refl (omega arith) }
+later {r = Err (Stop n)} e f h i j = record { how = record { how = link (way _ e) f.how.how } }
 
 -- where every success becomes the error f, the base does not matter
 lose_out : {A B : Type 0} (q q' q₂ : List Error) (f : ℕ) (d : Res A) → out {A = B} q (then q₂ d (λ u q₃ r. fail f q₃ r)) ≡ out q' (then q₂ d (λ u q₃ r. fail f q₃ r))
@@ -349,21 +322,20 @@ pub lose_as : {A B : Type 0} (q q' q₂ : List Error) (f : ℕ) (d : Res A) → 
 lose_as q q' q₂ f d = record { is = lose_out q q' q₂ f d }
 
 -- where a last call starts that goes on with what was written
-pub record Onward (pos least slack at w₀ pos₁ least₁ slack₁ at₁ w₁ : ℕ) : Type 0 where
+pub record Onward (pos least slack at pos₁ least₁ slack₁ at₁ : ℕ) (Q Q₁ : List ℕ) : Type 0 where
   pub pos_le : pos ≤ pos₁
   pub least_le : least ≤ least₁
   pub at_le : at ≤ at₁
-  pub w_le : w₀ ≤ w₁
+  pub w_le : length Q ≤ length Q₁
   pub slack_le : at₁ + 8 * pos + slack ≤ at + 8 * pos₁ + slack₁
 
 -- of what a last call reads, d, D makes something else, whose words are those behind Y
-pub continued : {A B : Type 0} {words : A → List ℕ} {words₁ : B → List ℕ} {D : Res A} {d : Res B} {T : List ℕ} {pos least slack at w₀ : ℕ} {S Q : List ℕ} {pos₁ least₁ slack₁ at₁ w₁ : ℕ} {S₁ Q₁ S' Q' : List ℕ} {r : Step} (make : B → A) (Y : List ℕ)
-    → Agrees words₁ d T pos₁ least₁ slack₁ at₁ w₁ S₁ Q₁ S' Q' r → As (waiting_errors w₀ Q) D (waiting_errors w₁ Q₁) (then (waiting_errors w₁ Q₁) d (λ x q r. ok (make x) r)) → take at₁ S₁ ≡ take at S ++ Y → ((x : B) → words (make x) ≡ Y ++ words₁ x) → take at S₁ ≡ take at S
-    → Onward pos least slack at w₀ pos₁ least₁ slack₁ at₁ w₁ → Agrees words D T pos least slack at w₀ S Q S' Q' r
-continued {at = at} {S = S} {r = Done p b v} make Y h a y is x n =
+pub continued : {A B : Type 0} {words : A → List ℕ} {words₁ : B → List ℕ} {D : Res A} {d : Res B} {T : List ℕ} {pos least slack at : ℕ} {S Q : List ℕ} {pos₁ least₁ slack₁ at₁ : ℕ} {S₁ Q₁ S' Q' : List ℕ} {r : Result Cursor Halt} (make : B → A) (Y : List ℕ)
+    → Agrees words₁ d T pos₁ least₁ slack₁ at₁ S₁ Q₁ S' Q' r → As Q D Q₁ (then Q₁ d (λ x q r. ok (make x) r)) → take at₁ S₁ ≡ take at S ++ Y → ((x : B) → words (make x) ≡ Y ++ words₁ x) → take at S₁ ≡ take at S
+    → Onward pos least slack at pos₁ least₁ slack₁ at₁ Q Q₁ → Agrees words D T pos least slack at S Q S' Q' r
+continued {at = at} {S = S} {r = Ok c} make Y h a y is x n =
     let g = h.how in
     let m = g.moved in
     let o = g.room in
     record { how = record { what = make g.what; same = goes _ a g.same; moved = omega arith; room = omega arith; text = g.text ∙ rw (y, is, append_assoc) } }
-continued {r = Fail failure} make Y h a y is x n = record { how = fails _ a h.how x (omega arith) }
-continued {r = Stop e} make Y h a y is x n = record { how = fails _ a h.how x (omega arith) }
+continued {r = Err h} make Y f a y is x n = record { how = fails _ a f.how x (omega arith) }

@@ -1,8 +1,6 @@
 -- What the proofs of several functions use.
-pub mod Fits
 pub mod Laws
 pub mod Looking
 pub mod Start
 pub mod Text
 pub mod Waiting
-pub mod Variants

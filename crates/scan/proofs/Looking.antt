@@ -14,24 +14,17 @@ use Rattle.token.specs.declared.Token.{Token}
 use Rattle.grammar.specs.Reading.Number
 use Rattle.grammar.specs.Reading.Result.{Res, ok, fail, stop, then, ifb, Error}
 use Rattle.grammar.specs.Reading.Look.{look, expect, try_label, keyword, try_assign_keyword}
-use Rattle.scan.specs.Post.{Unread, Taken, Reads}
-use Rattle.scan.specs.declared.Step.{Step}
-use Rattle.scan.specs.declared.Step.TheVariants.{Done, Fail, Stop}
+use Rattle.scan.specs.Post.{Unread, Taken}
+use Rattle.scan.specs.declared.Halt.{Halt}
+use Rattle.scan.specs.declared.Halt.TheVariants.{Fail, Stop}
 
 -- a reading that goes on from one that failed
-pub through : {A B : Type 0} {d : List Error → Res A} {D : List Error → Res B} (k : List ℕ → A → List Error → List ℕ → Res B) {T : List ℕ} {pos least w : ℕ} {r : Step} → ((q : List Error) → D q ≡ then q (d q) (k q)) → Unread d T pos least w r → Unread D T pos least w r
+pub through : {A B : Type 0} {d : List Error → Res A} {D : List Error → Res B} (k : List ℕ → A → List Error → List ℕ → Res B) {T : List ℕ} {pos least : ℕ} {h : Halt} → ((q : List Error) → D q ≡ then q (d q) (k q)) → Unread d T pos least h → Unread D T pos least h
 unfolding then
-through k {r = Done p a w'} e u = record { how = u.how }
-through k {r = Fail failure} e u =
+through k {h = Fail failure} e u =
     let l = u.how in
-    record { how = record { same = λ q. e q ∙ rw (l.same q); waits = l.waits; on = l.on; within = l.within; far = l.far } }
-through k {r = Stop n} e u = record { how = λ q. e q ∙ rw (u.how q) }
-
--- what a function that reads tokens only answers
-pub unread : {A : Type 0} {d : List Error → Res A} {T : List ℕ} {pos least at w : ℕ} {r : Step} → Unread d T pos least w r → Reads d T pos least at w r
-unread {r = Done p a w'} u = absurd u.how
-unread {r = Fail failure} u = record { how = u }
-unread {r = Stop n} u = record { how = u }
+    record { how = record { same = λ q. e q ∙ rw (l.same q); on = l.on; within = l.within; far = l.far } }
+through k {h = Stop n} e u = record { how = λ q. e q ∙ rw (u.how q) }
 
 -- a loop whose count is at least as long as the list looks, for with a count of 0 the list is empty; and it stops where the look does
 pub counted : {A : Type 0} (q : List Error) (ts : List ℕ) (loop : ℕ → Res A) (go : ℕ → Token → List Error → List ℕ → Res A) → loop 0 ≡ fail Number.end_of_tokens q ts → ((n : ℕ) → loop (suc n) ≡ then q (look q ts) (go n)) → (fuel : ℕ) → length ts ≤ fuel → loop fuel ≡ then q (look q ts) (go (fuel - 1))

@@ -1,12 +1,9 @@
 -- The top level's passing over separators (grammar's Reading/Next.antt, `start`), one step each, as the code goes: an equation for each way through. Assumes nothing.
 use mathlib.Core.Path.{◌≡◌, refl, sym, ap, ◌∙◌}
-use mathlib.Core.Logic.{⊎_elim}
 use mathlib.Core.List.{List, [], ◌∷◌}
 use Prim.Native.Nat.{ℕ, zero, suc, ◌+◌, ◌-◌, ◌≤◌}
 use native.Mathlib.Omega.{arith}
 use borrow.Author.Tests.{eq-eqb, ne_eqb}
-use types.Run.{OneOf}
-use denote.Enum.Declared.{tag_of}
 use lib.Dec.{eqb}
 use lib.ListN.{length, drop}
 use Rattle.token.specs.Kind
@@ -15,12 +12,8 @@ use Rattle.grammar.specs.Reading.Number
 use Rattle.grammar.specs.Reading.Result.{Res, ok, fail, stop, unclean, either, ifb, Error}
 use Rattle.grammar.specs.Reading.Look.{look}
 use Rattle.grammar.specs.Reading.Next.{start}
-use Rattle.scan.specs.Post.{Taken, Missed, Saw, Reads}
+use Rattle.scan.specs.Post.{Taken, Missed}
 use Rattle.scan.specs.declared.Failure.{Failure}
-use Rattle.scan.specs.declared.Step.{Step}
-use Rattle.scan.specs.declared.Step.TheVariants.{Done, Fail, Stop}
-use Rattle.scan.specs.declared.Seen.TheVariants.{Not}
-use Rattle.scan.specs.contracts.Step.{the_type}
 use Rattle.scan.proofs.Looking.{counted_stops}
 use Rattle.scan.proofs.Text.{left, fuel_some}
 
@@ -53,10 +46,10 @@ module _ (q : List Error) where
   start_stop T fuel p enough k l = counted_stops q (drop p T) (λ n. start n q (drop p T)) (λ n e. start_suc n (drop p T) ∙ rw e) fuel (left T p fuel enough) (l q)
 
   module _ {T : List ℕ} (fuel p : ℕ) (enough : length T ≤ p + fuel) where
-    pub start_none : {w₀ : ℕ} {f : Failure} → Missed T p w₀ f → f.error ≡ Number.end_of_tokens → start fuel q (drop p T) ≡ fail 0 q (drop p T)
+    pub start_none : {f : Failure} → Missed T p f → f.error ≡ Number.end_of_tokens → start fuel q (drop p T) ≡ fail 0 q (drop p T)
     start_none m e = start_out fuel (drop p T) (m.lacks.same q) e
 
-    pub start_lexer : {w₀ : ℕ} {f : Failure} → Missed T p w₀ f → (f.error ≡ Number.end_of_tokens → ⊥) → start fuel q (drop p T) ≡ fail f.error q (drop f.pos T)
+    pub start_lexer : {f : Failure} → Missed T p f → (f.error ≡ Number.end_of_tokens → ⊥) → start fuel q (drop p T) ≡ fail f.error q (drop f.pos T)
     unfolding ifb unclean
     start_lexer m e =
         let x = m.past e in
@@ -79,9 +72,3 @@ module _ (q : List Error) where
       pub start_here : (k ≡ Kind.EOF → ⊥) → (k ≡ Kind.Semicolon → ⊥) → start fuel q (drop p T) ≡ ok tt (drop p T)
       unfolding ifb
       start_here e f = start_look ∙ rw (ne_eqb _ _ e, ne_eqb _ _ f)
-
--- a look that neither took a token nor failed: the reading stops as it does
-pub halted : {A : Type 0} {d : List Error → Res A} {T : List ℕ} {pos least at w₀ p w : ℕ} {r : Step} → OneOf (0 ∷ 2 ∷ []) (tag_of the_type r) → Saw T p w (Not r) → ((n : ℕ) → ((q : List Error) → look q (drop p T) ≡ stop n) → (q : List Error) → d q ≡ stop n) → Reads d T pos least at w₀ r
-halted {r = Done p' a w'} o s h = absurd s.how
-halted {r = Fail failure} o s h = absurd (⊎_elim (λ e. omega arith) (λ e. omega arith) o)
-halted {r = Stop n} o s h = record { how = record { how = h n s.how } }

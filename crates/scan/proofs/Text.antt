@@ -1,4 +1,4 @@
--- Laws of lists of words that the proofs of several functions cite: the queue, words that are left, text that goes on, records that were written, what is seen at a place. Assumes nothing.
+-- Laws of lists of words that the proofs of several functions cite: words that are left, text that goes on, records that were written, what is seen at a place. Assumes nothing.
 use mathlib.Core.Path.{◌≡◌, refl, sym, ap, ◌∙◌}
 use mathlib.Core.Bool.{Bool, true, false, cond, ◌&&◌}
 use mathlib.Core.List.{List, [], ◌∷◌, ◌++◌, append_assoc}
@@ -18,52 +18,7 @@ use Rattle.grammar.specs.Reading.Limit.{malformed, queue_limit}
 use Rattle.grammar.specs.Reading.Number
 use Rattle.grammar.specs.Reading.Result.{ok, fail, stop, Error}
 use Rattle.grammar.specs.Reading.Look.{looked, look}
-use Rattle.scan.specs.Post.{Taken, Missed, Popped, waiting_errors}
-
--- THE QUEUE
--- one word more at the end of what is taken
-pub pushed : (Q : List ℕ) (w e : ℕ) → w < length Q → take (w + 1) (set Q w e) ≡ waiting_errors w Q ++ e ∷ []
-pushed Q w e h = rw add-one (take-suc-set Q w e h)
-
--- the queue's others move up by one
-pop_at : (Q : List ℕ) (j : ℕ) → suc j < length Q → set (take j (drop 1 Q) ++ drop j Q) j (get_or (take j (drop 1 Q) ++ drop j Q) (suc j) 0) ≡ take (suc j) (drop 1 Q) ++ drop (suc j) Q
-pop_at Q j h =
-    let X : List ℕ = take j (drop 1 Q) in
-    let n : length X ≡ j = length-take-le j (drop 1 Q) (rw length-drop (omega arith)) in
-    let v : get_or (X ++ drop j Q) (suc j) 0 ≡ get_or (drop 1 Q) j 0 = ap (λ (i : ℕ). get_or (X ++ drop j Q) i 0) (omega arith) ∙ get_or-append-add X (drop j Q) 1 0 ∙ get_or-drop j Q 1 0 ∙ ap (λ (i : ℕ). get_or Q i 0) (omega arith) ∙ sym (get_or-drop 1 Q j 0) in
-    let s : drop j Q ≡ get_or Q j 0 ∷ drop (suc j) Q = drop-cons Q j 0 (omega arith) in
-    let l : j < length (drop 1 Q) = rw length-drop (omega arith) in
-    ap (λ (x : ℕ). set (X ++ drop j Q) j x) v ∙ ap (λ (y : List ℕ). set (X ++ y) j (get_or (drop 1 Q) j 0)) s ∙ set_at X (get_or Q j 0) (drop (suc j) Q) (get_or (drop 1 Q) j 0) j n
-    ∙ sym (append_assoc X (get_or (drop 1 Q) j 0 ∷ []) (drop (suc j) Q)) ∙ ap (λ (y : List ℕ). y ++ drop (suc j) Q) (sym (take-suc (drop 1 Q) j 0 l))
-
-pub pop_next : (Q Q₀ : List ℕ) (i : ℕ) → 1 ≤ i → i < length Q₀ → Q ≡ take (i - 1) (drop 1 Q₀) ++ drop (i - 1) Q₀ → set Q (i - 1) (get_or Q i 0) ≡ take (i + 1 - 1) (drop 1 Q₀) ++ drop (i + 1 - 1) Q₀
-pop_next Q Q₀ i h g e =
-    let a : suc (i - 1) ≡ i = omega arith in
-    let b : i + 1 - 1 ≡ suc (i - 1) = omega arith in
-    let l : suc (i - 1) < length Q₀ = omega arith in
-    ap (λ (k : ℕ). set Q (i - 1) (get_or Q k 0)) (sym a) ∙ ap (λ (q : List ℕ). set q (i - 1) (get_or q (suc (i - 1)) 0)) e ∙ pop_at Q₀ (i - 1) l ∙ ap (λ (k : ℕ). take k (drop 1 Q₀) ++ drop k Q₀) (sym b)
-
-first : (Q : List ℕ) (w : ℕ) → 1 ≤ w → 1 ≤ length Q → waiting_errors w Q ≡ get_or Q 0 0 ∷ take (w - 1) (drop 1 Q)
-first [] w h g = absurd (omega arith)
-first (x ∷ Q) zero h g = absurd (omega arith)
-first (x ∷ Q) (suc w) h g = rw (sub-one (suc w))
-
-popped : (Q Q₀ : List ℕ) (w : ℕ) → 1 ≤ w → w ≤ length Q₀ → Q ≡ take (w - 1) (drop 1 Q₀) ++ drop (w - 1) Q₀ → waiting_errors w Q₀ ≡ get_or Q₀ 0 0 ∷ take (w - 1) Q
-popped Q Q₀ w h g e =
-    let n : length (take (w - 1) (drop 1 Q₀)) ≡ w - 1 = length-take-le (w - 1) (drop 1 Q₀) (rw length-drop (omega arith)) in
-    first Q₀ w h (omega arith) ∙ ap (λ (l : List ℕ). get_or Q₀ 0 0 ∷ l) (sym (ap (take (w - 1)) e ∙ take_at (take (w - 1) (drop 1 Q₀)) (drop (w - 1) Q₀) (w - 1) n))
-
-pub pop_start : (Q : List ℕ) → Q ≡ take (1 - 1) (drop 1 Q) ++ drop (1 - 1) Q
-pop_start Q = refl
-
-popped_length : (Q₀ : List ℕ) (j : ℕ) → suc j ≤ length Q₀ → length (take j (drop 1 Q₀) ++ drop j Q₀) ≡ length Q₀
-popped_length Q₀ j h = rw (length-append, length-take-le j (drop 1 Q₀) (rw length-drop (omega arith)), length-drop) (omega arith)
-
-pub pop_all : (Q Q₀ : List ℕ) (w i : ℕ) → i ≤ w → w ≤ i → 1 ≤ w → w ≤ queue_limit → length Q₀ ≡ queue_limit → Q ≡ take (i - 1) (drop 1 Q₀) ++ drop (i - 1) Q₀ → Popped w (get_or Q₀ 0 0) Q₀ Q
-pop_all Q Q₀ w i h g o f n e =
-    let s : i ≡ w = omega arith in
-    let x : Q ≡ take (w - 1) (drop 1 Q₀) ++ drop (w - 1) Q₀ = rw s at e in
-    record { text = popped Q Q₀ w o (omega arith) x; whole = ap length x ∙ popped_length Q₀ (w - 1) (omega arith) ∙ n }
+use Rattle.scan.specs.Post.{Taken, Missed}
 
 -- WORDS THAT ARE LEFT: a count of at least so many is enough for those behind p, and is not 0 where a token stands
 pub left : (T : List ℕ) (p fuel : ℕ) → length T ≤ p + fuel → length (drop p T) ≤ fuel
@@ -98,7 +53,7 @@ module _ (S S' X : List ℕ) (at a : ℕ) (text : take a S' ≡ take at S ++ X) 
 
 -- LOOKING at the words of a run
 -- where something is seen: what the look answers, and that a token's words stand there
-module _ {s : (Result Token Unread)} (some : s ≡ (Err Nothing) → ⊥) where
+module _ {s : Result Token Unread} (some : s ≡ (Err Nothing) → ⊥) where
   seen_looked : (l : List ℕ) → s ≡ seen l → (q : List Error) → look q l ≡ looked q (drop 2 l) s
   unfolding seen look
   seen_looked [] e q = absurd (some e)
@@ -111,13 +66,13 @@ module _ {s : (Result Token Unread)} (some : s ≡ (Err Nothing) → ⊥) where
   seen_long (w ∷ []) e = absurd (some e)
   seen_long (w ∷ (v ∷ r)) e = omega arith
 
-good_some : {t : Token} → Ok t ≡ (Err Nothing) → ⊥
+good_some : {t : Token} → ◌≡◌ {A = Result Token Unread} (Ok t) (Err Nothing) → ⊥
 good_some e = let z : ◌≡◌ {A = ℕ} 0 1 = cc in omega arith
 
-lexer_some : (Err LexerError) ≡ (Err Nothing) → ⊥
+lexer_some : ◌≡◌ {A = Result Token Unread} (Err LexerError) (Err Nothing) → ⊥
 lexer_some e = let z : ◌≡◌ {A = ℕ} 0 1 = cc in omega arith
 
-bad_some : (Err Bad) ≡ (Err Nothing) → ⊥
+bad_some : ◌≡◌ {A = Result Token Unread} (Err Bad) (Err Nothing) → ⊥
 bad_some e = let z : ◌≡◌ {A = ℕ} 0 1 = cc in omega arith
 
 module _ {t : Token} where
@@ -146,42 +101,42 @@ module _ {t : Token} where
       let l : length (drop pos T) ≡ length T - pos = length-drop pos T in
       record { same = λ q. seen_looked good_some (drop pos T) e q ∙ ap (ok t) (drop-drop 2 pos T); within = omega arith; fits = good_fits (drop pos T) e }
 
-pub lexer_room : (T : List ℕ) (pos : ℕ) → (Err LexerError) ≡ seen (drop pos T) → pos + 2 ≤ length T
+pub lexer_room : (T : List ℕ) (pos : ℕ) → Err LexerError ≡ seen (drop pos T) → pos + 2 ≤ length T
 lexer_room T pos e =
     let n = seen_long lexer_some (drop pos T) e in
     let l : length (drop pos T) ≡ length T - pos = length-drop pos T in
     omega arith
 
-pub lexer_missed : (T : List ℕ) (pos w : ℕ) → (Err LexerError) ≡ seen (drop pos T) → Missed T pos w (record { error = Number.lexer_error; pos = pos + 2; waiting = w })
+pub lexer_missed : (T : List ℕ) (pos : ℕ) → Err LexerError ≡ seen (drop pos T) → Missed T pos (record { error = Number.lexer_error; pos = pos + 2 })
 unfolding looked
-lexer_missed T pos w e =
+lexer_missed T pos e =
     let r = lexer_room T pos e in
-    record { lacks = record { same = λ q. seen_looked lexer_some (drop pos T) e q ∙ ap (fail Number.lexer_error q) (drop-drop 2 pos T); waits = refl; on = omega arith; within = r; far = omega arith }; past = λ h. omega arith }
+    record { lacks = record { same = λ q. seen_looked lexer_some (drop pos T) e q ∙ ap (fail Number.lexer_error q) (drop-drop 2 pos T); on = omega arith; within = r; far = omega arith }; past = λ h. omega arith }
 
 -- two words are something
-word_something : (w v : ℕ) (a b : Bool) → (Err Nothing) ≡ cond a (cond b (Err LexerError) (Ok (record { kind = w % 256; newline = w / 256; value = v }))) (Err Bad) → ⊥
+word_something : (w v : ℕ) (a b : Bool) → ◌≡◌ {A = Result Token Unread} (Err Nothing) (cond a (cond b (Err LexerError) (Ok (record { kind = w % 256; newline = w / 256; value = v }))) (Err Bad)) → ⊥
 word_something w v true true e = let z : ◌≡◌ {A = ℕ} 0 1 = cc in omega arith
 word_something w v true false e = let z : ◌≡◌ {A = ℕ} 0 1 = cc in omega arith
 word_something w v false b e = let z : ◌≡◌ {A = ℕ} 0 1 = cc in omega arith
 
-seen_nothing : (l : List ℕ) → (Err Nothing) ≡ seen l → (q : List Error) → look q l ≡ fail Number.end_of_tokens q l
+seen_nothing : (l : List ℕ) → Err Nothing ≡ seen l → (q : List Error) → look q l ≡ fail Number.end_of_tokens q l
 unfolding seen look
 seen_nothing [] e q = refl
 seen_nothing (w ∷ []) e q = refl
 seen_nothing (w ∷ (v ∷ r)) e q = absurd (word_something w v (token_fits (w % 256) (w / 256) v) (eqb (w % 256) Kind.LexerError) e)
 
-nothing_short : (l : List ℕ) → (Err Nothing) ≡ seen l → length l ≤ 1
+nothing_short : (l : List ℕ) → Err Nothing ≡ seen l → length l ≤ 1
 unfolding seen
 nothing_short [] e = omega arith
 nothing_short (w ∷ []) e = omega arith
 nothing_short (w ∷ (v ∷ r)) e = absurd (word_something w v (token_fits (w % 256) (w / 256) v) (eqb (w % 256) Kind.LexerError) e)
 
-pub nothing_missed : (T : List ℕ) (pos w : ℕ) → pos ≤ length T → (Err Nothing) ≡ seen (drop pos T) → Missed T pos w (record { error = Number.end_of_tokens; pos = pos; waiting = w })
-nothing_missed T pos w h e =
+pub nothing_missed : (T : List ℕ) (pos : ℕ) → pos ≤ length T → Err Nothing ≡ seen (drop pos T) → Missed T pos (record { error = Number.end_of_tokens; pos = pos })
+nothing_missed T pos h e =
     let n = nothing_short (drop pos T) e in
     let l : length (drop pos T) ≡ length T - pos = length-drop pos T in
-    record { lacks = record { same = λ q. seen_nothing (drop pos T) e q; waits = refl; on = omega arith; within = h; far = omega arith }; past = λ h. absurd (h refl) }
+    record { lacks = record { same = λ q. seen_nothing (drop pos T) e q; on = omega arith; within = h; far = omega arith }; past = λ h. absurd (h refl) }
 
-pub bad_stops : (l : List ℕ) → (Err Bad) ≡ seen l → (q : List Error) → look q l ≡ stop malformed
+pub bad_stops : (l : List ℕ) → Err Bad ≡ seen l → (q : List Error) → look q l ≡ stop malformed
 unfolding looked
 bad_stops l e q = seen_looked bad_some l e q

@@ -1,29 +1,35 @@
 -- What the contracts of the functions that read statement lists say, and of those that end them. Assumes nothing.
-use Rattle.std.specs.Prelude.{◌≡◌, List, ℕ, ◌+◌, ◌≤◌, drop}
+use Rattle.std.specs.Prelude.{◌≡◌, Result, Ok, Err, List, ℕ, ◌+◌, ◌≤◌, drop}
+use Rattle.token.specs.declared.Token.{Token}
 use Rattle.grammar.specs.Reading.Look.{look}
 use Rattle.scan.specs.Post.{Taken, Unread}
-use Rattle.scan.specs.declared.Step.{Step}
+use Rattle.scan.specs.declared.Cursor.{Cursor}
+use Rattle.scan.specs.declared.Halt.{Halt}
 use Rattle.scan.specs.declared.Listed.{Listed}
-use Rattle.scan.specs.declared.Listed.TheVariants.{Suite, Control, Not}
+use Rattle.scan.specs.declared.Listed.TheVariants.{Suite as ASuite, Control}
 
--- the token behind a list, which ends at p, is taken and the answer is «on»; or there is none
-pub data Passing (T : List ℕ) (p w : ℕ) (on r : Listed) : Type 0 where
-  took : {k n v : ℕ} → Taken T p k n v → r ≡ on → Passing T p w on r
-  lacks : {s : Step} → Unread (λ q. look q (drop p T)) T p (p + 2) w s → r ≡ Not s → Passing T p w on r
+-- past which words a list ends
+abbrev pub end_of : Listed → Cursor
+end_of (ASuite suite) = suite.end
+end_of (Control end) = end
 
-abbrev pub PassesAs : List ℕ → Listed → Listed → Type 0
-PassesAs T (Suite p a w n last) r = Passing T p w (Suite (p + 2) a w n last) r
-PassesAs T (Control p a w) r = Passing T p w (Control (p + 2) a w) r
-PassesAs T (Not s) r = r ≡ Not s
+-- the same list with the token behind it taken
+abbrev pub passed_by : Listed → Listed
+passed_by (ASuite suite) = ASuite (record { end = record { pos = suite.end.pos + 2; at = suite.end.at }; count = suite.count; last = suite.last })
+passed_by (Control end) = Control (record { pos = end.pos + 2; at = end.at })
 
-pub record Passes (T : List ℕ) (l r : Listed) : Type 0 where
+-- a token stands behind a list, which ends at p, and is taken; or there is none
+pub record PassedBy (T : List ℕ) (l on : Listed) (tok : Token) : Type 0 where
+  pub is : on ≡ passed_by l
+  pub taken : Taken T (end_of l).pos tok.kind tok.newline tok.value
+
+abbrev pub PassesAs : List ℕ → Listed → Result Listed Halt → Type 0
+PassesAs T l (Ok on) = (tok : Token) × PassedBy T l on tok
+PassesAs T l (Err h) = Unread (λ q. look q (drop (end_of l).pos T)) T (end_of l).pos ((end_of l).pos + 2) h
+
+pub record Passes (T : List ℕ) (l : Listed) (r : Result Listed Halt) : Type 0 where
   pub how : PassesAs T l r
 
 -- a list ends within n words
-abbrev pub WithinAs : ℕ → Listed → Type 0
-WithinAs n (Suite p a w m last) = p ≤ n
-WithinAs n (Control p a w) = p ≤ n
-WithinAs n (Not s) = Unit {0}
-
 pub record Within (n : ℕ) (l : Listed) : Type 0 where
-  pub how : WithinAs n l
+  pub how : (end_of l).pos ≤ n

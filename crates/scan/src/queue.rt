@@ -1,5 +1,6 @@
 // The errors that wait, the oldest first.
-ghost use Rattle.std.specs.Prelude.{◌≡◌, ◌≤◌, ◌<◌, ◌&&◌, ◌++◌, ◌∷◌, [], not, eqb, length, drop, IfErr};
+ghost use Rattle.std.specs.Prelude.{◌≡◌, ◌≤◌, ◌<◌, ◌&&◌, ◌++◌, ◌∷◌, [], eqb, length, take, drop};
+ghost use Rattle.std.specs.List.{list_all};
 ghost use Rattle.grammar.specs.Reading.Limit.{queue_limit};
 ghost use Rattle.grammar.specs.Reading.Stmt.{control_last as control_last_def, synchronized as synchronized_def};
 ghost use Rattle.grammar.specs.Reading.Next.{is_error as is_error_def, is_stop as is_stop_def, queue_fits as queue_fits_def, pad};
@@ -19,7 +20,7 @@ pub struct Waiting {
 }
 
 impl Model for Waiting {
-    ghost use Rattle.std.specs.Prelude.{List, ℕ, take};
+    ghost use Rattle.std.specs.Prelude.{List, ℕ, ◌≤◌, take};
     ghost use Rattle.grammar.specs.Reading.Limit.{queue_limit};
 
     ghost Value = { List ℕ };
@@ -49,13 +50,14 @@ impl Waiting {
     }
 
     pub fn len(&self) -> usize
-        ensures { (result ≡ length self.now) × (result ≤ queue_limit) }
+        ensures { result ≡ length self.now }
     {
         self.count
     }
 
     pub fn is_full(&self) -> bool
-        ensures { result ≡ eqb (length self.now) queue_limit }
+        ensures full { result ≡ eqb (length self.now) queue_limit }
+        ensures few { length self.now ≤ queue_limit }
     {
         self.count == limit::QUEUE
     }
@@ -83,7 +85,7 @@ impl Waiting {
 
     // The queue with 0 behind the errors that wait.
     pub fn padded(self) -> Queue
-        ensures { result ≡ pad self.entry }
+        ensures { result ≡ pad self }
     {
         let Waiting { mut errors, count } = self;
         errors[count..].fill(0);
@@ -130,7 +132,7 @@ pub fn synchronized(tokens: &[u64], queue: &mut Waiting, pos: usize) -> Result<(
             let error = queue.pop();
             Err(Halt::Fail(Failure { error, ..failure }))
         }
-        Err(stop) => Err(stop),
+        Err(Halt::Stop(n)) => Err(Halt::Stop(n)),
     }
 }
 
@@ -154,10 +156,22 @@ pub fn is_stop(n: u64) -> bool
     )
 }
 
+fn all_errors(numbers: &[u64]) -> bool
+    ensures { result ≡ list_all is_error_def numbers.now }
+{
+    numbers.iter().all(|e| is_error(*e))
+}
+
+fn all_zeros(numbers: &[u64]) -> bool
+    ensures { result ≡ list_all (λ e. eqb e 0) numbers.now }
+{
+    numbers.iter().all(|e| *e == 0)
+}
+
 // The first places hold errors, the others 0.
 pub fn queue_fits(queue: Queue, waiting: usize) -> bool
     requires { waiting ≤ queue_limit }
     ensures { result ≡ queue_fits_def waiting queue }
 {
-    queue[..waiting].iter().all(|e| is_error(*e)) && queue[waiting..].iter().all(|e| *e == 0)
+    all_errors(&queue[..waiting]) && all_zeros(&queue[waiting..])
 }

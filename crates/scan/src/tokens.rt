@@ -154,7 +154,7 @@ pub fn op_level(kind: u64) -> u64
 pub fn op_number(kind: u64) -> u64
     ensures { result ≡ op_number_def kind }
 {
-    operator::which_binary_op(kind).map_or(0, operator::binary_number)
+    operator::which_binary_op(kind).map_or(0, u64::from)
 }
 
 // 0 if a token kind is no unary operator, else 1 + its number.
@@ -163,7 +163,7 @@ pub fn unary_code(kind: u64) -> u64
     ensures { (result ≡ unary_code_def kind) × (result ≤ 4) }
 {
     match operator::which_unary_op(kind) {
-        Some(op) => 1 + operator::unary_number(op),
+        Some(op) => 1 + u64::from(op),
         None => 0,
     }
 }
@@ -175,7 +175,7 @@ pub fn assign_code(kind: u64) -> u64
 {
     match operator::which_assignment_op(kind) {
         Some(AssignmentOp::Plain) => 1,
-        Some(AssignmentOp::With(op)) => 2 + operator::binary_number(op),
+        Some(AssignmentOp::With(op)) => 2 + u64::from(op),
         None => 0,
     }
 }
@@ -342,7 +342,7 @@ pub fn start(tokens: &[u64], pos: usize) -> Result<usize, Halt>
                 }
                 return Err(Halt::Fail(failure));
             }
-            Err(stop) => return Err(stop),
+            Err(Halt::Stop(n)) => return Err(Halt::Stop(n)),
         }
     }
 }

@@ -1,25 +1,17 @@
 -- `scan::queue::synchronized` meets its contract. Assumes nothing.
 use mathlib.Core.Path.{◌≡◌, refl, ◌∙◌}
-use mathlib.Core.Logic.{⊎_elim}
-use mathlib.Core.List.{List, [], ◌∷◌}
-use Prim.Native.Nat.{ℕ, ◌+◌}
+use mathlib.Core.List.{List, ◌∷◌}
+use Prim.Native.Nat.{ℕ}
 use native.Mathlib.Omega.{arith}
 use borrow.Author.Tests.{eq-eqb, ne_eqb}
-use types.Run.{OneOf}
-use denote.Enum.Declared.{tag_of}
-use lib.ListN.{take, drop}
+use lib.ListN.{drop}
 use Rattle.token.specs.Kind
-use Rattle.grammar.specs.Reading.Result.{Res, ok, fail, unclean, either, ifb, pop, Error}
+use Rattle.grammar.specs.Reading.Result.{ok, fail, stop, unclean, either, ifb, pop, Error}
 use Rattle.grammar.specs.Reading.Look.{look}
 use Rattle.grammar.specs.Reading.Stmt.{synchronized}
-use Rattle.scan.specs.Post.{Lacked, Unread, Taken, Resumes, waiting_errors}
-use Rattle.scan.specs.declared.Failure.{Failure}
-use Rattle.scan.specs.declared.Step.{Step}
-use Rattle.scan.specs.declared.Step.TheVariants.{Done, Fail, Stop}
-use Rattle.scan.specs.contracts.Step as step_type
-use Rattle.scan.proofs.Laws.{way, ends, refail, taken, not_taken, not_seen}
-use Rattle.scan.proofs.Waiting.{pops}
-use Rattle.scan.proofs.Variants.{not_fail}
+use Rattle.scan.specs.Post.{Taken}
+use Rattle.scan.proofs.Laws.{way, ends, refail, taken, unseen, unread_stop}
+use Rattle.scan.proofs.Waiting.{pops, fewer}
 use Rattle.scan.proofs.queue.synchronized.Goals as goal
 
 module _ {T : List ℕ} {pos k n v : ℕ} (q : List Error) (tk : Taken T pos k n v) where
@@ -35,30 +27,23 @@ at_error : {e f : ℕ} {q' : List Error} {r : List ℕ} (q : List Error) (ts : L
 unfolding synchronized either unclean pop
 at_error q ts l x = rw (l, x)
 
-at_stop : {T : List ℕ} {pos at w : ℕ} {Q : List ℕ} (s : Step) → OneOf (0 ∷ 2 ∷ []) (tag_of step_type.the_type s) → Unread (λ q. look q (drop pos T)) T pos (pos + 2) w s → Resumes (synchronized (waiting_errors w Q) (drop pos T)) T pos at w Q Q s
+at_stop : {n : ℕ} (q : List Error) (ts : List ℕ) → look q ts ≡ stop n → synchronized q ts ≡ stop n
 unfolding synchronized either
-at_stop (Done p a v) o u = absurd u.how
-at_stop (Fail failure) o u = absurd (⊎_elim (λ e. omega arith) (λ e. omega arith) o)
-at_stop {w = w} {Q = Q} (Stop n) o u = record { how = ends (rw (u.how (waiting_errors w Q))) }
+at_stop q ts l = rw l
 
-missed_token : {A : Type 0} {d : List Error → Res A} {T : List ℕ} {pos least w : ℕ} {f : Failure} {r : Step} → r ≡ Fail f → Unread d T pos least w r → Lacked d T pos least w f
-missed_token e u = rw e at u.how
+pub returns-then-token-eq-EOF : goal.returns-then-token-eq-EOF
+returns-then-token-eq-EOF c = let tk = taken c.in-Ok.ensures in
+    let o = c.pop-error.ensures in
+    record { how = record { same = refail (way _ (at_eof c.args.queue.now tk c.if-token-eq-EOF.true ∙ pops _ _ o)); fewer = fewer o; on = omega arith; within = c.requires.0 } }
 
-pub returns-then-kind-eq-EOF : goal.returns-then-kind-eq-EOF
-returns-then-kind-eq-EOF c = let tk = taken c.in-Token.is c.look.ensures in
-    let o = c.pop.ensures in
-    record { how = record { same = refail (way _ (at_eof (take c.args.waiting c.args.queue.now) tk c.if-kind-eq-EOF.true ∙ pops _ _ o.text)); fewer = omega arith; on = omega arith; within = c.requires.0; whole = o.whole } }
+pub returns-else-token-eq-EOF : goal.returns-else-token-eq-EOF
+returns-else-token-eq-EOF c = let tk = taken c.in-Ok.ensures in
+    record { how = (at_another _ tk c.if-token-eq-EOF.false, refl) }
 
-pub returns-else-kind-eq-EOF : goal.returns-else-kind-eq-EOF
-returns-else-kind-eq-EOF c = let tk = taken c.in-Token.is c.look.ensures in
-    record { how = (at_another _ tk c.if-kind-eq-EOF.false, refl, refl, refl, refl) }
+pub returns-in-Err-Fail : goal.returns-in-Err-Fail
+returns-in-Err-Fail c = let ms = (unseen c.in-Err-Fail.field-0-is c.in-Err-Fail.ensures).lacks in
+    let o = c.pop-error-in-Err-Fail.ensures in
+    record { how = record { same = refail (way _ (at_error _ _ (ms.same _) o)); fewer = fewer o; on = ms.on; within = ms.within } }
 
-pub returns-in-Fail : goal.returns-in-Fail
-returns-in-Fail c = let no = not_seen (not_taken c.in-Not.is c.look.ensures) in
-    let ms = missed_token c.in-Fail.is no in
-    let o = c.pop-in-Fail.ensures in
-    record { how = record { same = refail (way _ (at_error _ _ (ms.same _) o.text)); fewer = omega arith; on = ms.on; within = ms.within; whole = o.whole } }
-
-pub returns-in_default : goal.returns-in_default
-returns-in_default c = let no = not_seen (not_taken c.in-Not.is c.look.ensures) in
-    at_stop _ (not_fail c.in_default.not-Fail) no
+pub returns-in-Err-Stop : goal.returns-in-Err-Stop
+returns-in-Err-Stop c = record { how = ends (at_stop _ _ (unread_stop c.in-Err-Stop.field-0-is c.in-Err-Stop.ensures _)) }

@@ -1,37 +1,22 @@
 -- `scan::tokens::past` meets its contract. Assumes nothing.
-use mathlib.Core.Path.{◌≡◌, refl}
-use mathlib.Core.List.{List}
-use Prim.Native.Nat.{ℕ, ◌+◌}
-use Rattle.scan.specs.Post.{Saw}
-use Rattle.scan.specs.Lists.{Passing, took, lacks, Passes}
-use Rattle.scan.specs.declared.Step.{Step}
-use Rattle.scan.specs.declared.Seen.{Seen}
-use Rattle.scan.specs.declared.Seen.TheVariants.{Token as Took}
-use Rattle.scan.specs.declared.Listed.{Listed}
-use Rattle.scan.specs.declared.Listed.TheVariants.{Suite, Control as LControl, Not as LNot}
-use Rattle.scan.proofs.Laws.{not_taken, not_seen}
+use mathlib.Core.Path.{refl}
+use Rattle.scan.proofs.Laws.{handed, taken, not_seen}
 use Rattle.scan.proofs.tokens.past.Goals as goal
 
-passed_token : {T : List ℕ} {p w : ℕ} {on : Listed} {s : Seen} {k n v : ℕ} → s ≡ Took k n v → Saw T p w s → Passing T p w on on
-passed_token e h = took (rw e at h).how refl
+pub look-requires : goal.look-requires
+look-requires c = let within = c.requires in (rw c.in-Suite.is at within).how
 
-passes_suite : {T : List ℕ} {p a w m last : ℕ} {l r : Listed} → l ≡ Suite p a w m last → Passing T p w (Suite (p + 2) a w m last) r → Passes T l r
-passes_suite e h = record { how = rw e h }
+pub returns-in_err-look-in-Suite : goal.returns-in_err-look-in-Suite
+returns-in_err-look-in-Suite c = rw (handed c.from_residual.ensures.1, c.in-Suite.is) (record { how = not_seen c.in_err-look-in-Suite.ensures })
 
-passes_control : {T : List ℕ} {p a w : ℕ} {l r : Listed} → l ≡ LControl p a w → Passing T p w (LControl (p + 2) a w) r → Passes T l r
-passes_control e h = record { how = rw e h }
+pub returns-in_ok-look-in-Suite : goal.returns-in_ok-look-in-Suite
+returns-in_ok-look-in-Suite c = rw c.in-Suite.is (record { how = (_, record { is = refl; taken = taken c.in_ok-look-in-Suite.ensures }) })
 
-passes_not : {T : List ℕ} {s : Step} {l : Listed} → l ≡ LNot s → Passes T l (LNot s)
-passes_not e = record { how = rw e refl }
+pub look-requires-in-Control : goal.look-requires-in-Control
+look-requires-in-Control c = let within = c.requires in (rw c.in-Control.is at within).how
 
-pub returns-in-Token : goal.returns-in-Token
-returns-in-Token c = passes_suite c.in-Suite.is (passed_token c.in-Token.is c.look.ensures)
+pub returns-in_err-look-in-Control : goal.returns-in_err-look-in-Control
+returns-in_err-look-in-Control c = rw (handed c.from_residual-in_err-look-in-Control.ensures.1, c.in-Control.is) (record { how = not_seen c.in_err-look-in-Control.ensures })
 
-pub returns-in-Not-look : goal.returns-in-Not-look
-returns-in-Not-look c = passes_suite c.in-Suite.is (lacks (not_seen (not_taken c.in-Not-look.is c.look.ensures)) refl)
-
-pub returns-in-Token-look : goal.returns-in-Token-look
-returns-in-Token-look c = passes_control c.in-Control.is (passed_token c.in-Token-look.is c.look-in-Control.ensures)
-
-pub returns-in-Not-look-2 : goal.returns-in-Not-look-2
-returns-in-Not-look-2 c = passes_control c.in-Control.is (lacks (not_seen (not_taken c.in-Not-look-2.is c.look-in-Control.ensures)) refl)
+pub returns-in_ok-look-in-Control : goal.returns-in_ok-look-in-Control
+returns-in_ok-look-in-Control c = rw c.in-Control.is (record { how = (_, record { is = refl; taken = taken c.in_ok-look-in-Control.ensures }) })

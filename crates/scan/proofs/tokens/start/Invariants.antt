@@ -14,8 +14,8 @@ pub record Going (T : List ℕ) (pos p : ℕ) : Type 0 where
   pub on : pos ≤ p
   pub within : p ≤ length T
 
-abbrev pub invariant-loop-kind : goal.invariant-loop-kind
-invariant-loop-kind l = Going l.tokens l.pos l.p
+abbrev pub invariant-loop-token : goal.invariant-loop-token
+invariant-loop-token l = Going l.tokens l.fn.pos l.pos
 
-abbrev pub decreases-loop-kind : goal.decreases-loop-kind
-decreases-loop-kind l = length l.tokens - l.p
+abbrev pub decreases-loop-token : goal.decreases-loop-token
+decreases-loop-token l = length l.tokens - l.pos
