@@ -7,7 +7,7 @@ use lib.ListN.{length, take, drop}
 use Rattle.tree.specs.Tree.{Tree, Forest, node, none, more, one, two, three, count, snoc, records, all_records}
 use Rattle.tree.specs.Store.{Emitted}
 use Rattle.grammar.specs.Reading.Result.{Res, Error}
-use Rattle.scan.specs.Post.{As, Moved, Room, Wrote, waiting_errors}
+use Rattle.scan.specs.Post.{As, Moved, Room, Wrote}
 use Rattle.nodes.specs.Ends.{Ended}
 
 -- the record of a node, after those of its kids
@@ -47,22 +47,22 @@ count_snoc none t = refl
 count_snoc (more u f) t = rw (count_snoc f t) (omega arith)
 
 -- what ends by a record of its own, after those of its kids
-module _ {E : Type 0} {D : Res E} {K : Tree → List Error → List ℕ → Res E} {T : List ℕ} {pos least slack at w₀ : ℕ} {S Q : List ℕ} {q r w : ℕ} {S'' Q'' : List ℕ} (k : ℕ) where
-  pub made_none : {v word : ℕ} → Emitted at word v r S S'' → As (waiting_errors w₀ Q) D (waiting_errors w Q'') (K (node k v none) (waiting_errors w Q'') (drop q T)) → Moved (length T) least w₀ q w (length Q'') → Room pos at slack q r → word ≡ k + 0 → Wrote records D K T pos least slack at w₀ S Q q r w S'' Q''
+module _ {E : Type 0} {D : Res E} {K : Tree → List Error → List ℕ → Res E} {T : List ℕ} {pos least slack at : ℕ} {S Q : List ℕ} {q r : ℕ} {S'' Q'' : List ℕ} (k : ℕ) where
+  pub made_none : {v word : ℕ} → Emitted at word v r S S'' → As Q D Q'' (K (node k v none) Q'' (drop q T)) → Moved (length T) least q Q Q'' → Room pos at slack q r → word ≡ k + 0 → Wrote records D K T pos least slack at S Q q r S'' Q''
   unfolding records count
   made_none {v} e same moved room g = record { what = node k v none; same = same; moved = moved; room = room; text = put k none (take at S) e (sym (append-nil (take at S))) g }
 
-  module _ {v word : ℕ} {C : Type 0} {d : Res C} {pos' least' slack' w₁ : ℕ} {Q₁ : List ℕ} {p a w₂ : ℕ} {S' Q' : List ℕ} where
-    pub made : {k' : Forest → List Error → List ℕ → Res C} (g : Wrote all_records d k' T pos' least' slack' at w₁ S Q₁ p a w₂ S' Q') → Emitted a word v r S' S'' → As (waiting_errors w₀ Q) D (waiting_errors w Q'') (K (node k v g.what) (waiting_errors w Q'') (drop q T)) → Moved (length T) least w₀ q w (length Q'') → Room pos at slack q r → word ≡ k + 256 * count g.what → Wrote records D K T pos least slack at w₀ S Q q r w S'' Q''
+  module _ {v word : ℕ} {C : Type 0} {d : Res C} {pos' least' slack' : ℕ} {Q₁ : List ℕ} {p a : ℕ} {S' Q' : List ℕ} where
+    pub made : {k' : Forest → List Error → List ℕ → Res C} (g : Wrote all_records d k' T pos' least' slack' at S Q₁ p a S' Q') → Emitted a word v r S' S'' → As Q D Q'' (K (node k v g.what) Q'' (drop q T)) → Moved (length T) least q Q Q'' → Room pos at slack q r → word ≡ k + 256 * count g.what → Wrote records D K T pos least slack at S Q q r S'' Q''
     made g e same moved room i = record { what = node k v g.what; same = same; moved = moved; room = room; text = put k g.what (take at S) e g.text i }
 
-    module _ {k' : Tree → List Error → List ℕ → Res C} (g : Wrote records d k' T pos' least' slack' at w₁ S Q₁ p a w₂ S' Q') where
-      pub made_one : Emitted a word v r S' S'' → As (waiting_errors w₀ Q) D (waiting_errors w Q'') (K (node k v (one g.what)) (waiting_errors w Q'') (drop q T)) → Moved (length T) least w₀ q w (length Q'') → Room pos at slack q r → word ≡ k + 256 → Wrote records D K T pos least slack at w₀ S Q q r w S'' Q''
+    module _ {k' : Tree → List Error → List ℕ → Res C} (g : Wrote records d k' T pos' least' slack' at S Q₁ p a S' Q') where
+      pub made_one : Emitted a word v r S' S'' → As Q D Q'' (K (node k v (one g.what)) Q'' (drop q T)) → Moved (length T) least q Q Q'' → Room pos at slack q r → word ≡ k + 256 → Wrote records D K T pos least slack at S Q q r S'' Q''
       unfolding count
       made_one e same moved room i = record { what = node k v (one g.what); same = same; moved = moved; room = room; text = put k (one g.what) (take at S) e (rw all_one g.text) i }
 
-      pub made_two : {C' : Type 0} {d₂ : Res C'} {k₂ : Tree → List Error → List ℕ → Res C'} {pos₂ least₂ slack₂ w₃ : ℕ} {Q₃ : List ℕ} {p₂ a₂ w₄ : ℕ} {S₂ Q₄ : List ℕ} (h : Wrote records d₂ k₂ T pos₂ least₂ slack₂ a w₃ S' Q₃ p₂ a₂ w₄ S₂ Q₄) → Emitted a₂ word v r S₂ S''
-          → As (waiting_errors w₀ Q) D (waiting_errors w Q'') (K (node k v (two g.what h.what)) (waiting_errors w Q'') (drop q T)) → Moved (length T) least w₀ q w (length Q'') → Room pos at slack q r → word ≡ k + 512 → Wrote records D K T pos least slack at w₀ S Q q r w S'' Q''
+      pub made_two : {C' : Type 0} {d₂ : Res C'} {k₂ : Tree → List Error → List ℕ → Res C'} {pos₂ least₂ slack₂ : ℕ} {Q₃ : List ℕ} {p₂ a₂ : ℕ} {S₂ Q₄ : List ℕ} (h : Wrote records d₂ k₂ T pos₂ least₂ slack₂ a S' Q₃ p₂ a₂ S₂ Q₄) → Emitted a₂ word v r S₂ S''
+          → As Q D Q'' (K (node k v (two g.what h.what)) Q'' (drop q T)) → Moved (length T) least q Q Q'' → Room pos at slack q r → word ≡ k + 512 → Wrote records D K T pos least slack at S Q q r S'' Q''
       unfolding count
       made_two h e same moved room i = record { what = node k v (two g.what h.what); same = same; moved = moved; room = room; text = put k (two g.what h.what) (take at S) e (h.text ∙ rw (g.text, all_two, append_assoc)) i }
 
@@ -71,8 +71,8 @@ pub joined : (f : Forest) (t : Tree) (Z : List ℕ) {X Y : List ℕ} → Y ≡ X
 joined f t Z e h = e ∙ rw (h, all_snoc, append_assoc)
 
 -- what a function that ends a tree made of it
-pub remade : {A B C E : Type 0} {words : A → List ℕ} {fits : A → Type 0} {words' : B → List ℕ} {make : A → B} {d : Res C} {k : A → List Error → List ℕ → Res C} {T : List ℕ} {pos' least' slack' at w₁ : ℕ} {S Q₁ : List ℕ} {p a w₂ : ℕ} {S' Q' : List ℕ}
-    (g : Wrote words d k T pos' least' slack' at w₁ S Q₁ p a w₂ S' Q') {most r : ℕ} {S'' : List ℕ} → Ended words fits words' make a most r S' S'' → fits g.what
-    → {D : Res E} {K : B → List Error → List ℕ → Res E} {pos least slack w₀ : ℕ} {Q : List ℕ} {q w : ℕ} {Q'' : List ℕ} → As (waiting_errors w₀ Q) D (waiting_errors w Q'') (K (make g.what) (waiting_errors w Q'') (drop q T)) → Moved (length T) least w₀ q w (length Q'') → Room pos at slack q r
-    → Wrote words' D K T pos least slack at w₀ S Q q r w S'' Q''
+pub remade : {A B C E : Type 0} {words : A → List ℕ} {fits : A → Type 0} {words' : B → List ℕ} {make : A → B} {d : Res C} {k : A → List Error → List ℕ → Res C} {T : List ℕ} {pos' least' slack' at : ℕ} {S Q₁ : List ℕ} {p a : ℕ} {S' Q' : List ℕ}
+    (g : Wrote words d k T pos' least' slack' at S Q₁ p a S' Q') {most r : ℕ} {S'' : List ℕ} → Ended words fits words' make a most r S' S'' → fits g.what
+    → {D : Res E} {K : B → List Error → List ℕ → Res E} {pos least slack : ℕ} {Q : List ℕ} {q : ℕ} {Q'' : List ℕ} → As Q D Q'' (K (make g.what) Q'' (drop q T)) → Moved (length T) least q Q Q'' → Room pos at slack q r
+    → Wrote words' D K T pos least slack at S Q q r S'' Q''
 remade {make = make} {at = at} {S = S} g e f same moved room = record { what = make g.what; same = same; moved = moved; room = room; text = e.text (take at S) g.what f g.text }

@@ -5,10 +5,11 @@ use Rattle.tree.specs.Tree.{Tree, Forest, node, one, snoc, count, records, all_r
 use Rattle.tree.specs.Node
 use Rattle.grammar.specs.Reading.Expr.{Stmts}
 use Rattle.grammar.specs.Reading.Block.{whole, split, block_of}
-use Rattle.scan.specs.declared.Step.{Step}
-use Rattle.scan.specs.declared.Step.TheVariants.{Done, Fail, Stop}
+use Rattle.scan.specs.declared.Cursor.{Cursor}
 use Rattle.scan.specs.declared.Listed.{Listed}
-use Rattle.scan.specs.declared.Listed.TheVariants.{Suite, Control, Not}
+use Rattle.scan.specs.declared.Listed.TheVariants.{Suite as ASuite, Control}
+use Rattle.scan.specs.declared.Suite.{Suite}
+use Rattle.scan.specs.Lists.{end_of}
 
 -- the end of a list's statements, whose words stand from «at» to a: the last one is an expression statement, whose words start at «last»; or last is a
 pub data Ends (f : Forest) (at a last : ℕ) : Type 0 where
@@ -41,9 +42,8 @@ pub record Closing (m most a n last : ℕ) : Type 0 where
   pub some : (last ≡ a → ⊥) → (last + 2 ≤ a) × (1 ≤ n)
 
 abbrev pub ClosableAs : ℕ → ℕ → Listed → Type 0
-ClosableAs m most (Suite p a w n last) = Closing m most a n last
-ClosableAs m most (Control p a w) = a + most ≤ m
-ClosableAs m most (Not s) = Unit {0}
+ClosableAs m most (ASuite suite) = Closing m most suite.end.at suite.count suite.last
+ClosableAs m most (Control end) = end.at + most ≤ m
 
 pub record Closable (m most : ℕ) (l : Listed) : Type 0 where
   pub how : ClosableAs m most l
@@ -55,21 +55,16 @@ pub record Blocked (a n last r : ℕ) (S S' : List ℕ) : Type 0 where
   pub text : (s : Stmts) (X : List ℕ) → SuiteStands s X S a n last → take r S' ≡ X ++ records (block_of s)
 
 -- the list became a tree and a record behind it, which is to be the node over that tree and those before it
-pub record Under (tree : Stmts → Tree) (stands : Stmts → List ℕ → Type 0) (word value most p a w : ℕ) (p' b w' : ℕ) (S' : List ℕ) : Type 0 where
-  pub stays : p' ≡ p
-  pub waits : w' ≡ w
-  pub up : a ≤ b
-  pub far : b ≤ a + most
-  pub text : (s : Stmts) (X : List ℕ) → stands s X → take b S' ≡ X ++ (records (tree s) ++ word ∷ value ∷ [])
+pub record Under (tree : Stmts → Tree) (stands : Stmts → List ℕ → Type 0) (word value most : ℕ) (end r : Cursor) (S' : List ℕ) : Type 0 where
+  pub stays : r.pos ≡ end.pos
+  pub up : end.at ≤ r.at
+  pub far : r.at ≤ end.at + most
+  pub text : (s : Stmts) (X : List ℕ) → stands s X → take r.at S' ≡ X ++ (records (tree s) ++ word ∷ value ∷ [])
 
-abbrev pub UnderAs : (Stmts → Tree) → ℕ → ℕ → ℕ → List ℕ → List ℕ → Listed → Step → Type 0
-UnderAs tree word value most S S' (Suite p a w n last) (Done p' b w') = Under tree (λ s X. SuiteStands s X S a n last) word value most p a w p' b w' S'
-UnderAs tree word value most S S' (Suite p a w n last) (Fail failure) = ⊥
-UnderAs tree word value most S S' (Suite p a w n last) (Stop k) = ⊥
-UnderAs tree word value most S S' (Control p a w) (Done p' b w') = Under tree (λ s X. HeldStands s X S a) word value most p a w p' b w' S'
-UnderAs tree word value most S S' (Control p a w) (Fail failure) = ⊥
-UnderAs tree word value most S S' (Control p a w) (Stop k) = ⊥
-UnderAs tree word value most S S' (Not s) r = (r ≡ s) × (S' ≡ S)
+-- how a list stands in the store
+abbrev pub Stands : List ℕ → Listed → Stmts → List ℕ → Type 0
+Stands S (ASuite suite) s X = SuiteStands s X S suite.end.at suite.count suite.last
+Stands S (Control end) s X = HeldStands s X S end.at
 
-pub record Unders (tree : Stmts → Tree) (word value most : ℕ) (S S' : List ℕ) (l : Listed) (r : Step) : Type 0 where
-  pub how : UnderAs tree word value most S S' l r
+pub record Unders (tree : Stmts → Tree) (word value most : ℕ) (S S' : List ℕ) (l : Listed) (r : Cursor) : Type 0 where
+  pub how : Under tree (Stands S l) word value most (end_of l) r S'

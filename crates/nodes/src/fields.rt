@@ -12,21 +12,22 @@ ghost use Rattle.nodes.specs.Ends.{Added, Ended, as_it_is};
 ghost use Rattle.nodes.specs.Parameters.{name_bound, Heads, required_words, params_words, variadic_of, with_default, Fitting, Joins, JoinedBy, One};
 
 use crate::records::list_end;
-use crate::{Head, Joined, Parameter};
+use crate::{Counts, Head, Joined, Parameter};
 use scan::tokens::{expect, expect_name, look};
-use scan::{Failure, Found, Seen, Step, number};
+use scan::{Cursor, Failure, Found, Halt, number};
 use token::kind;
 use tree::{emit, word};
 
 // `parse_member_access`, behind `.`.
-pub fn member(tokens: &[u64], store: &mut [u64], pos: usize, at: usize, waiting: usize) -> Step
-    requires { (pos ≤ length tokens.now) × (at + 2 ≤ length store.old) }
-    ensures { Writes records (λ q. member_access q (drop pos tokens.now)) tokens.now pos (pos + 2) 2 at waiting (take at store.old) store.old store.new result }
+pub fn member(tokens: &[u64], store: &mut [u64], cursor: Cursor) -> Result<Cursor, Halt>
+    requires { (cursor.pos ≤ length tokens.now) × (cursor.at + 2 ≤ length store.old) }
+    ensures { Writes records (λ q. member_access q (drop cursor.pos tokens.now)) tokens.now cursor.pos (cursor.pos + 2) 2 cursor.at (take cursor.at store.old) store.old store.new result }
 {
-    match expect_name(tokens, number::MEMBER_NAME, pos, waiting) {
-        Found::At(p, name) => Step::Done(p, emit(store, at, word::ATTRIBUTE, name), waiting),
-        Found::Not(s) => s,
-    }
+    let name = expect_name(tokens, number::MEMBER_NAME, cursor.pos)?;
+    Ok(Cursor {
+        pos: name.pos,
+        at: emit(store, cursor.at, word::ATTRIBUTE, name.number),
+    })
 }
 
 // A table field's name behind `var` or `let`.
@@ -35,149 +36,132 @@ fn field_name(
     store: &mut [u64],
     access: u64,
     e: u64,
-    pos: usize,
-    at: usize,
-    waiting: usize,
-) -> Step
-    requires { (pos ≤ length tokens.now) × (at + 2 ≤ length store.old) × (access ≤ 1) }
-    ensures { Writes records (λ q. field_name_def access e q (drop pos tokens.now)) tokens.now pos (pos + 2) 2 at waiting (take at store.old) store.old store.new result }
+    cursor: Cursor,
+) -> Result<Cursor, Halt>
+    requires { (cursor.pos ≤ length tokens.now) × (cursor.at + 2 ≤ length store.old) × (access ≤ 1) }
+    ensures { Writes records (λ q. field_name_def access e q (drop cursor.pos tokens.now)) tokens.now cursor.pos (cursor.pos + 2) 2 cursor.at (take cursor.at store.old) store.old store.new result }
 {
-    match expect_name(tokens, e, pos, waiting) {
-        Found::At(p, name) => {
-            let a = emit(store, at, word::FIELD_ATTRIBUTE, name * 2 + access);
-            Step::Done(p, a, waiting)
-        }
-        Found::Not(s) => s,
-    }
+    let name = expect_name(tokens, e, cursor.pos)?;
+    let value = name.number * 2 + access;
+    Ok(Cursor {
+        pos: name.pos,
+        at: emit(store, cursor.at, word::FIELD_ATTRIBUTE, value),
+    })
 }
 
-// A table field that is no index, from the token behind which pos stands.
+// A table field that is no index, from the token behind which the cursor stands.
 pub fn named_field(
     tokens: &[u64],
     store: &mut [u64],
     kind: u64,
     value: u64,
-    pos: usize,
-    at: usize,
-    waiting: usize,
-) -> Step
-    requires { (pos ≤ length tokens.now) × (at + 2 ≤ length store.old) × (kind ≡ Kind.Identifier → value < 4294967296) }
-    ensures { Writes records (λ q. named_field_def kind value q (drop pos tokens.now)) tokens.now pos pos 2 at waiting (take at store.old) store.old store.new result }
+    cursor: Cursor,
+) -> Result<Cursor, Halt>
+    requires { (cursor.pos ≤ length tokens.now) × (cursor.at + 2 ≤ length store.old) × (kind ≡ Kind.Identifier → value < 4294967296) }
+    ensures { Writes records (λ q. named_field_def kind value q (drop cursor.pos tokens.now)) tokens.now cursor.pos cursor.pos 2 cursor.at (take cursor.at store.old) store.old store.new result }
 {
     match kind {
-        kind::VAR => field_name(tokens, store, 1, number::NAME_AFTER_VAR, pos, at, waiting),
-        kind::LET => field_name(tokens, store, 0, number::NAME_AFTER_LET, pos, at, waiting),
-        kind::IDENTIFIER => Step::Done(
-            pos,
-            emit(store, at, word::FIELD_ATTRIBUTE, value * 2),
-            waiting,
-        ),
-        _ => Step::Fail(Failure {
-            error: number::INVALID_FIELD,
-            pos,
-            waiting,
+        kind::VAR => field_name(tokens, store, 1, number::NAME_AFTER_VAR, cursor),
+        kind::LET => field_name(tokens, store, 0, number::NAME_AFTER_LET, cursor),
+        kind::IDENTIFIER => Ok(Cursor {
+            at: emit(store, cursor.at, word::FIELD_ATTRIBUTE, value * 2),
+            ..cursor
         }),
+        _ => Err(Halt::Fail(Failure {
+            error: number::INVALID_FIELD,
+            pos: cursor.pos,
+        })),
     }
 }
 
 // What must stand behind a table item, and is taken: a comma, 0; or `}`, 1.
-pub fn item_end(tokens: &[u64], pos: usize, waiting: usize) -> Found
+pub fn item_end(tokens: &[u64], pos: usize) -> Result<Found, Halt>
     requires { pos ≤ length tokens.now }
-    ensures { Finds itself (λ q. item_end_def q (drop pos tokens.now)) tokens.now pos (pos + 2) (pos + 2) 2 waiting result }
+    ensures { Finds itself (λ q. item_end_def q (drop pos tokens.now)) tokens.now pos (pos + 2) (pos + 2) 2 result }
 {
-    match look(tokens, pos, waiting) {
-        Seen::Token(kind, _, _) => match kind {
-            kind::COMMA => Found::At(pos + 2, 0),
-            kind::CLOSE_BRACE => Found::At(pos + 2, 1),
-            _ => Found::Not(Step::Fail(Failure {
-                error: number::TABLE_CLOSING,
-                pos: pos + 2,
-                waiting,
-            })),
-        },
-        Seen::Not(s) => Found::Not(s),
+    let token = look(tokens, pos)?;
+    let pos = pos + 2;
+    match token.kind {
+        kind::COMMA => Ok(Found { pos, number: 0 }),
+        kind::CLOSE_BRACE => Ok(Found { pos, number: 1 }),
+        _ => Err(Halt::Fail(Failure {
+            error: number::TABLE_CLOSING,
+            pos,
+        })),
     }
 }
 
 // The access before a parameter's name; anything but a name behind it is left.
-fn param_mode(tokens: &[u64], pos: usize, waiting: usize) -> Found
+fn param_mode(tokens: &[u64], pos: usize) -> Result<Found, Halt>
     requires { pos ≤ length tokens.now }
-    ensures { Finds itself (λ q. param_mode_def q (drop pos tokens.now)) tokens.now pos pos pos 2 waiting result }
+    ensures { Finds itself (λ q. param_mode_def q (drop pos tokens.now)) tokens.now pos pos pos 2 result }
 {
-    match look(tokens, pos, waiting) {
-        Seen::Token(kind, _, _) => match kind {
-            kind::VAR => Found::At(pos + 2, 1),
-            kind::LET => Found::At(pos + 2, 0),
-            kind::IDENTIFIER => Found::At(pos, 0),
-            _ => Found::Not(Step::Fail(Failure {
-                error: number::INVALID_PARAM,
-                pos,
-                waiting,
-            })),
-        },
-        Seen::Not(s) => Found::Not(s),
+    let token = look(tokens, pos)?;
+    match token.kind {
+        kind::VAR => Ok(Found {
+            pos: pos + 2,
+            number: 1,
+        }),
+        kind::LET => Ok(Found {
+            pos: pos + 2,
+            number: 0,
+        }),
+        kind::IDENTIFIER => Ok(Found { pos, number: 0 }),
+        _ => Err(Halt::Fail(Failure {
+            error: number::INVALID_PARAM,
+            pos,
+        })),
     }
 }
 
 // A parameter's name with its access.
-fn param_name(tokens: &[u64], pos: usize, waiting: usize) -> Found
+fn param_name(tokens: &[u64], pos: usize) -> Result<Found, Halt>
     requires { pos ≤ length tokens.now }
-    ensures { Finds itself (λ q. param_name_def q (drop pos tokens.now)) tokens.now pos (pos + 2) pos name_bound waiting result }
+    ensures { Finds itself (λ q. param_name_def q (drop pos tokens.now)) tokens.now pos (pos + 2) pos name_bound result }
 {
-    let mode = param_mode(tokens, pos, waiting);
-    let Found::At(p, access) = mode else {
-        return mode;
-    };
-    match expect_name(tokens, number::INVALID_PARAM, p, waiting) {
-        Found::At(p2, name) => Found::At(p2, name * 2 + access),
-        Found::Not(s) => Found::Not(s),
-    }
+    let mode = param_mode(tokens, pos)?;
+    let name = expect_name(tokens, number::INVALID_PARAM, mode.pos)?;
+    Ok(Found {
+        pos: name.pos,
+        number: name.number * 2 + mode.number,
+    })
 }
 
 // Behind a variadic parameter: no default.
-fn variadic_param(tokens: &[u64], v: u64, pos: usize, waiting: usize) -> Head
+fn variadic_param(tokens: &[u64], v: u64, pos: usize) -> Result<Head, Halt>
     requires { (pos ≤ length tokens.now) × (v < name_bound) }
-    ensures { Heads (λ q. variadic_head v q (drop pos tokens.now)) tokens.now pos pos waiting result }
+    ensures { Heads (λ q. variadic_head v q (drop pos tokens.now)) tokens.now pos pos result }
 {
-    match look(tokens, pos, waiting) {
-        Seen::Token(kind, _, _) => {
-            if kind == kind::OP_ASSIGN {
-                return Head::Not(Step::Fail(Failure {
-                    error: number::VARIADIC_DEFAULT,
-                    pos,
-                    waiting,
-                }));
-            }
-            Head::Variadic(pos, v)
-        }
-        Seen::Not(s) => Head::Not(s),
+    let token = look(tokens, pos)?;
+    if token.kind == kind::OP_ASSIGN {
+        return Err(Halt::Fail(Failure {
+            error: number::VARIADIC_DEFAULT,
+            pos,
+        }));
     }
+    Ok(Head::Variadic(pos, v))
 }
 
 // Behind a parameter's name: `...`, `=`, or neither.
-fn param_kind(tokens: &[u64], v: u64, pos: usize, waiting: usize) -> Head
+fn param_kind(tokens: &[u64], v: u64, pos: usize) -> Result<Head, Halt>
     requires { (pos ≤ length tokens.now) × (v < name_bound) }
-    ensures { Heads (λ q. param_kind_def v q (drop pos tokens.now)) tokens.now pos pos waiting result }
+    ensures { Heads (λ q. param_kind_def v q (drop pos tokens.now)) tokens.now pos pos result }
 {
-    match look(tokens, pos, waiting) {
-        Seen::Token(kind, _, _) => match kind {
-            kind::ELLIPSIS => variadic_param(tokens, v, pos + 2, waiting),
-            kind::OP_ASSIGN => Head::Default(pos + 2, v),
-            _ => Head::Required(pos, v),
-        },
-        Seen::Not(s) => Head::Not(s),
+    let token = look(tokens, pos)?;
+    match token.kind {
+        kind::ELLIPSIS => variadic_param(tokens, v, pos + 2),
+        kind::OP_ASSIGN => Ok(Head::Default(pos + 2, v)),
+        _ => Ok(Head::Required(pos, v)),
     }
 }
 
 // A parameter, up to its default's expression.
-pub fn param_head(tokens: &[u64], pos: usize, waiting: usize) -> Head
+pub fn param_head(tokens: &[u64], pos: usize) -> Result<Head, Halt>
     requires { pos ≤ length tokens.now }
-    ensures { Heads (λ q. param_head_def q (drop pos tokens.now)) tokens.now pos (pos + 2) waiting result }
+    ensures { Heads (λ q. param_head_def q (drop pos tokens.now)) tokens.now pos (pos + 2) result }
 {
-    match param_name(tokens, pos, waiting) {
-        Found::At(p, v) => param_kind(tokens, v, p, waiting),
-        Found::Not(s) => Head::Not(s),
-    }
+    let name = param_name(tokens, pos)?;
+    param_kind(tokens, name.number, name.pos)
 }
 
 // The list of the required parameters stands before the first default.
@@ -203,13 +187,13 @@ fn variadic_end(store: &mut [u64], a: usize, variadic: u64) -> usize
 }
 
 // The children of a signature, behind its parameters.
-pub fn params_end(store: &mut [u64], a: usize, required: u64, default: u64, variadic: u64) -> usize
-    requires { (a + 6 ≤ length store.old) × (required ≤ 65536) × (default ≤ 65536) }
-    ensures { Ended params_words (λ ps. Fitting ps required default variadic) signature_words as_it_is a 6 result store.old store.new }
+pub fn params_end(store: &mut [u64], a: usize, counts: Counts) -> usize
+    requires { (a + 6 ≤ length store.old) × (counts.required ≤ 65536) × (counts.default ≤ 65536) }
+    ensures { Ended params_words (λ ps. Fitting ps counts) signature_words as_it_is a 6 result store.old store.new }
 {
-    let b = required_end(store, a, required, default);
-    let d = list_end(store, b, default);
-    variadic_end(store, d, variadic)
+    let b = required_end(store, a, counts.required, counts.default);
+    let d = list_end(store, b, counts.default);
+    variadic_end(store, d, counts.variadic)
 }
 
 // The signature, behind its children: what must stand there is `)`.
@@ -217,43 +201,39 @@ pub fn signature_end(
     tokens: &[u64],
     store: &mut [u64],
     name: u64,
-    pos: usize,
-    at: usize,
-    waiting: usize,
-) -> Step
-    requires { (pos ≤ length tokens.now) × (at + 2 ≤ length store.old) }
-    ensures { Writes (λ tok. 792 ∷ name ∷ []) (λ q. expect_def Kind.CloseParen Number.params_closing q (drop pos tokens.now)) tokens.now pos (pos + 2) 2 at waiting (take at store.old) store.old store.new result }
+    cursor: Cursor,
+) -> Result<Cursor, Halt>
+    requires { (cursor.pos ≤ length tokens.now) × (cursor.at + 2 ≤ length store.old) }
+    ensures { Writes (λ tok. 792 ∷ name ∷ []) (λ q. expect_def Kind.CloseParen Number.params_closing q (drop cursor.pos tokens.now)) tokens.now cursor.pos (cursor.pos + 2) 2 cursor.at (take cursor.at store.old) store.old store.new result }
 {
-    let c = expect(
+    let pos = expect(
         tokens,
         kind::CLOSE_PAREN,
         number::PARAMS_CLOSING,
+        cursor.pos,
+    )?;
+    Ok(Cursor {
         pos,
-        at,
-        waiting,
-    );
-    let Step::Done(p, _, _) = c else {
-        return c;
-    };
-    Step::Done(p, emit(store, at, word::SIGNATURE_DEF, name), waiting)
+        at: emit(store, cursor.at, word::SIGNATURE_DEF, name),
+    })
 }
 
 // What must stand behind a parameter: a comma, which is taken, 1; or `)`, 0.
-fn separator(tokens: &[u64], pos: usize, waiting: usize) -> Found
+fn separator(tokens: &[u64], pos: usize) -> Result<Found, Halt>
     requires { pos ≤ length tokens.now }
-    ensures { Finds itself (λ q. separator_def q (drop pos tokens.now)) tokens.now pos pos pos 2 waiting result }
+    ensures { Finds itself (λ q. separator_def q (drop pos tokens.now)) tokens.now pos pos pos 2 result }
 {
-    match look(tokens, pos, waiting) {
-        Seen::Token(kind, _, _) => match kind {
-            kind::COMMA => Found::At(pos + 2, 1),
-            kind::CLOSE_PAREN => Found::At(pos, 0),
-            _ => Found::Not(Step::Fail(Failure {
-                error: number::INVALID_PARAM,
-                pos,
-                waiting,
-            })),
-        },
-        Seen::Not(s) => Found::Not(s),
+    let token = look(tokens, pos)?;
+    match token.kind {
+        kind::COMMA => Ok(Found {
+            pos: pos + 2,
+            number: 1,
+        }),
+        kind::CLOSE_PAREN => Ok(Found { pos, number: 0 }),
+        _ => Err(Halt::Fail(Failure {
+            error: number::INVALID_PARAM,
+            pos,
+        })),
     }
 }
 
@@ -261,75 +241,64 @@ fn join_required(
     tokens: &[u64],
     store: &mut [u64],
     v: u64,
-    required: u64,
-    default: u64,
-    variadic: u64,
-    pos: usize,
-    at: usize,
-    waiting: usize,
-) -> Joined
-    requires { (pos ≤ length tokens.now) × (at + 2 ≤ length store.old) × (required ≤ 65536) × (variadic ≤ name_bound) }
-    ensures { (X : List ℕ) (ps : Params) → Fitting ps required default variadic → take at store.old ≡ X ++ params_words ps → Joins (λ q. join ps (a_required v) q (drop pos tokens.now)) X tokens.now pos (required + default) at waiting store.old store.new result }
+    counts: Counts,
+    cursor: Cursor,
+) -> Result<Joined, Halt>
+    requires { (cursor.pos ≤ length tokens.now) × (cursor.at + 2 ≤ length store.old) × (counts.required ≤ 65536) × (counts.variadic ≤ name_bound) }
+    ensures { (X : List ℕ) (ps : Params) → Fitting ps counts → take cursor.at store.old ≡ X ++ params_words ps → Joins (λ q. join ps (a_required v) q (drop cursor.pos tokens.now)) X tokens.now cursor.pos counts cursor.at store.old store.new result }
 {
-    match separator(tokens, pos, waiting) {
-        Found::At(p, _) => {
-            if 0 < default {
-                return Joined::Not(Step::Fail(Failure {
-                    error: number::PARAM_ORDER,
-                    pos,
-                    waiting,
-                }));
-            }
-            let a = emit(store, at, word::PARAM_DEF, v);
-            Joined::To(p, a, waiting, required + 1, default, variadic)
-        }
-        Found::Not(s) => Joined::Not(s),
+    let pos = separator(tokens, cursor.pos)?.pos;
+    if 0 < counts.default {
+        return Err(Halt::Fail(Failure {
+            error: number::PARAM_ORDER,
+            pos: cursor.pos,
+        }));
     }
+    let at = emit(store, cursor.at, word::PARAM_DEF, v);
+    Ok(Joined {
+        end: Cursor { pos, at },
+        counts: Counts {
+            required: counts.required + 1,
+            ..counts
+        },
+    })
 }
 
-fn join_variadic(
-    tokens: &[u64],
-    v: u64,
-    required: u64,
-    default: u64,
-    pos: usize,
-    at: usize,
-    waiting: usize,
-) -> Joined
-    requires { (pos ≤ length tokens.now) × (v < name_bound) }
-    ensures { (S X : List ℕ) (ps : Params) (u : ℕ) → Fitting ps required default u → take at S ≡ X ++ params_words ps → Joins (λ q. join ps (a_variadic v) q (drop pos tokens.now)) X tokens.now pos (required + default) at waiting S S result }
+fn join_variadic(tokens: &[u64], v: u64, counts: Counts, cursor: Cursor) -> Result<Joined, Halt>
+    requires { (cursor.pos ≤ length tokens.now) × (v < name_bound) }
+    ensures { (S X : List ℕ) (ps : Params) → Fitting ps counts → take cursor.at S ≡ X ++ params_words ps → Joins (λ q. join ps (a_variadic v) q (drop cursor.pos tokens.now)) X tokens.now cursor.pos counts cursor.at S S result }
 {
-    match separator(tokens, pos, waiting) {
-        Found::At(p, comma) => {
-            if comma == 1 {
-                return Joined::Not(Step::Fail(Failure {
-                    error: number::VARIADIC_NOT_LAST,
-                    pos,
-                    waiting,
-                }));
-            }
-            Joined::To(p, at, waiting, required, default, v + 1)
-        }
-        Found::Not(s) => Joined::Not(s),
+    let behind = separator(tokens, cursor.pos)?;
+    if behind.number == 1 {
+        return Err(Halt::Fail(Failure {
+            error: number::VARIADIC_NOT_LAST,
+            pos: cursor.pos,
+        }));
     }
+    Ok(Joined {
+        end: Cursor {
+            pos: behind.pos,
+            ..cursor
+        },
+        counts: Counts {
+            variadic: v + 1,
+            ..counts
+        },
+    })
 }
 
-fn join_default(
-    tokens: &[u64],
-    required: u64,
-    default: u64,
-    variadic: u64,
-    pos: usize,
-    at: usize,
-    waiting: usize,
-) -> Joined
-    requires { (pos ≤ length tokens.now) × (default ≤ 65536) × (variadic ≤ name_bound) }
-    ensures { (S X : List ℕ) (ps : Params) (v : ℕ) (e : Tree) → Fitting ps required default variadic → take at S ≡ X ++ params_words (with_default ps v e) → Joins (λ q. join ps (a_default v e) q (drop pos tokens.now)) X tokens.now pos (required + default) at waiting S S result }
+fn join_default(tokens: &[u64], counts: Counts, cursor: Cursor) -> Result<Joined, Halt>
+    requires { (cursor.pos ≤ length tokens.now) × (counts.default ≤ 65536) × (counts.variadic ≤ name_bound) }
+    ensures { (S X : List ℕ) (ps : Params) (v : ℕ) (e : Tree) → Fitting ps counts → take cursor.at S ≡ X ++ params_words (with_default ps v e) → Joins (λ q. join ps (a_default v e) q (drop cursor.pos tokens.now)) X tokens.now cursor.pos counts cursor.at S S result }
 {
-    match separator(tokens, pos, waiting) {
-        Found::At(p, _) => Joined::To(p, at, waiting, required, default + 1, variadic),
-        Found::Not(s) => Joined::Not(s),
-    }
+    let pos = separator(tokens, cursor.pos)?.pos;
+    Ok(Joined {
+        end: Cursor { pos, ..cursor },
+        counts: Counts {
+            default: counts.default + 1,
+            ..counts
+        },
+    })
 }
 
 // A parameter joins those before it, which end at `at`, and the token behind it is passed over if it is a comma.
@@ -337,20 +306,17 @@ pub fn joined(
     tokens: &[u64],
     store: &mut [u64],
     one: Parameter,
-    required: u64,
-    default: u64,
-    variadic: u64,
+    counts: Counts,
     at: usize,
-) -> Joined
-    requires { One (length tokens.now) (length store.old) at one × (required ≤ 65536) × (default ≤ 65536) × (variadic ≤ name_bound) }
-    ensures { JoinedBy tokens.now required default variadic at store.old store.new one result }
+) -> Result<Joined, Halt>
+    requires { One (length tokens.now) (length store.old) at one × (counts.required ≤ 65536) × (counts.default ≤ 65536) × (counts.variadic ≤ name_bound) }
+    ensures { JoinedBy tokens.now counts at store.old store.new one result }
 {
     match one {
-        Parameter::Required(p, w, v) => join_required(
-            tokens, store, v, required, default, variadic, p, at, w,
-        ),
-        Parameter::Variadic(p, w, v) => join_variadic(tokens, v, required, default, p, at, w),
-        Parameter::Default(p, a, w) => join_default(tokens, required, default, variadic, p, a, w),
-        Parameter::Not(s) => Joined::Not(s),
+        Parameter::Required(pos, v) => {
+            join_required(tokens, store, v, counts, Cursor { pos, at })
+        }
+        Parameter::Variadic(pos, v) => join_variadic(tokens, v, counts, Cursor { pos, at }),
+        Parameter::Default(end) => join_default(tokens, counts, end),
     }
 }

@@ -4,30 +4,35 @@
 pub mod fields;
 pub mod records;
 
-use scan::Step;
+use scan::Cursor;
 
-// A parameter up to its default's expression: behind which word, and its name with its access.
-#[derive(Drop)]
+// A parameter up to its default's expression: past which word of the tokens, and its name with its access.
+#[derive(Clone, Copy)]
 pub enum Head {
     Required(usize, u64),
     Variadic(usize, u64),
     Default(usize, u64),
-    Not(Step),
 }
 
-// A parameter: past the tokens' word, how many errors wait, its name with its access; a default is written.
-#[derive(Drop)]
+// A parameter: past which word of the tokens, and its name with its access; a default is written.
+#[derive(Clone, Copy)]
 pub enum Parameter {
-    Required(usize, usize, u64),
-    Variadic(usize, usize, u64),
-    Default(usize, usize, usize),
-    Not(Step),
+    Required(usize, u64),
+    Variadic(usize, u64),
+    Default(Cursor),
 }
 
-// Parameters so far: past the words of tokens and store, how many errors wait, how many are required and how many have a default;
-// the variadic one, 0 or 1 + its name with its access.
-#[derive(Drop)]
-pub enum Joined {
-    To(usize, usize, usize, u64, u64, u64),
-    Not(Step),
+// Parameters so far: how many are required and how many have a default; and the variadic one, 0 or 1 + its name with its access.
+#[derive(Clone, Copy)]
+pub struct Counts {
+    pub required: u64,
+    pub default: u64,
+    pub variadic: u64,
+}
+
+// Parameters so far: past which words they end, and their counts.
+#[derive(Clone, Copy)]
+pub struct Joined {
+    pub end: Cursor,
+    pub counts: Counts,
 }

@@ -20,7 +20,7 @@ ghost use Rattle.nodes.specs.Lists.{Closing, Blocked, Closable, Unders};
 use pattern::deciding::can_be_pattern;
 use pattern::moving::move_to_pattern;
 use scan::tokens::atom_error;
-use scan::{Failure, Listed, Step, number};
+use scan::{Cursor, Failure, Halt, Listed, number};
 use token::kind;
 use tree::{block_result, emit, node, word};
 
@@ -48,44 +48,30 @@ pub fn tuple_end(store: &mut [u64], a: usize, n: u64) -> usize
     emit(store, b, word::TUPLE, 0)
 }
 
-// An identifier or a literal, from the token behind which pos stands.
-pub fn literal(
-    store: &mut [u64],
-    kind: u64,
-    value: u64,
-    pos: usize,
-    at: usize,
-    waiting: usize,
-) -> Step
-    requires { at + 2 ≤ length store.old }
-    ensures { (T : List ℕ) → pos ≤ length T → Writes records (λ q. literal_def (record { kind = kind; newline = 0; value = value }) q (drop pos T)) T pos pos 2 at waiting (take at store.old) store.old store.new result }
+// An identifier or a literal, from the token behind which the cursor stands.
+pub fn literal(store: &mut [u64], kind: u64, value: u64, cursor: Cursor) -> Result<Cursor, Halt>
+    requires { cursor.at + 2 ≤ length store.old }
+    ensures { (T : List ℕ) → cursor.pos ≤ length T → Writes records (λ q. literal_def (record { kind = kind; newline = 0; value = value }) q (drop cursor.pos T)) T cursor.pos cursor.pos 2 cursor.at (take cursor.at store.old) store.old store.new result }
 {
-    match kind {
-        kind::IDENTIFIER => Step::Done(pos, emit(store, at, word::IDENTIFIER, value), waiting),
-        kind::NIL => Step::Done(pos, emit(store, at, word::NIL, 0), waiting),
-        kind::TRUE => Step::Done(pos, emit(store, at, word::BOOLEAN_LITERAL, 1), waiting),
-        kind::FALSE => Step::Done(pos, emit(store, at, word::BOOLEAN_LITERAL, 0), waiting),
-        kind::INTEGER_LITERAL => Step::Done(
-            pos,
-            emit(store, at, word::INTEGER_LITERAL, value),
-            waiting,
-        ),
-        kind::FLOAT_LITERAL => Step::Done(
-            pos,
-            emit(store, at, word::FLOAT_LITERAL, value),
-            waiting,
-        ),
-        kind::STRING_LITERAL => Step::Done(
-            pos,
-            emit(store, at, word::STRING_LITERAL, value),
-            waiting,
-        ),
-        _ => Step::Fail(Failure {
-            error: atom_error(kind),
-            pos,
-            waiting,
-        }),
-    }
+    let (word, value) = match kind {
+        kind::IDENTIFIER => (word::IDENTIFIER, value),
+        kind::NIL => (word::NIL, 0),
+        kind::TRUE => (word::BOOLEAN_LITERAL, 1),
+        kind::FALSE => (word::BOOLEAN_LITERAL, 0),
+        kind::INTEGER_LITERAL => (word::INTEGER_LITERAL, value),
+        kind::FLOAT_LITERAL => (word::FLOAT_LITERAL, value),
+        kind::STRING_LITERAL => (word::STRING_LITERAL, value),
+        _ => {
+            return Err(Halt::Fail(Failure {
+                error: atom_error(kind),
+                pos: cursor.pos,
+            }));
+        }
+    };
+    Ok(Cursor {
+        at: emit(store, cursor.at, word, value),
+        ..cursor
+    })
 }
 
 // A group's modifier, 0 or 1 + its action, is handed to an assignment inside.
@@ -120,18 +106,20 @@ pub fn lone_unpack(store: &mut [u64], a: usize) -> usize
 }
 
 // `...` behind what was read.
-pub fn unpack_end(store: &mut [u64], pos: usize, a: usize, waiting: usize) -> Step
-    requires { (2 ≤ a) × (a + 2 ≤ length store.old) }
-    ensures { (X : List ℕ) (t : Tree) (T : List ℕ) → Small t → take a store.old ≡ X ++ records t → pos ≤ length T → Writes records (λ q. unpack_end_def t q (drop pos T)) T pos pos 2 a waiting X store.old store.new result }
+pub fn unpack_end(store: &mut [u64], cursor: Cursor) -> Result<Cursor, Halt>
+    requires { (2 ≤ cursor.at) × (cursor.at + 2 ≤ length store.old) }
+    ensures { (X : List ℕ) (t : Tree) (T : List ℕ) → Small t → take cursor.at store.old ≡ X ++ records t → cursor.pos ≤ length T → Writes records (λ q. unpack_end_def t q (drop cursor.pos T)) T cursor.pos cursor.pos 2 cursor.at X store.old store.new result }
 {
-    if kind_of(store, a) == node::UNPACK {
-        return Step::Fail(Failure {
+    if kind_of(store, cursor.at) == node::UNPACK {
+        return Err(Halt::Fail(Failure {
             error: number::NESTED_ELLIPSIS,
-            pos,
-            waiting,
-        });
+            pos: cursor.pos,
+        }));
     }
-    Step::Done(pos, emit(store, a, word::UNPACK, 0), waiting)
+    Ok(Cursor {
+        at: emit(store, cursor.at, word::UNPACK, 0),
+        ..cursor
+    })
 }
 
 // A call without arguments.
@@ -167,26 +155,26 @@ pub fn path_end(store: &mut [u64], a: usize, n: u64) -> usize
     emit(store, b, word::PRIMARY, 0)
 }
 
-// The expression from `from` to a becomes a pattern: it is decided over the whole first, with the store only read, and then moved. Where it cannot be one: the error e, and the store as it was.
+// The expression from `from` up to the cursor becomes a pattern: it is decided over the whole first, with the store only read, and then moved. Where it cannot be one: the error e, and the store as it was.
 pub fn expect_pattern(
     store: &mut [u64],
     from: usize,
     e: u64,
-    pos: usize,
-    a: usize,
-    waiting: usize,
-) -> Step
-    requires { ATree store.old from a }
-    ensures { (t : Tree) (T : List ℕ) → Whole t store.old from a → pos ≤ length T → Writes records (λ q. expect_pattern_def e (to_pattern_def t) q (drop pos T)) T pos pos 0 a waiting (take from store.old) store.old store.new result }
+    cursor: Cursor,
+) -> Result<Cursor, Halt>
+    requires { ATree store.old from cursor.at }
+    ensures { (t : Tree) (T : List ℕ) → Whole t store.old from cursor.at → cursor.pos ≤ length T → Writes records (λ q. expect_pattern_def e (to_pattern_def t) q (drop cursor.pos T)) T cursor.pos cursor.pos 0 cursor.at (take from store.old) store.old store.new result }
 {
-    if !can_be_pattern(store, from, a) {
-        return Step::Fail(Failure {
+    if !can_be_pattern(store, from, cursor.at) {
+        return Err(Halt::Fail(Failure {
             error: e,
-            pos,
-            waiting,
-        });
+            pos: cursor.pos,
+        }));
     }
-    Step::Done(pos, move_to_pattern(store, from, a), waiting)
+    Ok(Cursor {
+        at: move_to_pattern(store, from, cursor.at),
+        ..cursor
+    })
 }
 
 // A pattern under a modifier, 0 or 1 + its action.
@@ -223,18 +211,20 @@ fn lone_ellipsis(store: &[u64], a: usize) -> bool
 }
 
 // An expression as a statement.
-pub fn expression_end(store: &mut [u64], pos: usize, a: usize, waiting: usize) -> Step
-    requires { AShape store.old a × (a + 2 ≤ length store.old) }
-    ensures { (X : List ℕ) (t : Tree) (T : List ℕ) → Shape t → take a store.old ≡ X ++ records t → pos ≤ length T → Writes records (λ q. expression_end_def t q (drop pos T)) T pos pos 2 a waiting X store.old store.new result }
+pub fn expression_end(store: &mut [u64], cursor: Cursor) -> Result<Cursor, Halt>
+    requires { AShape store.old cursor.at × (cursor.at + 2 ≤ length store.old) }
+    ensures { (X : List ℕ) (t : Tree) (T : List ℕ) → Shape t → take cursor.at store.old ≡ X ++ records t → cursor.pos ≤ length T → Writes records (λ q. expression_end_def t q (drop cursor.pos T)) T cursor.pos cursor.pos 2 cursor.at X store.old store.new result }
 {
-    if lone_ellipsis(store, a) {
-        return Step::Fail(Failure {
+    if lone_ellipsis(store, cursor.at) {
+        return Err(Halt::Fail(Failure {
             error: number::ELLIPSIS_NOT_ALLOWED,
-            pos,
-            waiting,
-        });
+            pos: cursor.pos,
+        }));
     }
-    Step::Done(pos, emit(store, a, word::EXPRESSION, 0), waiting)
+    Ok(Cursor {
+        at: emit(store, cursor.at, word::EXPRESSION, 0),
+        ..cursor
+    })
 }
 
 // Where the words of the last expression statement start, after a statement that was written from a to b: b for any other.
@@ -281,39 +271,47 @@ fn block_end(store: &mut [u64], a: usize, n: u64, last: usize) -> usize
 }
 
 // A list that was read as a block, and the node over it.
-pub fn block_under(store: &mut [u64], list: Listed, word: u64, value: u64) -> Step
+pub fn block_under(store: &mut [u64], list: Listed, word: u64, value: u64) -> Cursor
     requires { Closable (length store.old) 12 list }
     ensures { Unders block_of word value 12 store.old store.new list result }
 {
-    match list {
-        Listed::Suite(p, a, w, n, last) => {
-            let b = block_end(store, a, n, last);
-            Step::Done(p, emit(store, b, word, value), w)
+    let block = match list {
+        Listed::Suite(suite) => Cursor {
+            at: block_end(store, suite.end.at, suite.count, suite.last),
+            ..suite.end
+        },
+        Listed::Control(end) => {
+            let at = emit(store, end.at, word::STMT_LIST, 0);
+            Cursor {
+                at: resultless(store, at),
+                ..end
+            }
         }
-        Listed::Control(p, a, w) => {
-            let b = emit(store, a, word::STMT_LIST, 0);
-            let d = resultless(store, b);
-            Step::Done(p, emit(store, d, word, value), w)
-        }
-        Listed::Not(s) => s,
+    };
+    Cursor {
+        at: emit(store, block.at, word, value),
+        ..block
     }
 }
 
 // A list that was read as a statement list, and the node over it.
-pub fn list_under(store: &mut [u64], list: Listed, word: u64, value: u64) -> Step
+pub fn list_under(store: &mut [u64], list: Listed, word: u64, value: u64) -> Cursor
     requires { Closable (length store.old) 8 list }
     ensures { Unders stmt_list_of word value 8 store.old store.new list result }
 {
-    match list {
-        Listed::Suite(p, a, w, n, _) => {
-            let b = suite_end(store, a, n);
-            Step::Done(p, emit(store, b, word, value), w)
-        }
-        Listed::Control(p, a, w) => {
-            let b = emit(store, a, word::STMT_LIST, 0);
-            Step::Done(p, emit(store, b, word, value), w)
-        }
-        Listed::Not(s) => s,
+    let body = match list {
+        Listed::Suite(suite) => Cursor {
+            at: suite_end(store, suite.end.at, suite.count),
+            ..suite.end
+        },
+        Listed::Control(end) => Cursor {
+            at: emit(store, end.at, word::STMT_LIST, 0),
+            ..end
+        },
+    };
+    Cursor {
+        at: emit(store, body.at, word, value),
+        ..body
     }
 }
 

@@ -1,6 +1,6 @@
 -- Combinators over the contracts: they hold for any grammar. Assumes nothing.
 use mathlib.Core.Path.{◌≡◌, refl, sym, ap, ◌∙◌, subst}
-use mathlib.Core.List.{List, [], ◌∷◌, ◌++◌, append_assoc}
+use mathlib.Core.List.{List, [], ◌++◌, append_assoc}
 use Prim.Native.Nat.{ℕ, ◌+◌, ◌*◌, ◌≤◌}
 use native.Mathlib.Omega.{arith}
 use lib.ListN.{length, take, drop}
@@ -9,7 +9,7 @@ use Rattle.token.specs.declared.Token.{Token}
 use Rattle.grammar.specs.Reading.Result.{Res, ok, bad, fail, stop, unclean, either, then, Error}
 use Rattle.grammar.specs.Reading.Look.{look}
 use Rattle.grammar.proofs.Laws.Keep.{Keep, k_ok, k_bad, k_fail, k_stop}
-use Rattle.scan.specs.Post.{Out, won, lost, halt, out, As, clean, Moved, Room, Lost, FailedAs, Failed, Wrote, Agrees, Crosses, Unread, Taken, Missed, Saw, Got, Reads, NumberAt, Finds}
+use Rattle.scan.specs.Post.{Out, won, lost, halt, out, As, clean, Moved, Room, Lost, FailedAs, Failed, Wrote, Agrees, Unread, Taken, Missed, Saw, Got, Reads, NumberAt, Finds}
 use Rattle.std.proofs.Common.{Result, Ok, Err}
 use Rattle.std.specs.Result.{IsErrAnd}
 use Rattle.scan.specs.declared.Cursor.{Cursor}

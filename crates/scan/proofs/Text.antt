@@ -1,20 +1,19 @@
 -- Laws of lists of words that the proofs of several functions cite: words that are left, text that goes on, records that were written, what is seen at a place. Assumes nothing.
 use mathlib.Core.Path.{◌≡◌, refl, sym, ap, ◌∙◌}
 use mathlib.Core.Bool.{Bool, true, false, cond, ◌&&◌}
-use mathlib.Core.List.{List, [], ◌∷◌, ◌++◌, append_assoc}
-use Prim.Native.Nat.{ℕ, zero, suc, ◌+◌, ◌-◌, ◌/◌, ◌%◌, ◌≤◌, ◌<◌}
-use native.Mathlib.Numerals.{add-one, sub-one}
+use mathlib.Core.List.{List, [], ◌∷◌, ◌++◌}
+use Prim.Native.Nat.{ℕ, suc, ◌+◌, ◌-◌, ◌/◌, ◌%◌, ◌≤◌}
 use native.Mathlib.Omega.{arith}
 use lib.Dec.{eqb, leb}
-use lib.ListN.{length, take, drop, get_or, set, length-take, length-drop, length-append}
-use lib.Seq.{drop-cons, take-suc, take-suc-set, length-take-le, take-take, take-append-le, get_or-append-add, set_at, take_at, get_or-drop, drop-drop}
+use lib.ListN.{length, take, drop, length-take, length-drop, length-append}
+use lib.Seq.{length-take-le, take-take, take-append-le, drop-drop}
 use Rattle.token.specs.Kind
 use Rattle.token.specs.Look.{value_fits, token_fits, seen}
 use Rattle.token.specs.declared.Token.{Token}
 use Rattle.std.proofs.Common.{Result, Ok, Err}
 use Rattle.token.specs.declared.Unread.{Unread}
 use Rattle.token.specs.declared.Unread.TheVariants.{LexerError, Nothing, Bad}
-use Rattle.grammar.specs.Reading.Limit.{malformed, queue_limit}
+use Rattle.grammar.specs.Reading.Limit.{malformed}
 use Rattle.grammar.specs.Reading.Number
 use Rattle.grammar.specs.Reading.Result.{ok, fail, stop, Error}
 use Rattle.grammar.specs.Reading.Look.{looked, look}

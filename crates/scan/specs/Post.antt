@@ -1,10 +1,9 @@
 -- What the contracts say: how what the code answers goes with what the definition answers. Assumes nothing.
 -- T are the tokens' words, S the store's and Q the errors that wait, as they were; S' and Q' as they are.
 -- pos and «at» are where a reading begins in the words, p and a where it ends.
-use Rattle.std.specs.Prelude.{◌≡◌, true, Result, Ok, Err, List, [], ◌∷◌, ◌++◌, ℕ, ◌+◌, ◌*◌, ◌-◌, ◌≤◌, ◌<◌, length, take, drop}
+use Rattle.std.specs.Prelude.{◌≡◌, true, Result, Ok, Err, List, [], ◌++◌, ℕ, ◌+◌, ◌*◌, ◌-◌, ◌≤◌, ◌<◌, length, take, drop}
 use Rattle.token.specs.Look.{value_fits}
 use Rattle.token.specs.declared.Token.{Token}
-use Rattle.grammar.specs.Reading.Limit.{queue_limit}
 use Rattle.grammar.specs.Reading.Number
 use Rattle.grammar.specs.Reading.Result.{Res, ok, bad, fail, stop, Error}
 use Rattle.grammar.specs.Reading.Look.{look}

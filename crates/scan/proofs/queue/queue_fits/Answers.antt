@@ -2,12 +2,15 @@
 use mathlib.Core.Path.{◌≡◌, refl, sym, ap, ◌∙◌}
 use mathlib.Core.Bool.{Bool, true, false, ◌&&◌}
 use mathlib.Core.List.{List, [], ◌∷◌}
-use Prim.Native.Nat.{ℕ, zero, suc}
+use Prim.Native.Nat.{ℕ, zero, suc, ◌-◌}
 use lib.Dec.{eqb}
-use lib.ListN.{take, drop}
+use lib.ListN.{length, take, drop, length-drop}
+use lib.Seq.{take-length}
+use Rattle.grammar.specs.Reading.Limit.{queue_limit}
 use Rattle.std.specs.List.{list_all}
 use Rattle.grammar.specs.Reading.Result.{ifb}
 use Rattle.grammar.specs.Reading.Next.{is_error, queue_fits}
+use Rattle.std.proofs.Common.{rules}
 use Rattle.scan.proofs.queue.queue_fits.Goals as goal
 
 abbrev is_zero : ℕ → Bool
@@ -34,8 +37,11 @@ in_two (suc w) (e ∷ es) = both_more (is_error e) (list_all is_error (take w es
 used : (w : ℕ) (Q : List ℕ) {b : Bool} → list_all is_error (take w Q) ≡ b → queue_fits w Q ≡ (b && list_all is_zero (drop w Q))
 used w Q e = in_two w Q ∙ ap (λ (b : Bool). b && list_all is_zero (drop w Q)) e
 
+others : (w : ℕ) (Q : List ℕ) → length Q ≡ queue_limit → take (queue_limit - w) (drop w Q) ≡ drop w Q
+others w Q h = let e : queue_limit - w ≡ length (drop w Q) = rw (length-drop, h) in rw (e, take-length)
+
 pub returns-then-all_errors : goal.returns-then-all_errors
-returns-then-all_errors c = c.all_zeros.ensures ∙ sym (used c.args.waiting c.args.queue (sym c.all_errors.ensures ∙ c.if-all_errors.true))
+returns-then-all_errors c = c.all_zeros.ensures ∙ ap (list_all is_zero) (others c.args.waiting c.args.queue (search rules)) ∙ sym (used c.args.waiting c.args.queue (sym c.all_errors.ensures ∙ c.if-all_errors.true))
 
 pub returns-else-all_errors : goal.returns-else-all_errors
 returns-else-all_errors c = c.if-all_errors.false ∙ sym (used c.args.waiting c.args.queue (sym c.all_errors.ensures ∙ c.if-all_errors.false))
