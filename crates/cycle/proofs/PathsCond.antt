@@ -17,7 +17,7 @@ use Rattle.grammar.specs.Reading.Look.{look, expect, try_assign_keyword}
 use Rattle.grammar.specs.Reading.Expr.{Depth, expr}
 use Rattle.grammar.specs.Reading.Block.{body, block_of, branches}
 use Rattle.grammar.specs.Reading.Depth.{at_depth}
-use Rattle.scan.specs.Post.{Wrote, Taken, waiting_errors}
+use Rattle.scan.specs.Post.{Wrote, Taken}
 use Rattle.cycle.specs.Parts.{arm}
 use Rattle.nodes.specs.Ends.{Added}
 use Rattle.scan.proofs.Laws.{Looks}
@@ -86,17 +86,17 @@ unfolding records count
 if_words g n c = over_two 18 0 (Node.list g) Node.absent ∙ rw (c, append_assoc)
 
 -- where the loop over the branches stands: the whole is what `branches` makes of the n branches that are written so far
-pub record Going (T S₀ Q₀ : List ℕ) (depth pos at waiting : ℕ) (S Q : List ℕ) (p a w n : ℕ) : Type 0 where
+pub record Going (T S₀ Q₀ : List ℕ) (depth pos at : ℕ) (S Q : List ℕ) (p a n : ℕ) : Type 0 where
   pub fuel : ℕ
   pub enough : length T ≤ p + fuel
-  pub run : Wrote all_records (branches (at_depth depth) (length (drop pos T)) none (waiting_errors waiting Q₀) (drop pos T)) (branches (at_depth depth) fuel) T pos pos 8 at waiting S₀ Q₀ p a w S Q
+  pub run : Wrote all_records (branches (at_depth depth) (length (drop pos T)) none Q₀ (drop pos T)) (branches (at_depth depth) fuel) T pos pos 8 at S₀ Q₀ p a S Q
   pub many : count run.what ≡ n
   pub short : 2 * n ≤ p
   pub kept : length S ≡ length S₀
 
 -- one arm more
-module _ {B C : Type 0} {D : Res B} {K : Forest → List Error → List ℕ → Res B} {d : Res C} {K₁ : Tree → List Error → List ℕ → Res C} {T : List ℕ} {pos least slack at w₀ : ℕ} {S₀ Q₀ : List ℕ} {p a w : ℕ} {S Q : List ℕ} {pos₁ least₁ slack₁ p₁ a₁ w₁ : ℕ} {S₁ Q₁ : List ℕ}
-    (g : Wrote all_records D K T pos least slack at w₀ S₀ Q₀ p a w S Q) (h : Wrote records d K₁ T pos₁ least₁ slack₁ a w S Q p₁ a₁ w₁ S₁ Q₁) where
+module _ {B C : Type 0} {D : Res B} {K : Forest → List Error → List ℕ → Res B} {d : Res C} {K₁ : Tree → List Error → List ℕ → Res C} {T : List ℕ} {pos least slack at : ℕ} {S₀ Q₀ : List ℕ} {p a : ℕ} {S Q : List ℕ} {pos₁ least₁ slack₁ p₁ a₁ : ℕ} {S₁ Q₁ : List ℕ}
+    (g : Wrote all_records D K T pos least slack at S₀ Q₀ p a S Q) (h : Wrote records d K₁ T pos₁ least₁ slack₁ a S Q p₁ a₁ S₁ Q₁) where
   pub arm_text : take a₁ S₁ ≡ take at S₀ ++ all_records (snoc g.what h.what)
   arm_text = joined g.what h.what (take at S₀) h.text g.text
 

@@ -19,10 +19,11 @@ use Rattle.grammar.specs.Reading.Look.{look, try_label}
 use Rattle.grammar.specs.Reading.Expr.{Depth, expr}
 use Rattle.grammar.specs.Reading.Stmt.{ends, control_value, is_control, control_flow, starts_stmt, synchronize, synchronized, caught}
 use Rattle.grammar.proofs.Laws.Keep.{Holds, k_ok, k_any, k_if}
-use Rattle.scan.specs.Post.{As, no_words, Agrees, Taken, Missed, Resumes, waiting_errors}
+use Rattle.scan.specs.Post.{As, Crosses, Taken, Missed, Resumes}
 use Rattle.scan.specs.declared.Failure.{Failure}
-use Rattle.scan.specs.declared.Step.{Step}
-use Rattle.scan.specs.declared.Step.TheVariants.{Done, Fail, Stop}
+use Rattle.std.proofs.Common.{Ok, Err}
+use Rattle.scan.specs.declared.Halt.{Halt}
+use Rattle.scan.specs.declared.Halt.TheVariants.{Fail, Stop}
 use Rattle.scan.proofs.Laws.{Looks, way, link, as_unclean}
 use Rattle.scan.proofs.Looking.{counted_stops}
 use Rattle.scan.proofs.Text.{left, fuel_some}
@@ -106,10 +107,10 @@ module _ (low : Depth) (inside : Bool) (q : List Error) where
       empty e x h = rw (eq-eqb _ _ h)
 
   module _ {T : List ℕ} (fuel p : ℕ) (enough : length T ≤ p + fuel) where
-    pub sync_none : {w₀ : ℕ} {f : Failure} → Missed T p w₀ f → f.error ≡ Number.end_of_tokens → As q (synchronize low inside fuel q (drop p T)) q (ok tt (drop p T))
+    pub sync_none : {f : Failure} → Missed T p f → f.error ≡ Number.end_of_tokens → As q (synchronize low inside fuel q (drop p T)) q (ok tt (drop p T))
     sync_none m e = sync_empty fuel (drop p T) (left T p fuel enough) (m.lacks.same q) e
 
-    pub sync_skip : {w₀ : ℕ} {f : Failure} → Missed T p w₀ f → (f.error ≡ Number.end_of_tokens → ⊥) → As q (synchronize low inside fuel q (drop p T)) q (synchronize low inside (fuel - 1) q (drop f.pos T))
+    pub sync_skip : {f : Failure} → Missed T p f → (f.error ≡ Number.end_of_tokens → ⊥) → As q (synchronize low inside fuel q (drop p T)) q (synchronize low inside (fuel - 1) q (drop f.pos T))
     unfolding ifb
     sync_skip m e =
         let x = m.past e in
@@ -142,31 +143,27 @@ module _ (low : Depth) (e : ℕ) (q : List Error) (ts : List ℕ) where
   unfolding caught ifb
   caught_push h = rw (ne_eqb _ _ h)
 
--- where a resynchronization ends, as it is told from where the catching began
-pub record Resuming (n pos w₀ p w z : ℕ) : Type 0 where
+-- where a resynchronization ends, as it is told from where the catching began: one error more waits
+pub record Resuming (n pos p : ℕ) (Q₀ Q : List ℕ) : Type 0 where
   pub on : pos ≤ p
   pub within : p ≤ n
-  pub more : w₀ + 1 ≤ w
-  pub few : w ≤ queue_limit
-  pub whole : z ≡ queue_limit
+  pub more : length Q₀ + 1 ≤ length Q
 
-module _ {D d : Res (Unit {0})} {T : List ℕ} {pos at w₀ p w : ℕ} {S₀ Q₀ S Q Q' : List ℕ} (on : As (waiting_errors w₀ Q₀) D (waiting_errors w Q) d) (text : take at S ≡ take at S₀) (n : Resuming (length T) pos w₀ p w (length Q)) where
-  pub resumes : {r : Step} → Resumes d T p at w Q Q' r → Agrees no_words D T pos pos 8 at w₀ S₀ Q₀ S Q' r
-  resumes {r = Done p' a w'} h =
-      let x = h.how in
-      let e = x.1 in
-      let f = x.2 in
-      let g = x.3 in
-      let i : length Q' ≡ length Q = ap length x.4 in
-      record { how = record { what = tt; same = link on (record { is = rw (x.0, x.3, x.4) }); moved = omega arith; room = omega arith; text = rw (x.2, append-nil) text } }
-  resumes {r = Fail failure} h =
-      let x = h.how in
+module _ {D d : Res (Unit {0})} {T : List ℕ} {pos at p : ℕ} {S₀ Q₀ S Q Q' : List ℕ} (on : As Q₀ D Q d) (text : take at S ≡ take at S₀) (n : Resuming (length T) pos p Q₀ Q) where
+  pub resumes : {u : Unit {0}} → Resumes d T p Q Q' (Ok u) → Crosses D T pos at S₀ Q₀ S Q' (Ok p)
+  resumes r =
+      let x = r.how in
+      let i : length Q' ≡ length Q = ap length x.1 in
+      record { how = record { what = tt; same = link on (record { is = rw (x.0, x.1) }); moved = omega arith; room = omega arith; text = rw append-nil text } }
+
+  pub resumes_not : {h : Halt} → Resumes d T p Q Q' (Err h) → Crosses D T pos at S₀ Q₀ S Q' (Err h)
+  resumes_not {h = Fail failure} r =
+      let x = r.how in
       let fewer = x.fewer in
       let a = x.on in
       let b = x.within in
-      let c = x.whole in
       record { how = record { how = record { same = link on x.same; moved = omega arith; far = omega arith; text = text } } }
-  resumes {r = Stop k} h = record { how = record { how = link on h.how } }
+  resumes_not {h = Stop k} r = record { how = record { how = link on r.how } }
 
 -- a control is no `Absent`
 abbrev pub Some : Tree → Type 0

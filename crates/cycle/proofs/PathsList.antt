@@ -21,16 +21,16 @@ use Rattle.grammar.specs.Reading.Stmt.{ends, is_control, control_flow, control_l
 use Rattle.grammar.specs.Reading.Depth.{at_depth}
 use Rattle.grammar.proofs.Laws.Levels.Nonterminals.{stmt_leveled, depth_levels}
 use Rattle.grammar.proofs.Laws.Keep.{Holds, Keep, k_ok, k_fail, k_stop, k_all, k_unclean, k_on, k_any, k_or, k_if}
-use Rattle.scan.specs.Post.{As, no_words, Failed, Wrote, Agrees, Taken, Queues, waiting_errors}
+use Rattle.scan.specs.Post.{As, no_words, Failed, Wrote, Crosses, Taken, Queues}
 use Rattle.cycle.specs.Parts.{Place, a_stmt, a_control, a_caught, resume, turn, control_words}
-use Rattle.scan.specs.Parts.{closed_step, resumed_step}
 use Rattle.nodes.specs.Ends.{Marked, statement, no_statement}
 use Rattle.nodes.specs.Lists.{Ends, keeps, gives}
 use Rattle.cycle.specs.Lists.{Controlled, Enters}
-use Rattle.scan.specs.declared.Step.{Step}
-use Rattle.scan.specs.declared.Step.TheVariants.{Done, Fail, Stop}
+use Rattle.std.proofs.Common.{Ok, Err}
+use Rattle.scan.specs.declared.Cursor.{Cursor}
+use Rattle.scan.specs.declared.Halt.{Halt}
 use Rattle.scan.specs.declared.Entry.{Entry}
-use Rattle.scan.specs.declared.Entry.TheVariants.{Stmt as EStmt, Control as EControl, Caught as ECaught, Not as ENot}
+use Rattle.scan.specs.declared.Entry.TheVariants.{Stmt as EStmt, Control as EControl, Caught as ECaught}
 use Rattle.grammar.proofs.Laws.Facts.{if_same}
 use Rattle.nodes.proofs.Algebra.{then_ok, then_then, then_either, then_if, then_same, either_same}
 use Rattle.scan.proofs.Laws.{kept_won, Looks, goes, fails, elsewhere, prefix}
@@ -88,42 +88,43 @@ two_at {q = q} T p t a =
     omega arith
 
 -- an error of a place was caught
-pub record Catching (n m pos at w₀ p w : ℕ) : Type 0 where
+pub record Catching (n m pos at p : ℕ) (Q₀ Q : List ℕ) : Type 0 where
   pub on : pos ≤ p
   pub far : pos + 2 ≤ p + (pos + 2 + 1 - n)
-  pub more : w₀ ≤ w
+  pub more : length Q₀ ≤ length Q
   pub room : at ≤ m
 
-module _ {D : Res Place} {d : Res (Unit {0})} {T : List ℕ} {pos n at w₀ p w : ℕ} {S₀ Q₀ S Q S' Q' : List ℕ} (on : As (waiting_errors w₀ Q₀) D (waiting_errors w Q) (then (waiting_errors w Q) d (λ u q r. ok a_caught r))) (text : take at S ≡ take at S₀) (c : Catching (length T) (length S) pos at w₀ p w) where
-  pub catches : {r : Step} {x : Entry} → x ≡ resumed_step r → Agrees no_words d T p p 8 at w S Q S' Q' r → Two d → Enters D T pos n at w₀ S₀ Q₀ S' Q' x
-  catches {r = Done p' a w'} i h two =
+module _ {D : Res Place} {d : Res (Unit {0})} {T : List ℕ} {pos n at p : ℕ} {S₀ Q₀ S Q S' Q' : List ℕ} (on : As Q₀ D Q (then Q d (λ u q r. ok a_caught r))) (text : take at S ≡ take at S₀) (c : Catching (length T) (length S) pos at p Q₀ Q) where
+  pub catches : {p' : ℕ} → Crosses d T p at S Q S' Q' (Ok p') → Two d → Enters D T pos n at S₀ Q₀ S' Q' (Ok (ECaught p'))
+  catches {p'} h two =
       let x = h.how in
       let m = x.moved in
       let l = two_at T p' two x.same in
-      rw i (record { how = record { what = tt; same = goes _ on x.same; moved = omega arith; room = omega arith; text = prefix x c.room ∙ text ∙ sym (append-nil (take at S₀)) } })
-  catches {r = Fail failure} i h two = rw i (record { how = fails _ on h.how text (omega arith) })
-  catches {r = Stop k} i h two = rw i (record { how = fails _ on h.how text (omega arith) })
+      record { how = record { what = tt; same = goes _ on x.same; moved = omega arith; room = omega arith; text = prefix x c.room ∙ text ∙ sym (append-nil (take at S₀)) } }
+
+  pub catches_not : {h : Halt} → Crosses d T p at S Q S' Q' (Err h) → Enters D T pos n at S₀ Q₀ S' Q' (Err h)
+  catches_not f = record { how = fails _ on f.how text (omega arith) }
 
 -- a control was read, and what must stand behind it
 pub control_text : (n : ℕ) (c : Tree) (X : List ℕ) {Y Z : List ℕ} → Z ≡ Y ++ records c → Y ≡ X ++ (1 + 256 * n) ∷ 0 ∷ [] → Z ≡ X ++ control_words n c
 control_text n c X e h = e ∙ ap (λ (l : List ℕ). l ++ records c) h ∙ append_assoc X ((1 + 256 * n) ∷ 0 ∷ []) (records c)
 
-pub record HeldAt (pos at w₀ p a w : ℕ) : Type 0 where
+pub record HeldAt (pos at p a : ℕ) (Q₀ Q : List ℕ) : Type 0 where
   pub on : pos + 2 ≤ p
-  pub more : w₀ ≤ w
+  pub more : length Q₀ ≤ length Q
   pub up : at ≤ a
   pub room : a + 8 * pos ≤ at + 8 * p
 
-module _ {D : Res Place} {d : Res (Unit {0})} {T : List ℕ} {pos n at w₀ p a w : ℕ} {S₀ Q₀ S Q Q' : List ℕ} (t : Tree)
-    (on : As (waiting_errors w₀ Q₀) D (waiting_errors w Q) (then (waiting_errors w Q) d λ u q₂ s. ok (a_control t) s)) (some : Some t) (text : take a S ≡ take at S₀ ++ control_words n t) (before : take at S ≡ take at S₀) (c : HeldAt pos at w₀ p a w) where
-  pub closes : {r : Step} {x : Entry} → x ≡ closed_step r → Queues d T p a w Q Q' r → Enters D T pos n at w₀ S₀ Q₀ S Q' x
-  closes {r = Done p' a' w'} j h =
+module _ {D : Res Place} {d : Res (Unit {0})} {T : List ℕ} {pos n at p a : ℕ} {S₀ Q₀ S Q Q' : List ℕ} (t : Tree)
+    (on : As Q₀ D Q (then Q d λ u q₂ s. ok (a_control t) s)) (some : Some t) (text : take a S ≡ take at S₀ ++ control_words n t) (before : take at S ≡ take at S₀) (c : HeldAt pos at p a Q₀ Q) where
+  pub closes : {p' : ℕ} → Queues d T p Q Q' (Ok p') → Enters D T pos n at S₀ Q₀ S Q' (Ok (EControl (record { pos = p'; at = a })))
+  closes h =
       let x = h.how in
       let m = x.moved in
-      let i = x.place in
-      rw j (record { how = record { run = record { what = t; same = goes _ on x.same; moved = omega arith; room = omega arith; text = rw i text }; held = some } })
-  closes {r = Fail failure} j h = rw j (record { how = fails _ on (elsewhere S h.how) before (omega arith) })
-  closes {r = Stop e} j h = rw j (record { how = fails _ on (elsewhere S h.how) before (omega arith) })
+      record { how = record { run = record { what = t; same = goes _ on x.same; moved = omega arith; room = omega arith; text = text }; held = some } }
+
+  pub closes_not : {h : Halt} → Queues d T p Q Q' (Err h) → Enters D T pos n at S₀ Q₀ S Q' (Err h)
+  closes_not f = record { how = fails _ on (elsewhere S f.how) before (omega arith) }
 
 -- A LIST
 -- how a list goes on from a place
@@ -184,18 +185,18 @@ module _ (low : Depth) (end : ℕ) (f : Forest) (q : List Error) where
     stmts_turn e h = stmts_taken ∙ stmts_past e h ∙ sym (stmts_turns (fuel - 1) k (drop (p + 2) T) (drop p T))
 
 -- what a place came to
-module _ {D : Res Place} {T : List ℕ} {pos n at w₀ : ℕ} {S Q S' Q' : List ℕ} {r : Entry} where
-  pub was_stmt : {p a w : ℕ} → r ≡ EStmt p a w → Enters D T pos n at w₀ S Q S' Q' r → Wrote records D (λ t q r. ok (a_stmt t) r) T pos (pos + 2) 14 at w₀ S Q p a w S' Q'
-  was_stmt e h = rw e at h.how
+module _ {D : Res Place} {T : List ℕ} {pos n at : ℕ} {S Q S' Q' : List ℕ} where
+  pub was_stmt : {e : Entry} {c : Cursor} → e ≡ EStmt c → Enters D T pos n at S Q S' Q' (Ok e) → Wrote records D (λ t q r. ok (a_stmt t) r) T pos (pos + 2) 14 at S Q c.pos c.at S' Q'
+  was_stmt i h = rw i at h.how
 
-  pub was_control : {p a w : ℕ} → r ≡ EControl p a w → Enters D T pos n at w₀ S Q S' Q' r → Controlled D T pos n at w₀ S Q p a w S' Q'
-  was_control e h = rw e at h.how
+  pub was_control : {e : Entry} {c : Cursor} → e ≡ EControl c → Enters D T pos n at S Q S' Q' (Ok e) → Controlled D T pos n at S Q c.pos c.at S' Q'
+  was_control i h = rw i at h.how
 
-  pub was_caught : {p w : ℕ} → r ≡ ECaught p w → Enters D T pos n at w₀ S Q S' Q' r → Wrote {A = Unit {0}} no_words D (λ u q r. ok a_caught r) T pos (pos + 2) 8 at w₀ S Q p at w S' Q'
-  was_caught e h = rw e at h.how
+  pub was_caught : {e : Entry} {p : ℕ} → e ≡ ECaught p → Enters D T pos n at S Q S' Q' (Ok e) → Wrote {A = Unit {0}} no_words D (λ u q r. ok a_caught r) T pos (pos + 2) 8 at S Q p at S' Q'
+  was_caught i h = rw i at h.how
 
-  pub was_not : {s : Step} → r ≡ ENot s → Enters D T pos n at w₀ S Q S' Q' r → Failed D T pos pos at w₀ S Q S' Q' s
-  was_not e h = rw e at h.how
+  pub was_not : {h : Halt} → Enters D T pos n at S Q S' Q' (Err h) → Failed D T pos pos at S Q S' Q' h
+  was_not f = f.how
 
 -- a statement of a place is small
 abbrev SmallPlace : Place → Type 0

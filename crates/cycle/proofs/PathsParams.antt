@@ -18,15 +18,16 @@ use Rattle.grammar.specs.Reading.Look.{look}
 use Rattle.grammar.specs.Reading.Expr.{Depth, expr}
 use Rattle.grammar.specs.Reading.Function.{Param, required, variadic, default, Params, variadic_param, plain_param, param, joined, params}
 use Rattle.nodes.specs.Parts.{Header, h_required, h_variadic, h_default, param_name, variadic_head, param_kind, param_head, join}
-use Rattle.scan.specs.Post.{As, Moved, Room, Failed, Wrote, Unread, Taken, waiting_errors}
+use Rattle.scan.specs.Post.{As, Moved, Room, Failed, Wrote, Unread, Taken}
 use Rattle.nodes.specs.Parameters.{name_bound, HeaderAt, Heads, DefaultOne, required_words, default_words, ParameterAt, ParamsRead, words_of, params_words, with_default, Fitting, JoinsTo, Unjoined, JoinedBy, One}
-use Rattle.scan.specs.declared.Step.{Step}
+use Rattle.std.proofs.Common.{Ok, Err}
+use Rattle.scan.specs.declared.Halt.{Halt}
+use Rattle.nodes.specs.declared.Counts.{Counts}
 use Rattle.nodes.specs.declared.Head.{Head}
-use Rattle.nodes.specs.declared.Head.TheVariants.{Required as HRequired, Variadic as HVariadic, Default as HDefault, Not as HNot}
+use Rattle.nodes.specs.declared.Head.TheVariants.{Required as HRequired, Variadic as HVariadic, Default as HDefault}
 use Rattle.nodes.specs.declared.Parameter.{Parameter}
-use Rattle.nodes.specs.declared.Parameter.TheVariants.{Required as PRequired, Variadic as PVariadic, Default as PDefault, Not as PNot}
+use Rattle.nodes.specs.declared.Parameter.TheVariants.{Required as PRequired, Variadic as PVariadic, Default as PDefault}
 use Rattle.nodes.specs.declared.Joined.{Joined}
-use Rattle.nodes.specs.declared.Joined.TheVariants.{To, Not as JNot}
 use Rattle.grammar.proofs.Laws.Facts.{if_same}
 use Rattle.nodes.proofs.Algebra.{then_ok, then_then, then_if, then_same, look_then, look_known, Plain, an_ok, a_fail, look_plain, plain_then}
 use Rattle.scan.proofs.Laws.{way, goes, fails, Looks, gets, lacks, prefix}
@@ -72,18 +73,18 @@ param_step low q ts =
 pub param_got : (low : Depth) (make : ℕ → Header) (pos : ℕ) {T : List ℕ} {least p v : ℕ} → HeaderAt make (λ q. param_head q (drop pos T)) T least p v → (q : List Error) → param low q (drop pos T) ≡ param_end low (make v) q (drop p T)
 param_got low make pos {T} {least} {p} g q = param_step low q (drop pos T) ∙ ap (λ (d : Res Header). then q d (param_end low)) (g.got.same q) ∙ then_ok q _ ∙ ap (λ (h : Header). param_end low h q (drop p T)) g.is
 
-module _ {d : List Error → Res Header} {T : List ℕ} {pos least w p v : ℕ} {h : Head} where
-  pub head_required : h ≡ HRequired p v → Heads d T pos least w h → HeaderAt h_required d T least p v
+module _ {d : List Error → Res Header} {T : List ℕ} {pos least p v : ℕ} {h : Head} where
+  pub head_required : h ≡ HRequired p v → Heads d T pos least (Ok h) → HeaderAt h_required d T least p v
   head_required e x = (rw e at x).how
 
-  pub head_variadic : h ≡ HVariadic p v → Heads d T pos least w h → HeaderAt h_variadic d T least p v
+  pub head_variadic : h ≡ HVariadic p v → Heads d T pos least (Ok h) → HeaderAt h_variadic d T least p v
   head_variadic e x = (rw e at x).how
 
-  pub head_default : h ≡ HDefault p v → Heads d T pos least w h → HeaderAt h_default d T least p v
+  pub head_default : h ≡ HDefault p v → Heads d T pos least (Ok h) → HeaderAt h_default d T least p v
   head_default e x = (rw e at x).how
 
-pub no_head : {d : List Error → Res Header} {T : List ℕ} {pos least w : ℕ} {h : Head} {r : Step} → h ≡ HNot r → Heads d T pos least w h → Unread d T pos pos w r
-no_head e x = (rw e at x).how
+pub no_head : {d : List Error → Res Header} {T : List ℕ} {pos least : ℕ} {h : Halt} → Heads d T pos least (Err h) → Unread d T pos pos h
+no_head x = x.how
 
 pub default_one : (X W : List ℕ) (v : ℕ) (t : Tree) {a r : ℕ} {Y S S' : List ℕ} → Emitted a 282 v r S S' → take a S ≡ Y ++ records t → Y ≡ X ++ W → take r S' ≡ X ++ (W ++ records (Node.default_def v t))
 unfolding count
@@ -145,10 +146,10 @@ plain_text : (at a : ℕ) (S₀ S S₁ W : List ℕ) → take a S₁ ≡ take a 
 plain_text at a S₀ S S₁ W e g = e ∙ append-nil (take a S) ∙ g
 
 -- the text behind one with a default
-default_text : (at a a₁ m n v : ℕ) (S₀ S S₁ : List ℕ) (ps : Params) (x : DefaultOne) → Fitting ps m n v → take a₁ S₁ ≡ take a S ++ default_words m n x → take a S ≡ take at S₀ ++ params_words ps → take a₁ S₁ ≡ take at S₀ ++ params_words (with_default ps x.name x.value)
-default_text at a a₁ m n v S₀ S S₁ ps x fits e g =
-    e ∙ ap (λ (y : List ℕ). y ++ default_words m n x) g ∙ append_assoc (take at S₀) (params_words ps) (default_words m n x)
-    ∙ ap (λ (y : List ℕ). take at S₀ ++ y) (default_words_are ps.required_list ps.default_list m n (Node.default_def x.name x.value) fits.are_required fits.are_default)
+default_text : (at a a₁ : ℕ) (c : Counts) (S₀ S S₁ : List ℕ) (ps : Params) (x : DefaultOne) → Fitting ps c → take a₁ S₁ ≡ take a S ++ default_words c.required c.default x → take a S ≡ take at S₀ ++ params_words ps → take a₁ S₁ ≡ take at S₀ ++ params_words (with_default ps x.name x.value)
+default_text at a a₁ c S₀ S S₁ ps x fits e g =
+    e ∙ ap (λ (y : List ℕ). y ++ default_words c.required c.default x) g ∙ append_assoc (take at S₀) (params_words ps) (default_words c.required c.default x)
+    ∙ ap (λ (y : List ℕ). take at S₀ ++ y) (default_words_are ps.required_list ps.default_list c.required c.default (Node.default_def x.name x.value) fits.are_required fits.are_default)
 
 -- what joins as a default is one
 joins_default : (ps : Params) (x : ℕ) (e : Tree) (q : List Error) (ts : List ℕ) → Holds (λ p. p ≡ with_default ps x e) (join ps (default x e) q ts)
@@ -159,40 +160,39 @@ join_default : (ps : Params) (x : ℕ) (e : Tree) (q : List Error) (ts r : List 
 join_default ps x e q ts r ps₂ i = given (joins_default ps x e q ts) (way q i)
 
 -- ONE ROUND of the loop
-pub record Round (D : Res Params) (low : Depth) (fuel : ℕ) (T : List ℕ) (pos at w₀ : ℕ) (S₀ Q₀ : List ℕ) (p₀ p a w m n v : ℕ) (S Q : List ℕ) : Type 0 where
-  pub run : Wrote params_words D (params low fuel) T pos pos 8 at w₀ S₀ Q₀ p a w S Q
-  pub fits : Fitting run.what m n v
-  pub few : 2 * (m + n) ≤ p
-  pub below : v ≤ name_bound
+pub record Round (D : Res Params) (low : Depth) (fuel : ℕ) (T : List ℕ) (pos at : ℕ) (S₀ Q₀ : List ℕ) (p₀ p a : ℕ) (c : Counts) (S Q : List ℕ) : Type 0 where
+  pub run : Wrote params_words D (params low fuel) T pos pos 8 at S₀ Q₀ p a S Q
+  pub fits : Fitting run.what c
+  pub few : 2 * (c.required + c.default) ≤ p
+  pub below : c.variadic ≤ name_bound
   pub far : p₀ + 2 ≤ p
 
--- what was read joined those before it, of which there are at most so many
-joins_round : {D : Res Params} (low : Depth) (fuel most : ℕ) {d : List Error → Res Params} {T : List ℕ} {pos at w₀ : ℕ} {S₀ Q₀ : List ℕ} {p w z p₁ a₁ w₁ p₂ a₂ w₂ m₂ n₂ v₂ : ℕ} {S₂ Q₁ : List ℕ} → Moved (length T) pos w₀ p w z → 2 * most ≤ p
-    → As (waiting_errors w₀ Q₀) D (waiting_errors w₁ Q₁) (then (waiting_errors w₁ Q₁) (d (waiting_errors w₁ Q₁)) (λ ps₂ q₃ r. params low fuel ps₂ q₃ r)) → Moved (length T) (p + 2) w p₁ w₁ (length Q₁) → JoinsTo d (take at S₀) T p₁ most a₁ w₁ S₂ p₂ a₂ w₂ m₂ n₂ v₂ → Room pos at 8 p₂ a₂ → Round D low fuel T pos at w₀ S₀ Q₀ p p₂ a₂ w₂ m₂ n₂ v₂ S₂ Q₁
-joins_round low fuel most gm few o mv j room =
+-- what was read joined those before it, of which there are so many
+joins_round : {D : Res Params} (low : Depth) (fuel : ℕ) (before : Counts) {d : List Error → Res Params} {T : List ℕ} {pos at : ℕ} {S₀ Q₀ : List ℕ} {p p₁ a₁ : ℕ} {j : Joined} {S₂ Q Q₁ : List ℕ} → Moved (length T) pos p Q₀ Q → 2 * (before.required + before.default) ≤ p
+    → As Q₀ D Q₁ (then Q₁ (d Q₁) (λ ps₂ q₃ r. params low fuel ps₂ q₃ r)) → Moved (length T) (p + 2) p₁ Q Q₁ → JoinsTo d (take at S₀) T p₁ before a₁ S₂ j → Room pos at 8 j.end.pos j.end.at → Round D low fuel T pos at S₀ Q₀ p j.end.pos j.end.at j.counts S₂ Q₁
+joins_round low fuel before gm few o mv j room =
     let jg = j.got in
-    let jw = j.waits in
     let jf = j.few in
     let jo = jg.on in
     let ji = jg.within in
-    record { run = record { what = jg.what; same = rw jw (gets _ jg o); moved = omega arith; room = room; text = j.text }; fits = j.fits; few = omega arith; below = j.below; far = omega arith }
+    record { run = record { what = jg.what; same = gets _ jg o; moved = omega arith; room = room; text = j.text }; fits = j.fits; few = omega arith; below = j.below; far = omega arith }
 
-module _ {D : Res Params} (low : Depth) (fuel : ℕ) {T : List ℕ} {pos at w₀ : ℕ} {S₀ Q₀ : List ℕ} {p a w m n v : ℕ} {S Q S₁ Q₁ S₂ : List ℕ} (g : Wrote params_words D (params low fuel) T pos pos 8 at w₀ S₀ Q₀ p a w S Q) (fits : Fitting g.what m n v) (few : 2 * (m + n) ≤ p)
-    (on : As (waiting_errors w₀ Q₀) D (waiting_errors w Q) (params_go low (fuel - 1) g.what (waiting_errors w Q) (drop p T))) (start : at ≤ length S₀) (within : a ≤ length S) (same_length : length S₁ ≡ length S) (same_length₂ : length S₂ ≡ length S) (space : a + 8 * (length T - p) + 8 ≤ length S) where
+module _ {D : Res Params} (low : Depth) (fuel : ℕ) {T : List ℕ} {pos at : ℕ} {S₀ Q₀ : List ℕ} {p a : ℕ} {c : Counts} {S Q S₁ Q₁ S₂ : List ℕ} (g : Wrote params_words D (params low fuel) T pos pos 8 at S₀ Q₀ p a S Q) (fits : Fitting g.what c) (few : 2 * (c.required + c.default) ≤ p)
+    (on : As Q₀ D Q (params_go low (fuel - 1) g.what Q (drop p T))) (start : at ≤ length S₀) (within : a ≤ length S) (same_length : length S₁ ≡ length S) (same_length₂ : length S₂ ≡ length S) (space : a + 8 * (length T - p) + 8 ≤ length S) where
   -- a parameter that writes nothing
-  bare : {make : ℕ → Param} {p₁ w₁ x p₂ a₂ w₂ m₂ n₂ v₂ : ℕ} → ParameterAt make (param low (waiting_errors w Q) (drop p T)) T p a w S Q p₁ w₁ x S₁ Q₁ → JoinsTo (λ q. join g.what (make x) q (drop p₁ T)) (take at S₀) T p₁ (m + n) a w₁ S₂ p₂ a₂ w₂ m₂ n₂ v₂ → Round D low (fuel - 1) T pos at w₀ S₀ Q₀ p p₂ a₂ w₂ m₂ n₂ v₂ S₂ Q₁
+  bare : {make : ℕ → Param} {p₁ x : ℕ} {n : Joined} → ParameterAt make (param low Q (drop p T)) T p a S Q p₁ x S₁ Q₁ → JoinsTo (λ q. join g.what (make x) q (drop p₁ T)) (take at S₀) T p₁ c a S₂ n → Round D low (fuel - 1) T pos at S₀ Q₀ p n.end.pos n.end.at n.counts S₂ Q₁
   bare h j =
       let mv = h.run.moved in
       let gr = g.room in
       let ju = j.up in
       let jr = j.far in
       let jo = j.got.on in
-      joins_round low (fuel - 1) (m + n) g.moved few (goes _ on h.run.same) mv j (omega arith)
+      joins_round low (fuel - 1) c g.moved few (goes _ on h.run.same) mv j (omega arith)
 
   -- one with a default
-  full : {p₁ a₁ w₁ p₂ a₂ w₂ m₂ n₂ v₂ : ℕ} (h : Wrote (default_words m n) (param low (waiting_errors w Q) (drop p T)) (λ x q r. ok (default x.name x.value) r) T p (p + 2) 8 a w S Q p₁ a₁ w₁ S₁ Q₁)
-      → JoinsTo (λ q. join g.what (default h.what.name h.what.value) q (drop p₁ T)) (take at S₀) T p₁ (m + n) a₁ w₁ S₂ p₂ a₂ w₂ m₂ n₂ v₂ → Round D low (fuel - 1) T pos at w₀ S₀ Q₀ p p₂ a₂ w₂ m₂ n₂ v₂ S₂ Q₁
-  full {p₁} {a₁} {w₁} {p₂} {a₂} h j =
+  full : {p₁ a₁ : ℕ} {n : Joined} (h : Wrote (default_words c.required c.default) (param low Q (drop p T)) (λ x q r. ok (default x.name x.value) r) T p (p + 2) 8 a S Q p₁ a₁ S₁ Q₁)
+      → JoinsTo (λ q. join g.what (default h.what.name h.what.value) q (drop p₁ T)) (take at S₀) T p₁ c a₁ S₂ n → Round D low (fuel - 1) T pos at S₀ Q₀ p n.end.pos n.end.at n.counts S₂ Q₁
+  full {p₁} {a₁} {n} h j =
       let mv = h.moved in
       let hr = h.room in
       let gr = g.room in
@@ -202,56 +202,47 @@ module _ {D : Res Params} (low : Depth) (fuel : ℕ) {T : List ℕ} {pos at w₀
       let jo = jg.on in
       let ji = jg.within in
       let W : List ℕ = params_words (with_default g.what h.what.name h.what.value) in
-      let c : a₁ ≡ at + length W = grown S₀ S₁ W at a₁ (default_text at a a₁ m n v S₀ S S₁ g.what h.what fits h.text g.text) start (omega arith) in
-      let i : jg.what ≡ with_default g.what h.what.name h.what.value = join_default g.what h.what.name h.what.value [] (drop p₁ T) (drop p₂ T) jg.what (jg.same []) in
-      let d : a₂ ≡ at + length W = grown S₀ S₂ W at a₂ (j.text ∙ ap (λ (ps : Params). take at S₀ ++ params_words ps) i) start (omega arith) in
-      joins_round low (fuel - 1) (m + n) g.moved few (goes _ on h.same) mv j (omega arith)
+      let c₁ : a₁ ≡ at + length W = grown S₀ S₁ W at a₁ (default_text at a a₁ c S₀ S S₁ g.what h.what fits h.text g.text) start (omega arith) in
+      let i : jg.what ≡ with_default g.what h.what.name h.what.value = join_default g.what h.what.name h.what.value [] (drop p₁ T) (drop n.end.pos T) jg.what (jg.same []) in
+      let d : n.end.at ≡ at + length W = grown S₀ S₂ W at n.end.at (j.text ∙ ap (λ (ps : Params). take at S₀ ++ params_words ps) i) start (omega arith) in
+      joins_round low (fuel - 1) c g.moved few (goes _ on h.same) mv j (omega arith)
 
-  pub round : {p₂ a₂ w₂ m₂ n₂ v₂ : ℕ} {one : Parameter} {r : Joined} → r ≡ To p₂ a₂ w₂ m₂ n₂ v₂ → ParamsRead (param low (waiting_errors w Q) (drop p T)) T p m n a w S Q S₁ Q₁ one → JoinedBy T m n v a S₁ S₂ one r → Round D low (fuel - 1) T pos at w₀ S₀ Q₀ p p₂ a₂ w₂ m₂ n₂ v₂ S₂ Q₁
-  round {one = PRequired p₁ w₁ x} e h j = bare h.how (rw e at (j.how (take at S₀) g.what fits (plain_text at a S₀ S S₁ (params_words g.what) h.how.run.text g.text))).how
-  round {one = PVariadic p₁ w₁ x} e h j = bare h.how (rw e at (j.how (take at S₀) g.what fits (plain_text at a S₀ S S₁ (params_words g.what) h.how.run.text g.text))).how
-  round {one = PDefault p₁ a₁ w₁} e h j = let k = h.how in full k (rw e at (j.how (take at S₀) g.what k.what.name k.what.value fits (default_text at a a₁ m n v S₀ S S₁ g.what k.what fits k.text g.text))).how
-  round {one = PNot s} e h j = absurd (let i = sym e ∙ j.how.0 in let z : ◌≡◌ {A = ℕ} 0 1 = cc in omega arith)
+  pub round : {one : Parameter} {n : Joined} → ParamsRead (param low Q (drop p T)) T p c.required c.default a S Q S₁ Q₁ (Ok one) → JoinedBy T c a S₁ S₂ one (Ok n) → Round D low (fuel - 1) T pos at S₀ Q₀ p n.end.pos n.end.at n.counts S₂ Q₁
+  round {one = PRequired p₁ x} h j = bare h.how (j.how (take at S₀) g.what fits (plain_text at a S₀ S S₁ (params_words g.what) h.how.run.text g.text)).how
+  round {one = PVariadic p₁ x} h j = bare h.how (j.how (take at S₀) g.what fits (plain_text at a S₀ S S₁ (params_words g.what) h.how.run.text g.text)).how
+  round {one = PDefault end} h j = let k = h.how in full k (j.how (take at S₀) g.what k.what.name k.what.value fits (default_text at a end.at c S₀ S S₁ g.what k.what fits k.text g.text)).how
 
   -- none joined
-  not_joined : {d : List Error → Res Params} {p₁ w₁ : ℕ} {s : Step} (W : List ℕ) (a₁ : ℕ) → As (waiting_errors w₀ Q₀) D (waiting_errors w₁ Q₁) (then (waiting_errors w₁ Q₁) (d (waiting_errors w₁ Q₁)) (λ ps₂ q₃ r. params low (fuel - 1) ps₂ q₃ r)) → Moved (length T) (p + 2) w p₁ w₁ (length Q₁) → take a₁ S₁ ≡ take at S₀ ++ W → Unjoined d T p₁ w₁ S₁ S₂ s → Failed D T pos pos at w₀ S₀ Q₀ S₂ Q₁ s
+  not_joined : {d : List Error → Res Params} {p₁ : ℕ} {h : Halt} (W : List ℕ) (a₁ : ℕ) → As Q₀ D Q₁ (then Q₁ (d Q₁) (λ ps₂ q₃ r. params low (fuel - 1) ps₂ q₃ r)) → Moved (length T) (p + 2) p₁ Q Q₁ → take a₁ S₁ ≡ take at S₀ ++ W → Unjoined d T p₁ S₁ S₂ h → Failed D T pos pos at S₀ Q₀ S₂ Q₁ h
   not_joined W a₁ o mv t u =
       let gm = g.moved in
       lacks _ u.unread o (ap (take at) u.text ∙ prefix_of S₀ S₁ W at a₁ t start) (omega arith)
 
-  pub unjoined : {s : Step} {one : Parameter} {r : Joined} → r ≡ JNot s → ParamsRead (param low (waiting_errors w Q) (drop p T)) T p m n a w S Q S₁ Q₁ one → JoinedBy T m n v a S₁ S₂ one r → Failed D T pos pos at w₀ S₀ Q₀ S₂ Q₁ s
-  unjoined {one = PRequired p₁ w₁ x} e h j =
+  pub unjoined : {h : Halt} {one : Parameter} → ParamsRead (param low Q (drop p T)) T p c.required c.default a S Q S₁ Q₁ (Ok one) → JoinedBy T c a S₁ S₂ one (Err h) → Failed D T pos pos at S₀ Q₀ S₂ Q₁ h
+  unjoined {one = PRequired p₁ x} h j =
       let k = h.how.run in
       let t = plain_text at a S₀ S S₁ (params_words g.what) k.text g.text in
-      not_joined (params_words g.what) a (goes _ on k.same) k.moved t (rw e at (j.how (take at S₀) g.what fits t)).how
-  unjoined {one = PVariadic p₁ w₁ x} e h j =
+      not_joined (params_words g.what) a (goes _ on k.same) k.moved t (j.how (take at S₀) g.what fits t).how
+  unjoined {one = PVariadic p₁ x} h j =
       let k = h.how.run in
       let t = plain_text at a S₀ S S₁ (params_words g.what) k.text g.text in
-      not_joined (params_words g.what) a (goes _ on k.same) k.moved t (rw e at (j.how (take at S₀) g.what fits t)).how
-  unjoined {one = PDefault p₁ a₁ w₁} e h j =
+      not_joined (params_words g.what) a (goes _ on k.same) k.moved t (j.how (take at S₀) g.what fits t).how
+  unjoined {one = PDefault end} h j =
       let k = h.how in
-      let t = default_text at a a₁ m n v S₀ S S₁ g.what k.what fits k.text g.text in
-      not_joined (params_words (with_default g.what k.what.name k.what.value)) a₁ (goes _ on k.same) k.moved t (rw e at (j.how (take at S₀) g.what k.what.name k.what.value fits t)).how
-  unjoined {s} {one = PNot s'} e h j =
-      let i : JNot s ≡ JNot s' = sym e ∙ j.how.0 in
-      let c : s' ≡ s = cc in
-      let gm = g.moved in
-      let gr = g.room in
-      let f : Failed D T pos pos at w₀ S₀ Q₀ S₁ Q₁ s' = fails _ on h.how (prefix g start) (omega arith) in
-      rw (← c, j.how.1) f
+      let t = default_text at a end.at c S₀ S S₁ g.what k.what fits k.text g.text in
+      not_joined (params_words (with_default g.what k.what.name k.what.value)) end.at (goes _ on k.same) k.moved t (j.how (take at S₀) g.what k.what.name k.what.value fits t).how
 
 -- what may join
-pub one_param : {d : Res Param} {T : List ℕ} {pos m n at w₀ : ℕ} {S Q S' Q' : List ℕ} {x : Parameter} → ParamsRead d T pos m n at w₀ S Q S' Q' x → at + 2 ≤ length S' → One (length T) (length S') at x
-one_param {x = PRequired p w v} h room = record { how = (h.how.run.moved.within, room, h.how.below) }
-one_param {x = PVariadic p w v} h room = record { how = (h.how.run.moved.within, h.how.below) }
-one_param {x = PDefault p a w} h room = record { how = h.how.moved.within }
-one_param {x = PNot s} h room = record { how = tt }
+pub one_param : {d : Res Param} {T : List ℕ} {pos m n at : ℕ} {S Q S' Q' : List ℕ} {x : Parameter} → ParamsRead d T pos m n at S Q S' Q' (Ok x) → at + 2 ≤ length S' → One (length T) (length S') at x
+one_param {x = PRequired p v} h room = record { how = (h.how.run.moved.within, room, h.how.below) }
+one_param {x = PVariadic p v} h room = record { how = (h.how.run.moved.within, h.how.below) }
+one_param {x = PDefault end} h room = record { how = h.how.moved.within }
 
 -- where the loop begins
 abbrev pub no_params : Params
 no_params = record { required_list = none; default_list = none; variadic_one = Node.absent }
 
-pub none_fit : Fitting no_params 0 0 0
+pub none_fit : Fitting no_params (record { required = 0; default = 0; variadic = 0 })
 unfolding count
 none_fit = record { are_required = refl; are_default = refl; is_variadic = refl }
 

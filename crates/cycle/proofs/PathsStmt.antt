@@ -26,7 +26,7 @@ use Rattle.scan.proofs.Laws.{Looks}
 use Rattle.nodes.proofs.Algebra.{then_ok, then_then, then_same}
 
 -- what a pattern was made of, under its modifier
-pub ended_text : {make : Tree → Tree} {a more r : ℕ} {S S' : List ℕ} {d : List Error → Res Tree} {T : List ℕ} {least most at w₀ : ℕ} {X : List ℕ} {p w : ℕ} → Ended records Any records make a more r S S' → (st : Stored records d T least most at w₀ X p a w S) → take r S' ≡ X ++ records (make st.got.what)
+pub ended_text : {make : Tree → Tree} {a more r : ℕ} {S S' : List ℕ} {d : List Error → Res Tree} {T : List ℕ} {least most at : ℕ} {X : List ℕ} {p : ℕ} → Ended records Any records make a more r S S' → (st : Stored records d T least most at X p a S) → take r S' ≡ X ++ records (make st.got.what)
 ended_text {X = X} e st = e.text X st.got.what tt st.text
 
 pub modified_text : (t : Tree) {m n : ℕ} {X Y Z : List ℕ} → Z ≡ X ++ records (modified m t) → X ≡ Y → n ≡ m → Z ≡ Y ++ records (modified n t)

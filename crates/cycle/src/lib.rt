@@ -10,13 +10,13 @@ ghost use Rattle.grammar.specs.Reading.Block.{body as body_def, block_expr, expr
 ghost use Rattle.grammar.specs.Reading.Function.{param as param_def, function_param_list, function_def, function_assignment_target, function_decl_expr};
 ghost use Rattle.grammar.specs.Reading.Stmt.{loop as loop_def, lvalue_list, for_loop, stmt_label, stmt as stmt_def, is_control as is_control_def, control_value, control_flow, synchronize, caught as caught_def};
 ghost use Rattle.grammar.specs.Reading.Depth.{primary_expr, at_depth};
-ghost use Rattle.scan.specs.Post.{no_words, Ready, Lent, waiting_errors, Reading};
+ghost use Rattle.scan.specs.Post.{Ready, Lent, Reading, Crosses};
 ghost use Rattle.cycle.specs.Parts.{tail as tail_def, part as part_def, list_words, arm as arm_def, whiles as whiles_def, whiles_words, turn as turn_def};
 ghost use Rattle.nodes.specs.Parts.{tuple_words, path_words, signature_words};
 ghost use Rattle.cycle.specs.Lists.{Lists, Enters};
 ghost use Rattle.nodes.specs.Parameters.{ParamsRead};
 
-use grammar::{Queue, limit};
+use grammar::limit;
 use nodes::fields::{
     item_end, joined, member, named_field, param_head, params_end, required_end, signature_end,
 };
@@ -24,15 +24,15 @@ use nodes::records::{
     bare_call, block_under, call_end, expect_pattern, expression_end, group_end, if_end, list_end,
     list_under, literal, lone_unpack, mark, modified, path_end, target_name, tuple_end, unpack_end,
 };
-use nodes::{Head, Joined, Parameter};
+use nodes::{Counts, Head, Parameter};
 use operator::{PRECEDENCE_END, PRECEDENCE_START};
-use scan::queue::{control_last, push, synchronized};
+use scan::queue::{Waiting, control_last, synchronized};
 use scan::tokens::{
     UNTIL_BRANCH, UNTIL_END, action, assign_code, assign_keyword, continues, ends, ends_control,
     expect, halts, is_control, look, not_allowed, op_level, op_number, past, try_label, unary_code,
     unassigned,
 };
-use scan::{Entry, Failure, Found, Listed, Seen, Step, again, closed, number, resumed};
+use scan::{Cursor, Entry, Failure, Halt, Listed, Suite, number};
 use token::kind;
 use tree::{emit, word};
 
@@ -44,32 +44,30 @@ use tree::{emit, word};
 fn unop(
     tokens: &[u64],
     store: &mut [u64],
-    queue: &mut Queue,
+    queue: &mut Waiting,
     depth: usize,
-    pos: usize,
-    at: usize,
-    waiting: usize,
-) -> Step
-    requires { Ready (length tokens.now) (length store.old) (length queue.old) pos at waiting }
-    ensures { Reading records (at_depth depth).unary tokens.now pos (pos + 2) 20 at waiting store.old queue.old store.new queue.new result }
+    cursor: Cursor,
+) -> Result<Cursor, Halt>
+    requires { Ready (length tokens.now) (length store.old) cursor.pos cursor.at }
+    ensures { Reading records (at_depth depth).unary tokens.now cursor.pos (cursor.pos + 2) 20 cursor.at store.old queue.old store.new queue.new result }
 {
     if depth == 0 {
-        return Step::Stop(limit::TOO_DEEP);
+        return Err(Halt::Stop(limit::TOO_DEEP));
     }
-    match look(tokens, pos, waiting) {
-        Seen::Token(kind, _, _) => {
-            let code = unary_code(kind);
-            if code == 0 {
-                return term(tokens, store, queue, depth - 1, pos, at, waiting);
-            }
-            let r = unop(tokens, store, queue, depth - 1, pos + 2, at, waiting);
-            let Step::Done(p, a, w) = r else {
-                return again(r);
-            };
-            Step::Done(p, emit(store, a, word::UNARY_OP, code - 1), w)
-        }
-        Seen::Not(s) => s,
+    let token = look(tokens, cursor.pos)?;
+    let code = unary_code(token.kind);
+    if code == 0 {
+        return term(tokens, store, queue, depth - 1, cursor);
     }
+    let next = Cursor {
+        pos: cursor.pos + 2,
+        ..cursor
+    };
+    let operand = unop(tokens, store, queue, depth - 1, next)?;
+    Ok(Cursor {
+        at: emit(store, operand.at, word::UNARY_OP, code - 1),
+        ..operand
+    })
 }
 
 // `parse_primary_expr`.
@@ -77,36 +75,35 @@ fn unop(
 fn term(
     tokens: &[u64],
     store: &mut [u64],
-    queue: &mut Queue,
+    queue: &mut Waiting,
     depth: usize,
-    pos: usize,
-    at: usize,
-    waiting: usize,
-) -> Step
-    requires { Ready (length tokens.now) (length store.old) (length queue.old) pos at waiting }
-    ensures { Reading records (primary_expr (at_depth depth)) tokens.now pos (pos + 2) 20 at waiting store.old queue.old store.new queue.new result }
+    cursor: Cursor,
+) -> Result<Cursor, Halt>
+    requires { Ready (length tokens.now) (length store.old) cursor.pos cursor.at }
+    ensures { Reading records (primary_expr (at_depth depth)) tokens.now cursor.pos (cursor.pos + 2) 20 cursor.at store.old queue.old store.new queue.new result }
 {
-    match look(tokens, pos, waiting) {
-        Seen::Token(kind, _, value) => match kind {
-            kind::CLASS => Step::Fail(Failure {
-                error: number::CLASS_DEFINITION,
-                pos: pos + 2,
-                waiting,
-            }),
-            kind::FUN => fun(tokens, store, queue, depth, pos + 2, at, waiting),
-            kind::IF => cond(tokens, store, queue, depth, pos + 2, at, waiting),
-            kind::BEGIN => block(tokens, store, queue, depth, 0, pos + 2, at, waiting),
-            kind::OPEN_BRACE => {
-                let r = table(tokens, store, queue, depth, pos + 2, at, waiting);
-                let Step::Done(p, a, w) = r else {
-                    return r;
-                };
-                Step::Done(p, emit(store, a, word::TABLE, 0), w)
-            }
-            kind::LABEL => begin(tokens, store, queue, depth, value + 1, pos + 2, at, waiting),
-            _ => dots(tokens, store, queue, depth, pos, at, waiting),
-        },
-        Seen::Not(s) => s,
+    let token = look(tokens, cursor.pos)?;
+    let next = Cursor {
+        pos: cursor.pos + 2,
+        ..cursor
+    };
+    match token.kind {
+        kind::CLASS => Err(Halt::Fail(Failure {
+            error: number::CLASS_DEFINITION,
+            pos: next.pos,
+        })),
+        kind::FUN => fun(tokens, store, queue, depth, next),
+        kind::IF => cond(tokens, store, queue, depth, next),
+        kind::BEGIN => block(tokens, store, queue, depth, 0, next),
+        kind::OPEN_BRACE => {
+            let items = table(tokens, store, queue, depth, next)?;
+            Ok(Cursor {
+                at: emit(store, items.at, word::TABLE, 0),
+                ..items
+            })
+        }
+        kind::LABEL => begin(tokens, store, queue, depth, token.value + 1, next),
+        _ => dots(tokens, store, queue, depth, cursor),
     }
 }
 
@@ -115,36 +112,29 @@ fn term(
 fn dots(
     tokens: &[u64],
     store: &mut [u64],
-    queue: &mut Queue,
+    queue: &mut Waiting,
     depth: usize,
-    pos: usize,
-    at: usize,
-    waiting: usize,
-) -> Step
-    requires { Ready (length tokens.now) (length store.old) (length queue.old) pos at waiting }
-    ensures { Reading records (unpack_expr (at_depth depth)) tokens.now pos (pos + 2) 20 at waiting store.old queue.old store.new queue.new result }
+    cursor: Cursor,
+) -> Result<Cursor, Halt>
+    requires { Ready (length tokens.now) (length store.old) cursor.pos cursor.at }
+    ensures { Reading records (unpack_expr (at_depth depth)) tokens.now cursor.pos (cursor.pos + 2) 20 cursor.at store.old queue.old store.new queue.new result }
 {
-    match look(tokens, pos, waiting) {
-        Seen::Token(kind, _, _) => {
-            if kind == kind::ELLIPSIS {
-                return Step::Done(pos + 2, lone_unpack(store, at), waiting);
-            }
-            let r = prim(tokens, store, queue, depth, pos, at, waiting);
-            let Step::Done(p, a, w) = r else {
-                return again(r);
-            };
-            match look(tokens, p, w) {
-                Seen::Token(next, _, _) => {
-                    if next == kind::ELLIPSIS {
-                        return unpack_end(store, p + 2, a, w);
-                    }
-                    Step::Done(p, a, w)
-                }
-                Seen::Not(s) => s,
-            }
-        }
-        Seen::Not(s) => s,
+    let token = look(tokens, cursor.pos)?;
+    if token.kind == kind::ELLIPSIS {
+        return Ok(Cursor {
+            pos: cursor.pos + 2,
+            at: lone_unpack(store, cursor.at),
+        });
     }
+    let operand = prim(tokens, store, queue, depth, cursor)?;
+    if look(tokens, operand.pos)?.kind == kind::ELLIPSIS {
+        let end = Cursor {
+            pos: operand.pos + 2,
+            ..operand
+        };
+        return unpack_end(store, end);
+    }
+    Ok(operand)
 }
 
 // `parse_primary`.
@@ -152,20 +142,15 @@ fn dots(
 fn prim(
     tokens: &[u64],
     store: &mut [u64],
-    queue: &mut Queue,
+    queue: &mut Waiting,
     depth: usize,
-    pos: usize,
-    at: usize,
-    waiting: usize,
-) -> Step
-    requires { Ready (length tokens.now) (length store.old) (length queue.old) pos at waiting }
-    ensures { Reading records (primary_def (at_depth depth)) tokens.now pos (pos + 2) 20 at waiting store.old queue.old store.new queue.new result }
+    cursor: Cursor,
+) -> Result<Cursor, Halt>
+    requires { Ready (length tokens.now) (length store.old) cursor.pos cursor.at }
+    ensures { Reading records (primary_def (at_depth depth)) tokens.now cursor.pos (cursor.pos + 2) 20 cursor.at store.old queue.old store.new queue.new result }
 {
-    let r = atom(tokens, store, queue, depth, pos, at, waiting);
-    let Step::Done(p, a, w) = r else {
-        return again(r);
-    };
-    path(tokens, store, queue, depth, true, p, a, w)
+    let receiver = atom(tokens, store, queue, depth, cursor)?;
+    path(tokens, store, queue, depth, true, receiver)
 }
 
 // The access items behind an atom, and what they make of it. `calls`: invocations are allowed.
@@ -173,39 +158,30 @@ fn prim(
 fn path(
     tokens: &[u64],
     store: &mut [u64],
-    queue: &mut Queue,
+    queue: &mut Waiting,
     depth: usize,
     calls: bool,
-    pos: usize,
-    at: usize,
-    waiting: usize,
-) -> Step
-    requires { Ready (length tokens.now) (length store.old) (length queue.old) pos at waiting }
-    ensures { Reading path_words (λ q ts. path_def (at_depth depth) calls (length ts) none q ts) tokens.now pos pos 8 at waiting store.old queue.old store.new queue.new result }
+    cursor: Cursor,
+) -> Result<Cursor, Halt>
+    requires { Ready (length tokens.now) (length store.old) cursor.pos cursor.at }
+    ensures { Reading path_words (λ q ts. path_def (at_depth depth) calls (length ts) none q ts) tokens.now cursor.pos cursor.pos 8 cursor.at store.old queue.old store.new queue.new result }
 {
-    let mut p = pos;
-    let mut a = at;
-    let mut w = waiting;
+    let mut end = cursor;
     let mut n: u64 = 0;
     loop {
-        match look(tokens, p, w) {
-            Seen::Token(kind, newline, _) => {
-                if !continues(calls, kind, newline) {
-                    return Step::Done(p, path_end(store, a, n), w);
-                }
-                let r = part(tokens, store, queue, depth, kind, p + 2, a, w);
-                match r {
-                    Step::Done(p2, a2, w2) => {
-                        p = p2;
-                        a = a2;
-                        w = w2;
-                        n += 1;
-                    }
-                    _ => return r,
-                }
-            }
-            Seen::Not(s) => return s,
+        let token = look(tokens, end.pos)?;
+        if !continues(calls, token.kind, token.newline) {
+            return Ok(Cursor {
+                at: path_end(store, end.at, n),
+                ..end
+            });
         }
+        let next = Cursor {
+            pos: end.pos + 2,
+            ..end
+        };
+        end = part(tokens, store, queue, depth, token.kind, next)?;
+        n += 1;
     }
 }
 
@@ -214,32 +190,30 @@ fn path(
 fn part(
     tokens: &[u64],
     store: &mut [u64],
-    queue: &mut Queue,
+    queue: &mut Waiting,
     depth: usize,
     k: u64,
-    pos: usize,
-    at: usize,
-    waiting: usize,
-) -> Step
-    requires { Ready (length tokens.now) (length store.old) (length queue.old) pos at waiting × Lent (length tokens.now) (length store.old) pos at }
-    ensures { Reading records (part_def (at_depth depth) k) tokens.now pos pos 6 at waiting store.old queue.old store.new queue.new result }
+    cursor: Cursor,
+) -> Result<Cursor, Halt>
+    requires { Ready (length tokens.now) (length store.old) cursor.pos cursor.at × Lent (length tokens.now) (length store.old) cursor.pos cursor.at }
+    ensures { Reading records (part_def (at_depth depth) k) tokens.now cursor.pos cursor.pos 6 cursor.at store.old queue.old store.new queue.new result }
 {
     match k {
-        kind::OP_ACCESS => member(tokens, store, pos, at, waiting),
+        kind::OP_ACCESS => member(tokens, store, cursor),
         kind::OPEN_SQUARE => {
-            let r = index(tokens, store, queue, depth, pos, at, waiting);
-            let Step::Done(p, a, w) = r else {
-                return r;
-            };
-            Step::Done(p, emit(store, a, word::INDEX, 0), w)
+            let place = index(tokens, store, queue, depth, cursor)?;
+            Ok(Cursor {
+                at: emit(store, place.at, word::INDEX, 0),
+                ..place
+            })
         }
-        kind::OPEN_PAREN => call(tokens, store, queue, depth, pos, at, waiting),
+        kind::OPEN_PAREN => call(tokens, store, queue, depth, cursor),
         _ => {
-            let r = table(tokens, store, queue, depth, pos, at, waiting);
-            let Step::Done(p, a, w) = r else {
-                return r;
-            };
-            Step::Done(p, emit(store, a, word::INVOKE_TABLE, 0), w)
+            let items = table(tokens, store, queue, depth, cursor)?;
+            Ok(Cursor {
+                at: emit(store, items.at, word::INVOKE_TABLE, 0),
+                ..items
+            })
         }
     }
 }
@@ -249,24 +223,22 @@ fn part(
 fn atom(
     tokens: &[u64],
     store: &mut [u64],
-    queue: &mut Queue,
+    queue: &mut Waiting,
     depth: usize,
-    pos: usize,
-    at: usize,
-    waiting: usize,
-) -> Step
-    requires { Ready (length tokens.now) (length store.old) (length queue.old) pos at waiting }
-    ensures { Reading records (atom_def (at_depth depth)) tokens.now pos (pos + 2) 20 at waiting store.old queue.old store.new queue.new result }
+    cursor: Cursor,
+) -> Result<Cursor, Halt>
+    requires { Ready (length tokens.now) (length store.old) cursor.pos cursor.at }
+    ensures { Reading records (atom_def (at_depth depth)) tokens.now cursor.pos (cursor.pos + 2) 20 cursor.at store.old queue.old store.new queue.new result }
 {
-    match look(tokens, pos, waiting) {
-        Seen::Token(kind, _, value) => {
-            if kind == kind::OPEN_PAREN {
-                return group(tokens, store, queue, depth, pos + 2, at, waiting);
-            }
-            literal(store, kind, value, pos + 2, at, waiting)
-        }
-        Seen::Not(s) => s,
+    let token = look(tokens, cursor.pos)?;
+    let next = Cursor {
+        pos: cursor.pos + 2,
+        ..cursor
+    };
+    if token.kind == kind::OPEN_PAREN {
+        return group(tokens, store, queue, depth, next);
     }
+    literal(store, token.kind, token.value, next)
 }
 
 // `parse_group_expr`, behind `(`.
@@ -274,37 +246,31 @@ fn atom(
 fn group(
     tokens: &[u64],
     store: &mut [u64],
-    queue: &mut Queue,
+    queue: &mut Waiting,
     depth: usize,
-    pos: usize,
-    at: usize,
-    waiting: usize,
-) -> Step
-    requires { Ready (length tokens.now) (length store.old) (length queue.old) pos at waiting }
-    ensures { Reading records (group_expr (at_depth depth)) tokens.now pos pos 8 at waiting store.old queue.old store.new queue.new result }
+    cursor: Cursor,
+) -> Result<Cursor, Halt>
+    requires { Ready (length tokens.now) (length store.old) cursor.pos cursor.at }
+    ensures { Reading records (group_expr (at_depth depth)) tokens.now cursor.pos cursor.pos 8 cursor.at store.old queue.old store.new queue.new result }
 {
-    match look(tokens, pos, waiting) {
-        Seen::Token(kind, _, _) => {
-            if kind == kind::CLOSE_PAREN {
-                return Step::Done(pos + 2, emit(store, at, word::EMPTY_TUPLE, 0), waiting);
-            }
-            match assign_keyword(tokens, pos, waiting) {
-                Found::At(p, m) => {
-                    let r = expr(tokens, store, queue, depth, p, at, waiting);
-                    let Step::Done(p1, a1, w1) = r else {
-                        return r;
-                    };
-                    let s = expect(tokens, kind::CLOSE_PAREN, number::GROUP_CLOSING, p1, a1, w1);
-                    let Step::Done(p2, _, _) = s else {
-                        return s;
-                    };
-                    Step::Done(p2, group_end(store, a1, m), w1)
-                }
-                Found::Not(s) => s,
-            }
-        }
-        Seen::Not(s) => s,
+    let token = look(tokens, cursor.pos)?;
+    if token.kind == kind::CLOSE_PAREN {
+        return Ok(Cursor {
+            pos: cursor.pos + 2,
+            at: emit(store, cursor.at, word::EMPTY_TUPLE, 0),
+        });
     }
+    let modifier = assign_keyword(tokens, cursor.pos)?;
+    let start = Cursor {
+        pos: modifier.pos,
+        ..cursor
+    };
+    let inner = expr(tokens, store, queue, depth, start)?;
+    let pos = expect(tokens, kind::CLOSE_PAREN, number::GROUP_CLOSING, inner.pos)?;
+    Ok(Cursor {
+        pos,
+        at: group_end(store, inner.at, modifier.number),
+    })
 }
 
 // `parse_indexing_expr`, behind `[`.
@@ -312,20 +278,16 @@ fn group(
 fn index(
     tokens: &[u64],
     store: &mut [u64],
-    queue: &mut Queue,
+    queue: &mut Waiting,
     depth: usize,
-    pos: usize,
-    at: usize,
-    waiting: usize,
-) -> Step
-    requires { Ready (length tokens.now) (length store.old) (length queue.old) pos at waiting }
-    ensures { Reading records (indexing_expr (at_depth depth)) tokens.now pos pos 8 at waiting store.old queue.old store.new queue.new result }
+    cursor: Cursor,
+) -> Result<Cursor, Halt>
+    requires { Ready (length tokens.now) (length store.old) cursor.pos cursor.at }
+    ensures { Reading records (indexing_expr (at_depth depth)) tokens.now cursor.pos cursor.pos 8 cursor.at store.old queue.old store.new queue.new result }
 {
-    let r = expr(tokens, store, queue, depth, pos, at, waiting);
-    let Step::Done(p, a, w) = r else {
-        return r;
-    };
-    expect(tokens, kind::CLOSE_SQUARE, number::INDEX_CLOSING, p, a, w)
+    let inner = expr(tokens, store, queue, depth, cursor)?;
+    let pos = expect(tokens, kind::CLOSE_SQUARE, number::INDEX_CLOSING, inner.pos)?;
+    Ok(Cursor { pos, ..inner })
 }
 
 // `parse_invocation`, behind `(`.
@@ -333,39 +295,31 @@ fn index(
 fn call(
     tokens: &[u64],
     store: &mut [u64],
-    queue: &mut Queue,
+    queue: &mut Waiting,
     depth: usize,
-    pos: usize,
-    at: usize,
-    waiting: usize,
-) -> Step
-    requires { Ready (length tokens.now) (length store.old) (length queue.old) pos at waiting }
-    ensures { Reading records (invocation (at_depth depth)) tokens.now pos pos 8 at waiting store.old queue.old store.new queue.new result }
+    cursor: Cursor,
+) -> Result<Cursor, Halt>
+    requires { Ready (length tokens.now) (length store.old) cursor.pos cursor.at }
+    ensures { Reading records (invocation (at_depth depth)) tokens.now cursor.pos cursor.pos 8 cursor.at store.old queue.old store.new queue.new result }
 {
-    match look(tokens, pos, waiting) {
-        Seen::Token(kind, _, _) => {
-            if kind == kind::CLOSE_PAREN {
-                return Step::Done(pos + 2, bare_call(store, at), waiting);
-            }
-            let r = expr(tokens, store, queue, depth, pos, at, waiting);
-            let Step::Done(p1, a1, w1) = r else {
-                return r;
-            };
-            let s = expect(
-                tokens,
-                kind::CLOSE_PAREN,
-                number::ARGUMENTS_CLOSING,
-                p1,
-                a1,
-                w1,
-            );
-            let Step::Done(p2, _, _) = s else {
-                return s;
-            };
-            Step::Done(p2, call_end(store, a1), w1)
-        }
-        Seen::Not(s) => s,
+    let token = look(tokens, cursor.pos)?;
+    if token.kind == kind::CLOSE_PAREN {
+        return Ok(Cursor {
+            pos: cursor.pos + 2,
+            at: bare_call(store, cursor.at),
+        });
     }
+    let inner = expr(tokens, store, queue, depth, cursor)?;
+    let pos = expect(
+        tokens,
+        kind::CLOSE_PAREN,
+        number::ARGUMENTS_CLOSING,
+        inner.pos,
+    )?;
+    Ok(Cursor {
+        pos,
+        at: call_end(store, inner.at),
+    })
 }
 
 // `parse_table_literal`, behind `{`: the items and their list.
@@ -373,43 +327,34 @@ fn call(
 fn table(
     tokens: &[u64],
     store: &mut [u64],
-    queue: &mut Queue,
+    queue: &mut Waiting,
     depth: usize,
-    pos: usize,
-    at: usize,
-    waiting: usize,
-) -> Step
-    requires { Ready (length tokens.now) (length store.old) (length queue.old) pos at waiting }
-    ensures { Reading list_words (table_literal (at_depth depth)) tokens.now pos pos 8 at waiting store.old queue.old store.new queue.new result }
+    cursor: Cursor,
+) -> Result<Cursor, Halt>
+    requires { Ready (length tokens.now) (length store.old) cursor.pos cursor.at }
+    ensures { Reading list_words (table_literal (at_depth depth)) tokens.now cursor.pos cursor.pos 8 cursor.at store.old queue.old store.new queue.new result }
 {
-    let mut p = pos;
-    let mut a = at;
-    let mut w = waiting;
+    let mut end = cursor;
     let mut n: u64 = 0;
     loop {
-        match look(tokens, p, w) {
-            Seen::Token(kind, _, _) => {
-                if kind == kind::CLOSE_BRACE {
-                    return Step::Done(p + 2, list_end(store, a, n), w);
-                }
-                let r = item(tokens, store, queue, depth, p, a, w);
-                let Step::Done(p1, a1, w1) = r else {
-                    return r;
-                };
-                match item_end(tokens, p1, w1) {
-                    Found::At(p2, closed) => {
-                        if closed == 1 {
-                            return Step::Done(p2, list_end(store, a1, n + 1), w1);
-                        }
-                        p = p2;
-                        a = a1;
-                        w = w1;
-                        n += 1;
-                    }
-                    Found::Not(s) => return s,
-                }
-            }
-            Seen::Not(s) => return s,
+        if look(tokens, end.pos)?.kind == kind::CLOSE_BRACE {
+            return Ok(Cursor {
+                pos: end.pos + 2,
+                at: list_end(store, end.at, n),
+            });
+        }
+        let one = item(tokens, store, queue, depth, end)?;
+        let closing = item_end(tokens, one.pos)?;
+        end = Cursor {
+            pos: closing.pos,
+            ..one
+        };
+        n += 1;
+        if closing.number == 1 {
+            return Ok(Cursor {
+                at: list_end(store, end.at, n),
+                ..end
+            });
         }
     }
 }
@@ -419,28 +364,21 @@ fn table(
 fn item(
     tokens: &[u64],
     store: &mut [u64],
-    queue: &mut Queue,
+    queue: &mut Waiting,
     depth: usize,
-    pos: usize,
-    at: usize,
-    waiting: usize,
-) -> Step
-    requires { Ready (length tokens.now) (length store.old) (length queue.old) pos at waiting }
-    ensures { Reading records (table_item (at_depth depth)) tokens.now pos pos 8 at waiting store.old queue.old store.new queue.new result }
+    cursor: Cursor,
+) -> Result<Cursor, Halt>
+    requires { Ready (length tokens.now) (length store.old) cursor.pos cursor.at }
+    ensures { Reading records (table_item (at_depth depth)) tokens.now cursor.pos cursor.pos 8 cursor.at store.old queue.old store.new queue.new result }
 {
-    let f = key(tokens, store, queue, depth, pos, at, waiting);
-    let Step::Done(p1, a1, w1) = f else {
-        return f;
-    };
-    let s = expect(tokens, kind::OP_ASSIGN, number::MISSING_ASSIGN, p1, a1, w1);
-    let Step::Done(p2, _, _) = s else {
-        return s;
-    };
-    let r = binop(tokens, store, queue, depth, PRECEDENCE_START, p2, a1, w1);
-    let Step::Done(p3, a3, w3) = r else {
-        return r;
-    };
-    Step::Done(p3, emit(store, a3, word::TABLE_ITEM, 0), w3)
+    let field = key(tokens, store, queue, depth, cursor)?;
+    let pos = expect(tokens, kind::OP_ASSIGN, number::MISSING_ASSIGN, field.pos)?;
+    let start = Cursor { pos, ..field };
+    let value = binop(tokens, store, queue, depth, PRECEDENCE_START, start)?;
+    Ok(Cursor {
+        at: emit(store, value.at, word::TABLE_ITEM, 0),
+        ..value
+    })
 }
 
 // `parse_table_field`.
@@ -448,28 +386,26 @@ fn item(
 fn key(
     tokens: &[u64],
     store: &mut [u64],
-    queue: &mut Queue,
+    queue: &mut Waiting,
     depth: usize,
-    pos: usize,
-    at: usize,
-    waiting: usize,
-) -> Step
-    requires { Ready (length tokens.now) (length store.old) (length queue.old) pos at waiting }
-    ensures { Reading records (table_field (at_depth depth)) tokens.now pos pos 8 at waiting store.old queue.old store.new queue.new result }
+    cursor: Cursor,
+) -> Result<Cursor, Halt>
+    requires { Ready (length tokens.now) (length store.old) cursor.pos cursor.at }
+    ensures { Reading records (table_field (at_depth depth)) tokens.now cursor.pos cursor.pos 8 cursor.at store.old queue.old store.new queue.new result }
 {
-    match look(tokens, pos, waiting) {
-        Seen::Token(kind, _, value) => {
-            if kind != kind::OPEN_SQUARE {
-                return named_field(tokens, store, kind, value, pos + 2, at, waiting);
-            }
-            let r = index(tokens, store, queue, depth, pos + 2, at, waiting);
-            let Step::Done(p, a, w) = r else {
-                return r;
-            };
-            Step::Done(p, emit(store, a, word::FIELD_INDEX, 0), w)
-        }
-        Seen::Not(s) => s,
+    let token = look(tokens, cursor.pos)?;
+    let next = Cursor {
+        pos: cursor.pos + 2,
+        ..cursor
+    };
+    if token.kind != kind::OPEN_SQUARE {
+        return named_field(tokens, store, token.kind, token.value, next);
     }
+    let place = index(tokens, store, queue, depth, next)?;
+    Ok(Cursor {
+        at: emit(store, place.at, word::FIELD_INDEX, 0),
+        ..place
+    })
 }
 
 // `parse_binop_expr_levels`, by climbing: one loop takes the operators of every level up to this one, and reads the right side of each at the level below its own.
@@ -477,48 +413,36 @@ fn key(
 fn binop(
     tokens: &[u64],
     store: &mut [u64],
-    queue: &mut Queue,
+    queue: &mut Waiting,
     depth: usize,
     level: u64,
-    pos: usize,
-    at: usize,
-    waiting: usize,
-) -> Step
-    requires { Ready (length tokens.now) (length store.old) (length queue.old) pos at waiting × (level ≤ level_count) }
-    ensures { Reading records (binop_expr (at_depth depth) level) tokens.now pos (pos + 2) 20 at waiting store.old queue.old store.new queue.new result }
+    cursor: Cursor,
+) -> Result<Cursor, Halt>
+    requires { Ready (length tokens.now) (length store.old) cursor.pos cursor.at × (level ≤ level_count) }
+    ensures { Reading records (binop_expr (at_depth depth) level) tokens.now cursor.pos (cursor.pos + 2) 20 cursor.at store.old queue.old store.new queue.new result }
 {
     if level == PRECEDENCE_END {
-        return unop(tokens, store, queue, depth, pos, at, waiting);
+        return unop(tokens, store, queue, depth, cursor);
     }
-    let first = unop(tokens, store, queue, depth, pos, at, waiting);
-    let Step::Done(p0, a0, w0) = first else {
-        return again(first);
-    };
-    let mut p = p0;
-    let mut a = a0;
-    let mut w = w0;
+    let mut left = unop(tokens, store, queue, depth, cursor)?;
     loop {
-        match look(tokens, p, w) {
-            Seen::Token(kind, _, _) => {
-                let l = op_level(kind);
-                if l == 0 {
-                    return Step::Done(p, a, w);
-                }
-                if level < l {
-                    return Step::Done(p, a, w);
-                }
-                let r = binop(tokens, store, queue, depth, l - 1, p + 2, a, w);
-                match r {
-                    Step::Done(p2, a2, w2) => {
-                        a = emit(store, a2, word::BINARY_OP, op_number(kind));
-                        p = p2;
-                        w = w2;
-                    }
-                    _ => return again(r),
-                }
-            }
-            Seen::Not(s) => return s,
+        let token = look(tokens, left.pos)?;
+        let l = op_level(token.kind);
+        if l == 0 {
+            return Ok(left);
         }
+        if level < l {
+            return Ok(left);
+        }
+        let start = Cursor {
+            pos: left.pos + 2,
+            ..left
+        };
+        let right = binop(tokens, store, queue, depth, l - 1, start)?;
+        left = Cursor {
+            at: emit(store, right.at, word::BINARY_OP, op_number(token.kind)),
+            ..right
+        };
     }
 }
 
@@ -527,37 +451,18 @@ fn binop(
 fn tuple(
     tokens: &[u64],
     store: &mut [u64],
-    queue: &mut Queue,
+    queue: &mut Waiting,
     depth: usize,
-    pos: usize,
-    at: usize,
-    waiting: usize,
-) -> Step
-    requires { Ready (length tokens.now) (length store.old) (length queue.old) pos at waiting }
-    ensures { Reading records (tuple_expr (at_depth depth)) tokens.now pos (pos + 2) 16 at waiting store.old queue.old store.new queue.new result }
+    cursor: Cursor,
+) -> Result<Cursor, Halt>
+    requires { Ready (length tokens.now) (length store.old) cursor.pos cursor.at }
+    ensures { Reading records (tuple_expr (at_depth depth)) tokens.now cursor.pos (cursor.pos + 2) 16 cursor.at store.old queue.old store.new queue.new result }
 {
-    let r = binop(
-        tokens,
-        store,
-        queue,
-        depth,
-        PRECEDENCE_START,
-        pos,
-        at,
-        waiting,
-    );
-    let Step::Done(p, a, w) = r else {
-        return again(r);
-    };
-    match look(tokens, p, w) {
-        Seen::Token(kind, _, _) => {
-            if kind == kind::COMMA {
-                return tail(tokens, store, queue, depth, p, a, w);
-            }
-            Step::Done(p, a, w)
-        }
-        Seen::Not(s) => s,
+    let first = binop(tokens, store, queue, depth, PRECEDENCE_START, cursor)?;
+    if look(tokens, first.pos)?.kind == kind::COMMA {
+        return tail(tokens, store, queue, depth, first);
     }
+    Ok(first)
 }
 
 // The members of a tuple, after the first; a last comma counts only before `CloseParen`.
@@ -565,44 +470,34 @@ fn tuple(
 fn tail(
     tokens: &[u64],
     store: &mut [u64],
-    queue: &mut Queue,
+    queue: &mut Waiting,
     depth: usize,
-    pos: usize,
-    at: usize,
-    waiting: usize,
-) -> Step
-    requires { Ready (length tokens.now) (length store.old) (length queue.old) pos at waiting × Lent (length tokens.now) (length store.old) pos at }
-    ensures { Reading tuple_words (λ q ts. tail_def (at_depth depth) (length ts) none q ts) tokens.now pos pos 4 at waiting store.old queue.old store.new queue.new result }
+    cursor: Cursor,
+) -> Result<Cursor, Halt>
+    requires { Ready (length tokens.now) (length store.old) cursor.pos cursor.at × Lent (length tokens.now) (length store.old) cursor.pos cursor.at }
+    ensures { Reading tuple_words (λ q ts. tail_def (at_depth depth) (length ts) none q ts) tokens.now cursor.pos cursor.pos 4 cursor.at store.old queue.old store.new queue.new result }
 {
-    let mut p = pos;
-    let mut a = at;
-    let mut w = waiting;
+    let mut end = cursor;
     let mut n: u64 = 1;
     loop {
-        match look(tokens, p, w) {
-            Seen::Token(kind, _, _) => {
-                if kind != kind::COMMA {
-                    return Step::Done(p, tuple_end(store, a, n), w);
-                }
-                match look(tokens, p + 2, w) {
-                    Seen::Token(next, _, _) => {
-                        if next == kind::CLOSE_PAREN {
-                            return Step::Done(p + 2, tuple_end(store, a, n), w);
-                        }
-                        let r = binop(tokens, store, queue, depth, PRECEDENCE_START, p + 2, a, w);
-                        let Step::Done(p1, a1, w1) = r else {
-                            return r;
-                        };
-                        p = p1;
-                        a = a1;
-                        w = w1;
-                        n += 1;
-                    }
-                    Seen::Not(s) => return s,
-                }
-            }
-            Seen::Not(s) => return s,
+        if look(tokens, end.pos)?.kind != kind::COMMA {
+            return Ok(Cursor {
+                at: tuple_end(store, end.at, n),
+                ..end
+            });
         }
+        let next = Cursor {
+            pos: end.pos + 2,
+            ..end
+        };
+        if look(tokens, next.pos)?.kind == kind::CLOSE_PAREN {
+            return Ok(Cursor {
+                at: tuple_end(store, end.at, n),
+                ..next
+            });
+        }
+        end = binop(tokens, store, queue, depth, PRECEDENCE_START, next)?;
+        n += 1;
     }
 }
 
@@ -611,46 +506,34 @@ fn tail(
 fn expr(
     tokens: &[u64],
     store: &mut [u64],
-    queue: &mut Queue,
+    queue: &mut Waiting,
     depth: usize,
-    pos: usize,
-    at: usize,
-    waiting: usize,
-) -> Step
-    requires { Ready (length tokens.now) (length store.old) (length queue.old) pos at waiting }
-    ensures { Reading records (expr_def (at_depth depth)) tokens.now pos (pos + 2) 16 at waiting store.old queue.old store.new queue.new result }
+    cursor: Cursor,
+) -> Result<Cursor, Halt>
+    requires { Ready (length tokens.now) (length store.old) cursor.pos cursor.at }
+    ensures { Reading records (expr_def (at_depth depth)) tokens.now cursor.pos (cursor.pos + 2) 16 cursor.at store.old queue.old store.new queue.new result }
 {
-    match assign_keyword(tokens, pos, waiting) {
-        Found::At(p, m) => {
-            let l = tuple(tokens, store, queue, depth, p, at, waiting);
-            let Step::Done(p1, a1, w1) = l else {
-                return again(l);
-            };
-            match look(tokens, p1, w1) {
-                Seen::Token(kind, _, _) => {
-                    let code = assign_code(kind);
-                    if code == 0 {
-                        return unassigned(m, p1, a1, w1);
-                    }
-                    let t = expect_pattern(store, at, number::CANNOT_ASSIGN, p1 + 2, a1, w1);
-                    let Step::Done(p2, a2, _) = t else {
-                        return again(t);
-                    };
-                    let r = rhs(tokens, store, queue, depth, p2, a2, w1);
-                    let Step::Done(p3, a3, w3) = r else {
-                        return again(r);
-                    };
-                    Step::Done(
-                        p3,
-                        emit(store, a3, word::ASSIGNMENT, action(m) + 4 * (code - 1)),
-                        w3,
-                    )
-                }
-                Seen::Not(s) => s,
-            }
-        }
-        Found::Not(s) => s,
+    let keyword = assign_keyword(tokens, cursor.pos)?;
+    let start = Cursor {
+        pos: keyword.pos,
+        ..cursor
+    };
+    let left = tuple(tokens, store, queue, depth, start)?;
+    let code = assign_code(look(tokens, left.pos)?.kind);
+    if code == 0 {
+        return unassigned(keyword.number, left);
     }
+    let next = Cursor {
+        pos: left.pos + 2,
+        ..left
+    };
+    let target = expect_pattern(store, cursor.at, number::CANNOT_ASSIGN, next)?;
+    let right = rhs(tokens, store, queue, depth, target)?;
+    let value = action(keyword.number) + 4 * (code - 1);
+    Ok(Cursor {
+        at: emit(store, right.at, word::ASSIGNMENT, value),
+        ..right
+    })
 }
 
 // The right side of an assignment.
@@ -658,19 +541,17 @@ fn expr(
 fn rhs(
     tokens: &[u64],
     store: &mut [u64],
-    queue: &mut Queue,
+    queue: &mut Waiting,
     depth: usize,
-    pos: usize,
-    at: usize,
-    waiting: usize,
-) -> Step
-    requires { Ready (length tokens.now) (length store.old) (length queue.old) pos at waiting }
-    ensures { Reading records (at_depth depth).right tokens.now pos (pos + 2) 16 at waiting store.old queue.old store.new queue.new result }
+    cursor: Cursor,
+) -> Result<Cursor, Halt>
+    requires { Ready (length tokens.now) (length store.old) cursor.pos cursor.at }
+    ensures { Reading records (at_depth depth).right tokens.now cursor.pos (cursor.pos + 2) 16 cursor.at store.old queue.old store.new queue.new result }
 {
     if depth == 0 {
-        return Step::Stop(limit::TOO_DEEP);
+        return Err(Halt::Stop(limit::TOO_DEEP));
     }
-    expr(tokens, store, queue, depth - 1, pos, at, waiting)
+    expr(tokens, store, queue, depth - 1, cursor)
 }
 
 // A list up to `End`, and one token, unseen: behind a control that was not last it may be any.
@@ -678,17 +559,15 @@ fn rhs(
 fn body(
     tokens: &[u64],
     store: &mut [u64],
-    queue: &mut Queue,
+    queue: &mut Waiting,
     depth: usize,
-    pos: usize,
-    at: usize,
-    waiting: usize,
-) -> Listed
-    requires { Ready (length tokens.now) (length store.old) (length queue.old) pos at waiting }
-    ensures { Lists (body_def (at_depth depth) (waiting_errors waiting queue.old) (drop pos tokens.now)) tokens.now pos 24 at waiting store.old queue.old store.new queue.new result }
+    cursor: Cursor,
+) -> Result<Listed, Halt>
+    requires { Ready (length tokens.now) (length store.old) cursor.pos cursor.at }
+    ensures { Lists (body_def (at_depth depth) queue.old (drop cursor.pos tokens.now)) tokens.now cursor.pos 24 cursor.at store.old queue.old store.new queue.new result }
 {
-    let l = list(tokens, store, queue, depth, UNTIL_END, pos, at, waiting);
-    past(tokens, l)
+    let statements = list(tokens, store, queue, depth, UNTIL_END, cursor)?;
+    past(tokens, statements)
 }
 
 // `parse_block_expr`, behind `begin`, with a label, 0 or 1 + its name.
@@ -696,18 +575,16 @@ fn body(
 fn block(
     tokens: &[u64],
     store: &mut [u64],
-    queue: &mut Queue,
+    queue: &mut Waiting,
     depth: usize,
     label: u64,
-    pos: usize,
-    at: usize,
-    waiting: usize,
-) -> Step
-    requires { Ready (length tokens.now) (length store.old) (length queue.old) pos at waiting }
-    ensures { Reading records (block_expr (at_depth depth) label) tokens.now pos pos 8 at waiting store.old queue.old store.new queue.new result }
+    cursor: Cursor,
+) -> Result<Cursor, Halt>
+    requires { Ready (length tokens.now) (length store.old) cursor.pos cursor.at }
+    ensures { Reading records (block_expr (at_depth depth) label) tokens.now cursor.pos cursor.pos 8 cursor.at store.old queue.old store.new queue.new result }
 {
-    let b = body(tokens, store, queue, depth, pos, at, waiting);
-    block_under(store, b, word::BLOCK, label)
+    let statements = body(tokens, store, queue, depth, cursor)?;
+    Ok(block_under(store, statements, word::BLOCK, label))
 }
 
 // `parse_expr_label`, behind the label.
@@ -715,29 +592,25 @@ fn block(
 fn begin(
     tokens: &[u64],
     store: &mut [u64],
-    queue: &mut Queue,
+    queue: &mut Waiting,
     depth: usize,
     label: u64,
-    pos: usize,
-    at: usize,
-    waiting: usize,
-) -> Step
-    requires { Ready (length tokens.now) (length store.old) (length queue.old) pos at waiting }
-    ensures { Reading records (expr_label (at_depth depth) label) tokens.now pos pos 8 at waiting store.old queue.old store.new queue.new result }
+    cursor: Cursor,
+) -> Result<Cursor, Halt>
+    requires { Ready (length tokens.now) (length store.old) cursor.pos cursor.at }
+    ensures { Reading records (expr_label (at_depth depth) label) tokens.now cursor.pos cursor.pos 8 cursor.at store.old queue.old store.new queue.new result }
 {
-    match look(tokens, pos, waiting) {
-        Seen::Token(kind, _, _) => {
-            if kind == kind::BEGIN {
-                return block(tokens, store, queue, depth, label, pos + 2, at, waiting);
-            }
-            Step::Fail(Failure {
-                error: number::LABEL_ALONE,
-                pos,
-                waiting,
-            })
-        }
-        Seen::Not(s) => s,
+    if look(tokens, cursor.pos)?.kind != kind::BEGIN {
+        return Err(Halt::Fail(Failure {
+            error: number::LABEL_ALONE,
+            pos: cursor.pos,
+        }));
     }
+    let next = Cursor {
+        pos: cursor.pos + 2,
+        ..cursor
+    };
+    block(tokens, store, queue, depth, label, next)
 }
 
 // `parse_if_expr`, behind `if`. Any token but `End` and `Else` behind a branch acts as `Elif`.
@@ -745,40 +618,36 @@ fn begin(
 fn cond(
     tokens: &[u64],
     store: &mut [u64],
-    queue: &mut Queue,
+    queue: &mut Waiting,
     depth: usize,
-    pos: usize,
-    at: usize,
-    waiting: usize,
-) -> Step
-    requires { Ready (length tokens.now) (length store.old) (length queue.old) pos at waiting }
-    ensures { Reading records (if_expr_def (at_depth depth)) tokens.now pos pos 8 at waiting store.old queue.old store.new queue.new result }
+    cursor: Cursor,
+) -> Result<Cursor, Halt>
+    requires { Ready (length tokens.now) (length store.old) cursor.pos cursor.at }
+    ensures { Reading records (if_expr_def (at_depth depth)) tokens.now cursor.pos cursor.pos 8 cursor.at store.old queue.old store.new queue.new result }
 {
-    let mut p = pos;
-    let mut a = at;
-    let mut w = waiting;
+    let mut end = cursor;
     let mut n: u64 = 0;
     loop {
-        let r = arm(tokens, store, queue, depth, p, a, w);
-        let Step::Done(p1, a1, w1) = r else {
-            return r;
+        let branch = arm(tokens, store, queue, depth, end)?;
+        let token = look(tokens, branch.pos)?;
+        end = Cursor {
+            pos: branch.pos + 2,
+            ..branch
         };
-        match look(tokens, p1, w1) {
-            Seen::Token(kind, _, _) => match kind {
-                kind::END => return Step::Done(p1 + 2, if_end(store, a1, n + 1), w1),
-                kind::ELSE => {
-                    let b = list_end(store, a1, n + 1);
-                    let e = body(tokens, store, queue, depth, p1 + 2, b, w1);
-                    return block_under(store, e, word::IF_EXPR, 0);
-                }
-                _ => {
-                    p = p1 + 2;
-                    a = a1;
-                    w = w1;
-                    n += 1;
-                }
-            },
-            Seen::Not(s) => return s,
+        n += 1;
+        match token.kind {
+            kind::END => {
+                return Ok(Cursor {
+                    at: if_end(store, end.at, n),
+                    ..end
+                });
+            }
+            kind::ELSE => {
+                let at = list_end(store, end.at, n);
+                let otherwise = body(tokens, store, queue, depth, Cursor { at, ..end })?;
+                return Ok(block_under(store, otherwise, word::IF_EXPR, 0));
+            }
+            _ => {}
         }
     }
 }
@@ -788,25 +657,18 @@ fn cond(
 fn arm(
     tokens: &[u64],
     store: &mut [u64],
-    queue: &mut Queue,
+    queue: &mut Waiting,
     depth: usize,
-    pos: usize,
-    at: usize,
-    waiting: usize,
-) -> Step
-    requires { Ready (length tokens.now) (length store.old) (length queue.old) pos at waiting }
-    ensures { Reading records (arm_def (at_depth depth)) tokens.now pos pos 8 at waiting store.old queue.old store.new queue.new result }
+    cursor: Cursor,
+) -> Result<Cursor, Halt>
+    requires { Ready (length tokens.now) (length store.old) cursor.pos cursor.at }
+    ensures { Reading records (arm_def (at_depth depth)) tokens.now cursor.pos cursor.pos 8 cursor.at store.old queue.old store.new queue.new result }
 {
-    let r = expr(tokens, store, queue, depth, pos, at, waiting);
-    let Step::Done(p1, a1, w1) = r else {
-        return r;
-    };
-    let s = expect(tokens, kind::THEN, number::MISSING_THEN, p1, a1, w1);
-    let Step::Done(p2, _, _) = s else {
-        return s;
-    };
-    let l = list(tokens, store, queue, depth, UNTIL_BRANCH, p2, a1, w1);
-    block_under(store, l, word::CONDITIONAL_BRANCH, 0)
+    let condition = expr(tokens, store, queue, depth, cursor)?;
+    let pos = expect(tokens, kind::THEN, number::MISSING_THEN, condition.pos)?;
+    let start = Cursor { pos, ..condition };
+    let statements = list(tokens, store, queue, depth, UNTIL_BRANCH, start)?;
+    Ok(block_under(store, statements, word::CONDITIONAL_BRANCH, 0))
 }
 
 // `parse_function_decl_expr`, behind `fun`: with a target it is an assignment, as after `let`.
@@ -814,33 +676,24 @@ fn arm(
 fn fun(
     tokens: &[u64],
     store: &mut [u64],
-    queue: &mut Queue,
+    queue: &mut Waiting,
     depth: usize,
-    pos: usize,
-    at: usize,
-    waiting: usize,
-) -> Step
-    requires { Ready (length tokens.now) (length store.old) (length queue.old) pos at waiting }
-    ensures { Reading records (function_decl_expr (at_depth depth)) tokens.now pos pos 8 at waiting store.old queue.old store.new queue.new result }
+    cursor: Cursor,
+) -> Result<Cursor, Halt>
+    requires { Ready (length tokens.now) (length store.old) cursor.pos cursor.at }
+    ensures { Reading records (function_decl_expr (at_depth depth)) tokens.now cursor.pos cursor.pos 8 cursor.at store.old queue.old store.new queue.new result }
 {
-    match look(tokens, pos, waiting) {
-        Seen::Token(kind, _, value) => {
-            if kind == kind::OPEN_PAREN {
-                return def(tokens, store, queue, depth, 0, pos, at, waiting);
-            }
-            let t = dest(tokens, store, queue, depth, pos, at, waiting);
-            let Step::Done(p1, a1, w1) = t else {
-                return t;
-            };
-            let name = target_name(store, a1, value);
-            let r = def(tokens, store, queue, depth, name, p1, a1, w1);
-            let Step::Done(p2, a2, w2) = r else {
-                return r;
-            };
-            Step::Done(p2, emit(store, a2, word::ASSIGNMENT, 2), w2)
-        }
-        Seen::Not(s) => s,
+    let token = look(tokens, cursor.pos)?;
+    if token.kind == kind::OPEN_PAREN {
+        return def(tokens, store, queue, depth, 0, cursor);
     }
+    let target = dest(tokens, store, queue, depth, cursor)?;
+    let name = target_name(store, target.at, token.value);
+    let function = def(tokens, store, queue, depth, name, target)?;
+    Ok(Cursor {
+        at: emit(store, function.at, word::ASSIGNMENT, 2),
+        ..function
+    })
 }
 
 // `parse_function_assignment_target`: no invocation in its path.
@@ -848,24 +701,16 @@ fn fun(
 fn dest(
     tokens: &[u64],
     store: &mut [u64],
-    queue: &mut Queue,
+    queue: &mut Waiting,
     depth: usize,
-    pos: usize,
-    at: usize,
-    waiting: usize,
-) -> Step
-    requires { Ready (length tokens.now) (length store.old) (length queue.old) pos at waiting }
-    ensures { Reading records (function_assignment_target (at_depth depth)) tokens.now pos pos 8 at waiting store.old queue.old store.new queue.new result }
+    cursor: Cursor,
+) -> Result<Cursor, Halt>
+    requires { Ready (length tokens.now) (length store.old) cursor.pos cursor.at }
+    ensures { Reading records (function_assignment_target (at_depth depth)) tokens.now cursor.pos cursor.pos 8 cursor.at store.old queue.old store.new queue.new result }
 {
-    let r = atom(tokens, store, queue, depth, pos, at, waiting);
-    let Step::Done(p1, a1, w1) = r else {
-        return r;
-    };
-    let s = path(tokens, store, queue, depth, false, p1, a1, w1);
-    let Step::Done(p2, a2, w2) = s else {
-        return s;
-    };
-    expect_pattern(store, at, number::FUNCTION_TARGET, p2, a2, w2)
+    let receiver = atom(tokens, store, queue, depth, cursor)?;
+    let target = path(tokens, store, queue, depth, false, receiver)?;
+    expect_pattern(store, cursor.at, number::FUNCTION_TARGET, target)
 }
 
 // `parse_function_def`; name is what the signature has for a name, 0 or 1 + it.
@@ -873,37 +718,20 @@ fn dest(
 fn def(
     tokens: &[u64],
     store: &mut [u64],
-    queue: &mut Queue,
+    queue: &mut Waiting,
     depth: usize,
     name: u64,
-    pos: usize,
-    at: usize,
-    waiting: usize,
-) -> Step
-    requires { Ready (length tokens.now) (length store.old) (length queue.old) pos at waiting }
-    ensures { Reading records (function_def (at_depth depth) name) tokens.now pos pos 10 at waiting store.old queue.old store.new queue.new result }
+    cursor: Cursor,
+) -> Result<Cursor, Halt>
+    requires { Ready (length tokens.now) (length store.old) cursor.pos cursor.at }
+    ensures { Reading records (function_def (at_depth depth) name) tokens.now cursor.pos cursor.pos 10 cursor.at store.old queue.old store.new queue.new result }
 {
-    let o = expect(
-        tokens,
-        kind::OPEN_PAREN,
-        number::PARAMS_OPENING,
-        pos,
-        at,
-        waiting,
-    );
-    let Step::Done(p1, _, _) = o else {
-        return o;
-    };
-    let r = sig(tokens, store, queue, depth, p1, at, waiting);
-    let Step::Done(p2, a2, w2) = r else {
-        return r;
-    };
-    let c = signature_end(tokens, store, name, p2, a2, w2);
-    let Step::Done(p3, a3, _) = c else {
-        return c;
-    };
-    let b = body(tokens, store, queue, depth, p3, a3, w2);
-    block_under(store, b, word::FUNCTION_DEF, 0)
+    let pos = expect(tokens, kind::OPEN_PAREN, number::PARAMS_OPENING, cursor.pos)?;
+    let start = Cursor { pos, ..cursor };
+    let parameters = sig(tokens, store, queue, depth, start)?;
+    let signature = signature_end(tokens, store, name, parameters)?;
+    let statements = body(tokens, store, queue, depth, signature)?;
+    Ok(block_under(store, statements, word::FUNCTION_DEF, 0))
 }
 
 // `parse_function_param_list`: the children of the signature.
@@ -911,42 +739,30 @@ fn def(
 fn sig(
     tokens: &[u64],
     store: &mut [u64],
-    queue: &mut Queue,
+    queue: &mut Waiting,
     depth: usize,
-    pos: usize,
-    at: usize,
-    waiting: usize,
-) -> Step
-    requires { Ready (length tokens.now) (length store.old) (length queue.old) pos at waiting × Lent (length tokens.now) (length store.old) pos at }
-    ensures { Reading signature_words (function_param_list (at_depth depth)) tokens.now pos pos 2 at waiting store.old queue.old store.new queue.new result }
+    cursor: Cursor,
+) -> Result<Cursor, Halt>
+    requires { Ready (length tokens.now) (length store.old) cursor.pos cursor.at × Lent (length tokens.now) (length store.old) cursor.pos cursor.at }
+    ensures { Reading signature_words (function_param_list (at_depth depth)) tokens.now cursor.pos cursor.pos 2 cursor.at store.old queue.old store.new queue.new result }
 {
-    let mut p = pos;
-    let mut a = at;
-    let mut w = waiting;
-    let mut required: u64 = 0;
-    let mut default: u64 = 0;
-    let mut variadic: u64 = 0;
+    let mut end = cursor;
+    let mut counts = Counts {
+        required: 0,
+        default: 0,
+        variadic: 0,
+    };
     loop {
-        match look(tokens, p, w) {
-            Seen::Token(kind, _, _) => {
-                if kind == kind::CLOSE_PAREN {
-                    return Step::Done(p, params_end(store, a, required, default, variadic), w);
-                }
-                let one = param(tokens, store, queue, depth, required, default, p, a, w);
-                match joined(tokens, store, one, required, default, variadic, a) {
-                    Joined::To(p2, a2, w2, r2, d2, v2) => {
-                        p = p2;
-                        a = a2;
-                        w = w2;
-                        required = r2;
-                        default = d2;
-                        variadic = v2;
-                    }
-                    Joined::Not(s) => return s,
-                }
-            }
-            Seen::Not(s) => return s,
+        if look(tokens, end.pos)?.kind == kind::CLOSE_PAREN {
+            return Ok(Cursor {
+                at: params_end(store, end.at, counts),
+                ..end
+            });
         }
+        let one = param(tokens, store, queue, depth, counts, end)?;
+        let all = joined(tokens, store, one, counts, end.at)?;
+        end = all.end;
+        counts = all.counts;
     }
 }
 
@@ -955,33 +771,25 @@ fn sig(
 fn param(
     tokens: &[u64],
     store: &mut [u64],
-    queue: &mut Queue,
+    queue: &mut Waiting,
     depth: usize,
-    required: u64,
-    default: u64,
-    pos: usize,
-    at: usize,
-    waiting: usize,
-) -> Parameter
-    requires { Ready (length tokens.now) (length store.old) (length queue.old) pos at waiting × (required ≤ 65536) }
-    ensures { ParamsRead (param_def (at_depth depth) (waiting_errors waiting queue.old) (drop pos tokens.now)) tokens.now pos required default at waiting store.old queue.old store.new queue.new result }
+    counts: Counts,
+    cursor: Cursor,
+) -> Result<Parameter, Halt>
+    requires { Ready (length tokens.now) (length store.old) cursor.pos cursor.at × (counts.required ≤ 65536) }
+    ensures { ParamsRead (param_def (at_depth depth) queue.old (drop cursor.pos tokens.now)) tokens.now cursor.pos counts.required counts.default cursor.at store.old queue.old store.new queue.new result }
 {
-    match param_head(tokens, pos, waiting) {
-        Head::Required(p, v) => Parameter::Required(p, waiting, v),
-        Head::Variadic(p, v) => Parameter::Variadic(p, waiting, v),
-        Head::Default(p, v) => {
-            let b = required_end(store, at, required, default);
-            let r = expr(tokens, store, queue, depth, p, b, waiting);
-            match r {
-                Step::Done(p2, a2, w2) => Parameter::Default(
-                    p2,
-                    emit(store, a2, word::DEFAULT_DEF, v),
-                    w2,
-                ),
-                _ => Parameter::Not(r),
-            }
+    match param_head(tokens, cursor.pos)? {
+        Head::Required(pos, v) => Ok(Parameter::Required(pos, v)),
+        Head::Variadic(pos, v) => Ok(Parameter::Variadic(pos, v)),
+        Head::Default(pos, v) => {
+            let at = required_end(store, cursor.at, counts.required, counts.default);
+            let value = expr(tokens, store, queue, depth, Cursor { pos, at })?;
+            Ok(Parameter::Default(Cursor {
+                at: emit(store, value.at, word::DEFAULT_DEF, v),
+                ..value
+            }))
         }
-        Head::Not(s) => Parameter::Not(s),
     }
 }
 
@@ -990,54 +798,40 @@ fn param(
 pub fn stmt(
     tokens: &[u64],
     store: &mut [u64],
-    queue: &mut Queue,
+    queue: &mut Waiting,
     depth: usize,
-    pos: usize,
-    at: usize,
-    waiting: usize,
-) -> Step
-    requires { Ready (length tokens.now) (length store.old) (length queue.old) pos at waiting }
-    ensures { Reading records (stmt_def (at_depth depth)) tokens.now pos (pos + 2) 14 at waiting store.old queue.old store.new queue.new result }
+    cursor: Cursor,
+) -> Result<Cursor, Halt>
+    requires { Ready (length tokens.now) (length store.old) cursor.pos cursor.at }
+    ensures { Reading records (stmt_def (at_depth depth)) tokens.now cursor.pos (cursor.pos + 2) 14 cursor.at store.old queue.old store.new queue.new result }
 {
-    match look(tokens, pos, waiting) {
-        Seen::Token(kind, _, value) => match kind {
-            kind::LOOP => loops(tokens, store, queue, depth, 0, pos + 2, at, waiting),
-            kind::WHILE => whiles(
-                tokens,
-                store,
-                queue,
-                depth,
-                word::WHILE_LOOP,
-                0,
-                pos + 2,
-                at,
-                waiting,
-            ),
-            kind::FOR => each(tokens, store, queue, depth, 0, pos + 2, at, waiting),
-            kind::LABEL => label(tokens, store, queue, depth, value + 1, pos + 2, at, waiting),
-            kind::ASSERT => {
-                let r = expr(tokens, store, queue, depth, pos + 2, at, waiting);
-                let Step::Done(p, a, w) = r else {
-                    return r;
-                };
-                Step::Done(p, emit(store, a, word::ASSERT, 0), w)
+    let token = look(tokens, cursor.pos)?;
+    let next = Cursor {
+        pos: cursor.pos + 2,
+        ..cursor
+    };
+    match token.kind {
+        kind::LOOP => loops(tokens, store, queue, depth, 0, next),
+        kind::WHILE => whiles(tokens, store, queue, depth, word::WHILE_LOOP, 0, next),
+        kind::FOR => each(tokens, store, queue, depth, 0, next),
+        kind::LABEL => label(tokens, store, queue, depth, token.value + 1, next),
+        kind::ASSERT => {
+            let condition = expr(tokens, store, queue, depth, next)?;
+            Ok(Cursor {
+                at: emit(store, condition.at, word::ASSERT, 0),
+                ..condition
+            })
+        }
+        _ => {
+            if is_control(token.kind) {
+                return Err(Halt::Fail(Failure {
+                    error: not_allowed(token.kind),
+                    pos: next.pos,
+                }));
             }
-            _ => {
-                if is_control(kind) {
-                    return Step::Fail(Failure {
-                        error: not_allowed(kind),
-                        pos: pos + 2,
-                        waiting,
-                    });
-                }
-                let r = expr(tokens, store, queue, depth, pos, at, waiting);
-                let Step::Done(p, a, w) = r else {
-                    return r;
-                };
-                expression_end(store, p, a, w)
-            }
-        },
-        Seen::Not(s) => s,
+            let expression = expr(tokens, store, queue, depth, cursor)?;
+            expression_end(store, expression)
+        }
     }
 }
 
@@ -1046,38 +840,27 @@ pub fn stmt(
 fn label(
     tokens: &[u64],
     store: &mut [u64],
-    queue: &mut Queue,
+    queue: &mut Waiting,
     depth: usize,
     label: u64,
-    pos: usize,
-    at: usize,
-    waiting: usize,
-) -> Step
-    requires { Ready (length tokens.now) (length store.old) (length queue.old) pos at waiting }
-    ensures { Reading records (stmt_label (at_depth depth) label) tokens.now pos pos 8 at waiting store.old queue.old store.new queue.new result }
+    cursor: Cursor,
+) -> Result<Cursor, Halt>
+    requires { Ready (length tokens.now) (length store.old) cursor.pos cursor.at }
+    ensures { Reading records (stmt_label (at_depth depth) label) tokens.now cursor.pos cursor.pos 8 cursor.at store.old queue.old store.new queue.new result }
 {
-    match look(tokens, pos, waiting) {
-        Seen::Token(kind, _, _) => match kind {
-            kind::LOOP => loops(tokens, store, queue, depth, label, pos + 2, at, waiting),
-            kind::WHILE => whiles(
-                tokens,
-                store,
-                queue,
-                depth,
-                word::WHILE_LOOP,
-                label,
-                pos + 2,
-                at,
-                waiting,
-            ),
-            kind::FOR => each(tokens, store, queue, depth, label, pos + 2, at, waiting),
-            _ => Step::Fail(Failure {
-                error: number::LABEL_ALONE,
-                pos,
-                waiting,
-            }),
-        },
-        Seen::Not(s) => s,
+    let token = look(tokens, cursor.pos)?;
+    let next = Cursor {
+        pos: cursor.pos + 2,
+        ..cursor
+    };
+    match token.kind {
+        kind::LOOP => loops(tokens, store, queue, depth, label, next),
+        kind::WHILE => whiles(tokens, store, queue, depth, word::WHILE_LOOP, label, next),
+        kind::FOR => each(tokens, store, queue, depth, label, next),
+        _ => Err(Halt::Fail(Failure {
+            error: number::LABEL_ALONE,
+            pos: cursor.pos,
+        })),
     }
 }
 
@@ -1086,18 +869,16 @@ fn label(
 fn loops(
     tokens: &[u64],
     store: &mut [u64],
-    queue: &mut Queue,
+    queue: &mut Waiting,
     depth: usize,
     label: u64,
-    pos: usize,
-    at: usize,
-    waiting: usize,
-) -> Step
-    requires { Ready (length tokens.now) (length store.old) (length queue.old) pos at waiting }
-    ensures { Reading records (loop_def (at_depth depth) label) tokens.now pos pos 8 at waiting store.old queue.old store.new queue.new result }
+    cursor: Cursor,
+) -> Result<Cursor, Halt>
+    requires { Ready (length tokens.now) (length store.old) cursor.pos cursor.at }
+    ensures { Reading records (loop_def (at_depth depth) label) tokens.now cursor.pos cursor.pos 8 cursor.at store.old queue.old store.new queue.new result }
 {
-    let b = body(tokens, store, queue, depth, pos, at, waiting);
-    list_under(store, b, word::LOOP, label)
+    let statements = body(tokens, store, queue, depth, cursor)?;
+    Ok(list_under(store, statements, word::LOOP, label))
 }
 
 // `parse_while_loop`, behind `while`; and the same behind `in` of a for loop, whose record has another word.
@@ -1105,27 +886,19 @@ fn loops(
 fn whiles(
     tokens: &[u64],
     store: &mut [u64],
-    queue: &mut Queue,
+    queue: &mut Waiting,
     depth: usize,
     word: u64,
     label: u64,
-    pos: usize,
-    at: usize,
-    waiting: usize,
-) -> Step
-    requires { Ready (length tokens.now) (length store.old) (length queue.old) pos at waiting }
-    ensures { Reading (whiles_words word label) (whiles_def (at_depth depth)) tokens.now pos pos 8 at waiting store.old queue.old store.new queue.new result }
+    cursor: Cursor,
+) -> Result<Cursor, Halt>
+    requires { Ready (length tokens.now) (length store.old) cursor.pos cursor.at }
+    ensures { Reading (whiles_words word label) (whiles_def (at_depth depth)) tokens.now cursor.pos cursor.pos 8 cursor.at store.old queue.old store.new queue.new result }
 {
-    let r = expr(tokens, store, queue, depth, pos, at, waiting);
-    let Step::Done(p1, a1, w1) = r else {
-        return r;
-    };
-    let s = expect(tokens, kind::DO, number::MISSING_DO, p1, a1, w1);
-    let Step::Done(p2, _, _) = s else {
-        return s;
-    };
-    let b = body(tokens, store, queue, depth, p2, a1, w1);
-    list_under(store, b, word, label)
+    let over = expr(tokens, store, queue, depth, cursor)?;
+    let pos = expect(tokens, kind::DO, number::MISSING_DO, over.pos)?;
+    let statements = body(tokens, store, queue, depth, Cursor { pos, ..over })?;
+    Ok(list_under(store, statements, word, label))
 }
 
 // `parse_for_loop`, behind `for`.
@@ -1133,35 +906,18 @@ fn whiles(
 fn each(
     tokens: &[u64],
     store: &mut [u64],
-    queue: &mut Queue,
+    queue: &mut Waiting,
     depth: usize,
     label: u64,
-    pos: usize,
-    at: usize,
-    waiting: usize,
-) -> Step
-    requires { Ready (length tokens.now) (length store.old) (length queue.old) pos at waiting }
-    ensures { Reading records (for_loop (at_depth depth) label) tokens.now pos pos 8 at waiting store.old queue.old store.new queue.new result }
+    cursor: Cursor,
+) -> Result<Cursor, Halt>
+    requires { Ready (length tokens.now) (length store.old) cursor.pos cursor.at }
+    ensures { Reading records (for_loop (at_depth depth) label) tokens.now cursor.pos cursor.pos 8 cursor.at store.old queue.old store.new queue.new result }
 {
-    let r = lhs(tokens, store, queue, depth, pos, at, waiting);
-    let Step::Done(p1, a1, w1) = r else {
-        return r;
-    };
-    let s = expect(tokens, kind::IN, number::MISSING_DO, p1, a1, w1);
-    let Step::Done(p2, _, _) = s else {
-        return s;
-    };
-    whiles(
-        tokens,
-        store,
-        queue,
-        depth,
-        word::FOR_LOOP,
-        label,
-        p2,
-        a1,
-        w1,
-    )
+    let left = lhs(tokens, store, queue, depth, cursor)?;
+    let pos = expect(tokens, kind::IN, number::MISSING_DO, left.pos)?;
+    let start = Cursor { pos, ..left };
+    whiles(tokens, store, queue, depth, word::FOR_LOOP, label, start)
 }
 
 // `parse_lvalue_list`.
@@ -1169,29 +925,24 @@ fn each(
 fn lhs(
     tokens: &[u64],
     store: &mut [u64],
-    queue: &mut Queue,
+    queue: &mut Waiting,
     depth: usize,
-    pos: usize,
-    at: usize,
-    waiting: usize,
-) -> Step
-    requires { Ready (length tokens.now) (length store.old) (length queue.old) pos at waiting }
-    ensures { Reading records (lvalue_list (at_depth depth)) tokens.now pos pos 8 at waiting store.old queue.old store.new queue.new result }
+    cursor: Cursor,
+) -> Result<Cursor, Halt>
+    requires { Ready (length tokens.now) (length store.old) cursor.pos cursor.at }
+    ensures { Reading records (lvalue_list (at_depth depth)) tokens.now cursor.pos cursor.pos 8 cursor.at store.old queue.old store.new queue.new result }
 {
-    match assign_keyword(tokens, pos, waiting) {
-        Found::At(p, m) => {
-            let r = tuple(tokens, store, queue, depth, p, at, waiting);
-            let Step::Done(p1, a1, w1) = r else {
-                return r;
-            };
-            let t = expect_pattern(store, at, number::CANNOT_ASSIGN, p1, a1, w1);
-            let Step::Done(p2, a2, _) = t else {
-                return t;
-            };
-            Step::Done(p2, modified(store, a2, m), w1)
-        }
-        Found::Not(s) => s,
-    }
+    let keyword = assign_keyword(tokens, cursor.pos)?;
+    let start = Cursor {
+        pos: keyword.pos,
+        ..cursor
+    };
+    let left = tuple(tokens, store, queue, depth, start)?;
+    let target = expect_pattern(store, cursor.at, number::CANNOT_ASSIGN, left)?;
+    Ok(Cursor {
+        at: modified(store, target.at, keyword.number),
+        ..target
+    })
 }
 
 // The value of a break or return, or `Absent`.
@@ -1199,24 +950,20 @@ fn lhs(
 fn val(
     tokens: &[u64],
     store: &mut [u64],
-    queue: &mut Queue,
+    queue: &mut Waiting,
     depth: usize,
-    pos: usize,
-    at: usize,
-    waiting: usize,
-) -> Step
-    requires { Ready (length tokens.now) (length store.old) (length queue.old) pos at waiting × Lent (length tokens.now) (length store.old) pos at }
-    ensures { Reading records (control_value (at_depth depth)) tokens.now pos pos 6 at waiting store.old queue.old store.new queue.new result }
+    cursor: Cursor,
+) -> Result<Cursor, Halt>
+    requires { Ready (length tokens.now) (length store.old) cursor.pos cursor.at × Lent (length tokens.now) (length store.old) cursor.pos cursor.at }
+    ensures { Reading records (control_value (at_depth depth)) tokens.now cursor.pos cursor.pos 6 cursor.at store.old queue.old store.new queue.new result }
 {
-    match look(tokens, pos, waiting) {
-        Seen::Token(kind, _, _) => {
-            if ends_control(kind) {
-                return Step::Done(pos, emit(store, at, word::ABSENT, 0), waiting);
-            }
-            expr(tokens, store, queue, depth, pos, at, waiting)
-        }
-        Seen::Not(s) => s,
+    if ends_control(look(tokens, cursor.pos)?.kind) {
+        return Ok(Cursor {
+            at: emit(store, cursor.at, word::ABSENT, 0),
+            ..cursor
+        });
     }
+    expr(tokens, store, queue, depth, cursor)
 }
 
 // `try_parse_control_flow`, behind its token, of the kind k.
@@ -1224,36 +971,37 @@ fn val(
 fn jump(
     tokens: &[u64],
     store: &mut [u64],
-    queue: &mut Queue,
+    queue: &mut Waiting,
     depth: usize,
     k: u64,
-    pos: usize,
-    at: usize,
-    waiting: usize,
-) -> Step
-    requires { Ready (length tokens.now) (length store.old) (length queue.old) pos at waiting × Lent (length tokens.now) (length store.old) pos at × (is_control_def k ≡ true) }
-    ensures { Reading records (control_flow (at_depth depth) k) tokens.now pos pos 4 at waiting store.old queue.old store.new queue.new result }
+    cursor: Cursor,
+) -> Result<Cursor, Halt>
+    requires { Ready (length tokens.now) (length store.old) cursor.pos cursor.at × Lent (length tokens.now) (length store.old) cursor.pos cursor.at × (is_control_def k ≡ true) }
+    ensures { Reading records (control_flow (at_depth depth) k) tokens.now cursor.pos cursor.pos 4 cursor.at store.old queue.old store.new queue.new result }
 {
     if k == kind::RETURN {
-        let r = val(tokens, store, queue, depth, pos, at, waiting);
-        let Step::Done(p, a, w) = r else {
-            return r;
-        };
-        return Step::Done(p, emit(store, a, word::RETURN, 0), w);
+        let value = val(tokens, store, queue, depth, cursor)?;
+        return Ok(Cursor {
+            at: emit(store, value.at, word::RETURN, 0),
+            ..value
+        });
     }
-    match try_label(tokens, pos, waiting) {
-        Found::At(p1, l) => {
-            if k == kind::CONTINUE {
-                return Step::Done(p1, emit(store, at, word::CONTINUE, l), waiting);
-            }
-            let r = val(tokens, store, queue, depth, p1, at, waiting);
-            let Step::Done(p, a, w) = r else {
-                return r;
-            };
-            Step::Done(p, emit(store, a, word::BREAK, l), w)
-        }
-        Found::Not(s) => s,
+    let label = try_label(tokens, cursor.pos)?;
+    let start = Cursor {
+        pos: label.pos,
+        ..cursor
+    };
+    if k == kind::CONTINUE {
+        return Ok(Cursor {
+            at: emit(store, start.at, word::CONTINUE, label.number),
+            ..start
+        });
     }
+    let value = val(tokens, store, queue, depth, start)?;
+    Ok(Cursor {
+        at: emit(store, value.at, word::BREAK, label.number),
+        ..value
+    })
 }
 
 // `synchronize_stmt`: an expression that reads is dropped and ends it; one that fails, and a lexer error, are passed over.
@@ -1261,43 +1009,34 @@ fn jump(
 pub fn sync(
     tokens: &[u64],
     store: &mut [u64],
-    queue: &mut Queue,
+    queue: &mut Waiting,
     depth: usize,
     inside: bool,
-    pos: usize,
-    at: usize,
-    waiting: usize,
-) -> Step
-    requires { Ready (length tokens.now) (length store.old) (length queue.old) pos at waiting }
-    ensures { Reading no_words (λ q ts. synchronize (at_depth depth) inside (length ts) q ts) tokens.now pos pos 8 at waiting store.old queue.old store.new queue.new result }
+    cursor: Cursor,
+) -> Result<usize, Halt>
+    requires { Ready (length tokens.now) (length store.old) cursor.pos cursor.at }
+    ensures { Crosses (synchronize (at_depth depth) inside (length (drop cursor.pos tokens.now)) queue.old (drop cursor.pos tokens.now)) tokens.now cursor.pos cursor.at store.old queue.old store.new queue.new result }
 {
-    let mut p = pos;
-    let mut w = waiting;
+    let mut pos = cursor.pos;
     loop {
-        match look(tokens, p, w) {
-            Seen::Token(kind, _, _) => {
-                if halts(inside, kind) {
-                    return Step::Done(p, at, w);
+        match look(tokens, pos) {
+            Ok(token) => {
+                if halts(inside, token.kind) {
+                    return Ok(pos);
                 }
-                let r = expr(tokens, store, queue, depth, p, at, w);
-                match r {
-                    Step::Done(p2, _, w2) => return Step::Done(p2, at, w2),
-                    Step::Fail(f) => {
-                        p = f.pos;
-                        w = f.waiting;
-                    }
-                    Step::Stop(_) => return r,
+                match expr(tokens, store, queue, depth, Cursor { pos, ..cursor }) {
+                    Ok(end) => return Ok(end.pos),
+                    Err(Halt::Fail(failure)) => pos = failure.pos,
+                    Err(Halt::Stop(n)) => return Err(Halt::Stop(n)),
                 }
             }
-            Seen::Not(s) => match s {
-                Step::Fail(f) => {
-                    if f.error == number::END_OF_TOKENS {
-                        return Step::Done(p, at, w);
-                    }
-                    p = f.pos;
+            Err(Halt::Fail(failure)) => {
+                if failure.error == number::END_OF_TOKENS {
+                    return Ok(pos);
                 }
-                _ => return s,
-            },
+                pos = failure.pos;
+            }
+            Err(Halt::Stop(n)) => return Err(Halt::Stop(n)),
         }
     }
 }
@@ -1308,26 +1047,24 @@ pub fn sync(
 fn catch(
     tokens: &[u64],
     store: &mut [u64],
-    queue: &mut Queue,
+    queue: &mut Waiting,
     depth: usize,
     f: Failure,
     at: usize,
-) -> Step
-    requires { Ready (length tokens.now) (length store.old) (length queue.old) f.pos at f.waiting }
-    ensures { Reading no_words (caught_def (at_depth depth) f.error) tokens.now f.pos f.pos 8 at f.waiting store.old queue.old store.new queue.new result }
+) -> Result<usize, Halt>
+    requires { Ready (length tokens.now) (length store.old) f.pos at }
+    ensures { Crosses (caught_def (at_depth depth) f.error queue.old (drop f.pos tokens.now)) tokens.now f.pos at store.old queue.old store.new queue.new result }
 {
     if f.error == number::END_OF_TOKENS {
-        return Step::Fail(f);
+        return Err(Halt::Fail(f));
     }
-    if f.waiting == limit::QUEUE {
-        return Step::Stop(limit::QUEUE_FULL);
+    if queue.is_full() {
+        return Err(Halt::Stop(limit::QUEUE_FULL));
     }
-    let w = push(queue, f.waiting, f.error);
-    let r = sync(tokens, store, queue, depth, true, f.pos, at, w);
-    let Step::Done(p, _, w2) = r else {
-        return r;
-    };
-    synchronized(tokens, queue, p, at, w2)
+    queue.push(f.error);
+    let pos = sync(tokens, store, queue, depth, true, Cursor { pos: f.pos, at })?;
+    synchronized(tokens, queue, pos)?;
+    Ok(pos)
 }
 
 // One place of a statement list, where a token of this kind stands that does not end it, after n statements.
@@ -1335,32 +1072,40 @@ fn catch(
 fn turn(
     tokens: &[u64],
     store: &mut [u64],
-    queue: &mut Queue,
+    queue: &mut Waiting,
     depth: usize,
     end: u64,
     kind: u64,
     n: u64,
-    pos: usize,
-    at: usize,
-    waiting: usize,
-) -> Entry
-    requires { Ready (length tokens.now) (length store.old) (length queue.old) pos at waiting × (pos + 2 ≤ length tokens.now) × (n ≤ 65536) }
-    ensures { Enters (turn_def (at_depth depth) end kind (drop (pos + 2) tokens.now) (waiting_errors waiting queue.old) (drop pos tokens.now)) tokens.now pos n at waiting store.old queue.old store.new queue.new result }
+    cursor: Cursor,
+) -> Result<Entry, Halt>
+    requires { Ready (length tokens.now) (length store.old) cursor.pos cursor.at × (cursor.pos + 2 ≤ length tokens.now) × (n ≤ 65536) }
+    ensures { Enters (turn_def (at_depth depth) end kind (drop (cursor.pos + 2) tokens.now) queue.old (drop cursor.pos tokens.now)) tokens.now cursor.pos n cursor.at store.old queue.old store.new queue.new result }
 {
     if is_control(kind) {
-        let b = list_end(store, at, n);
-        let c = jump(tokens, store, queue, depth, kind, pos + 2, b, waiting);
-        return match c {
-            Step::Done(p, a, w) => closed(control_last(tokens, queue, end, kind, p, a, w)),
-            Step::Fail(f) => resumed(catch(tokens, store, queue, depth, f, at)),
-            Step::Stop(_) => Entry::Not(c),
+        let start = Cursor {
+            pos: cursor.pos + 2,
+            at: list_end(store, cursor.at, n),
+        };
+        return match jump(tokens, store, queue, depth, kind, start) {
+            Ok(next) => {
+                let pos = control_last(tokens, queue, end, kind, next.pos)?;
+                Ok(Entry::Control(Cursor { pos, ..next }))
+            }
+            Err(Halt::Fail(f)) => {
+                let pos = catch(tokens, store, queue, depth, f, cursor.at)?;
+                Ok(Entry::Caught(pos))
+            }
+            Err(Halt::Stop(n)) => Err(Halt::Stop(n)),
         };
     }
-    let r = stmt(tokens, store, queue, depth, pos, at, waiting);
-    match r {
-        Step::Done(p, a, w) => Entry::Stmt(p, a, w),
-        Step::Fail(f) => resumed(catch(tokens, store, queue, depth, f, at)),
-        Step::Stop(_) => Entry::Not(r),
+    match stmt(tokens, store, queue, depth, cursor) {
+        Ok(next) => Ok(Entry::Stmt(next)),
+        Err(Halt::Fail(f)) => {
+            let pos = catch(tokens, store, queue, depth, f, cursor.at)?;
+            Ok(Entry::Caught(pos))
+        }
+        Err(Halt::Stop(n)) => Err(Halt::Stop(n)),
     }
 }
 
@@ -1369,51 +1114,55 @@ fn turn(
 fn list(
     tokens: &[u64],
     store: &mut [u64],
-    queue: &mut Queue,
+    queue: &mut Waiting,
     depth: usize,
     end: u64,
-    pos: usize,
-    at: usize,
-    waiting: usize,
-) -> Listed
-    requires { Ready (length tokens.now) (length store.old) (length queue.old) pos at waiting }
-    ensures { Lists ((at_depth depth).list end (waiting_errors waiting queue.old) (drop pos tokens.now)) tokens.now pos 8 at waiting store.old queue.old store.new queue.new result }
+    cursor: Cursor,
+) -> Result<Listed, Halt>
+    requires { Ready (length tokens.now) (length store.old) cursor.pos cursor.at }
+    ensures { Lists ((at_depth depth).list end queue.old (drop cursor.pos tokens.now)) tokens.now cursor.pos 8 cursor.at store.old queue.old store.new queue.new result }
 {
     if depth == 0 {
-        return Listed::Not(Step::Stop(limit::TOO_DEEP));
+        return Err(Halt::Stop(limit::TOO_DEEP));
     }
-    let mut p = pos;
-    let mut a = at;
-    let mut w = waiting;
-    let mut n: u64 = 0;
-    let mut last = at;
+    let mut suite = Suite {
+        end: cursor,
+        count: 0,
+        last: cursor.at,
+    };
     loop {
-        match look(tokens, p, w) {
-            Seen::Token(kind, _, _) => {
-                if kind == kind::SEMICOLON {
-                    p += 2;
-                    continue;
-                }
-                if ends(end, kind) {
-                    return Listed::Suite(p, a, w, n, last);
-                }
-                match turn(tokens, store, queue, depth - 1, end, kind, n, p, a, w) {
-                    Entry::Stmt(p2, a2, w2) => {
-                        last = mark(store, a, a2);
-                        p = p2;
-                        a = a2;
-                        w = w2;
-                        n += 1;
-                    }
-                    Entry::Control(p2, a2, w2) => return Listed::Control(p2, a2, w2),
-                    Entry::Caught(p2, w2) => {
-                        p = p2;
-                        w = w2;
-                    }
-                    Entry::Not(s) => return Listed::Not(s),
-                }
+        let place = suite.end;
+        let token = look(tokens, place.pos)?;
+        if token.kind == kind::SEMICOLON {
+            suite.end = Cursor {
+                pos: place.pos + 2,
+                ..place
+            };
+            continue;
+        }
+        if ends(end, token.kind) {
+            return Ok(Listed::Suite(suite));
+        }
+        let count = suite.count;
+        match turn(
+            tokens,
+            store,
+            queue,
+            depth - 1,
+            end,
+            token.kind,
+            count,
+            place,
+        )? {
+            Entry::Stmt(next) => {
+                suite = Suite {
+                    end: next,
+                    count: count + 1,
+                    last: mark(store, place.at, next.at),
+                };
             }
-            Seen::Not(s) => return Listed::Not(s),
+            Entry::Control(next) => return Ok(Listed::Control(next)),
+            Entry::Caught(pos) => suite.end = Cursor { pos, ..place },
         }
     }
 }

@@ -1,12 +1,10 @@
 -- A statement at the top level (grammar's Reading/Next.antt), one step each, as the code goes. Assumes nothing.
 use mathlib.Core.Path.{◌≡◌, refl, ◌∙◌}
-use mathlib.Core.Bool.{false}
-use mathlib.Core.Logic.{⊎_elim}
+use mathlib.Core.Bool.{true, false}
+use lib.Dec.{eqb}
 use mathlib.Core.List.{List, [], ◌∷◌, ◌++◌}
 use Prim.Native.Nat.{ℕ, ◌+◌, ◌≤◌}
 use native.Mathlib.Omega.{arith}
-use types.Run.{OneOf}
-use denote.Enum.Declared.{tag_of}
 use lib.ListN.{length, drop}
 use Rattle.tree.specs.Tree.{Tree, records}
 use Rattle.grammar.specs.Reading.Limit.{queue_full, queue_limit}
@@ -14,10 +12,10 @@ use Rattle.grammar.specs.Reading.Result.{Res, ok, fail, stop, either, then, Erro
 use Rattle.grammar.specs.Reading.Stmt.{synchronize, stmt}
 use Rattle.grammar.specs.Reading.Depth.{at_depth}
 use Rattle.grammar.specs.Reading.Next.{start, front, failed, next}
-use Rattle.scan.specs.Post.{As, Agrees, waiting_errors}
-use Rattle.scan.specs.declared.Step.{Step}
-use Rattle.scan.specs.declared.Step.TheVariants.{Done, Fail, Stop}
-use Rattle.scan.specs.contracts.Step.{the_type}
+use Rattle.scan.specs.Post.{As, Agrees}
+use Rattle.std.proofs.Common.{Ok, Err}
+use Rattle.scan.specs.declared.Cursor.{Cursor}
+use Rattle.scan.specs.declared.Halt.TheVariants.{Stop}
 use Rattle.scan.proofs.Laws.{way, link, wins, halts, lose_as}
 use Rattle.scan.proofs.Waiting.{push_full, pushes}
 
@@ -29,24 +27,21 @@ pub next_step : (d : ℕ) (q : List Error) (ts : List ℕ) → next d q ts ≡ t
 unfolding next
 next_step d q ts = refl
 
--- nothing waits where a statement starts
-pub started : {D : Res Tree} (d : ℕ) (T : List ℕ) (p : ℕ) {w : ℕ} (Q : List ℕ) → As [] D [] (next_go d tt [] (drop p T)) → w ≡ 0 → As [] D (waiting_errors w Q) (next_go d tt (waiting_errors w Q) (drop p T))
-started d T p Q a e = rw e a
-
 -- a statement that was read, or a stop
-module _ {D d : Res Tree} (or : ℕ → List Error → List ℕ → Res Tree) {T : List ℕ} {p a w : ℕ} {S Q S' Q' : List ℕ} (x : As [] D (waiting_errors w Q) (either (waiting_errors w Q) d (λ t q s. ok t s) or)) (e : a ≡ 0) where
-  pub ended : {r : Step} → OneOf (0 ∷ 2 ∷ []) (tag_of the_type r) → Agrees records d T p (p + 2) 14 a w S Q S' Q' r → Agrees records D T 0 0 8 0 0 S Q S' Q' r
-  ended {r = Done p' a' w'} o h =
+module _ {D d : Res Tree} (or : ℕ → List Error → List ℕ → Res Tree) {T : List ℕ} {p : ℕ} {S Q S' Q' : List ℕ} (x : As [] D [] (either [] d (λ t q s. ok t s) or)) where
+  pub ended : {c : Cursor} → Q ≡ [] → Agrees records d T p (p + 2) 14 0 S Q S' Q' (Ok c) → Agrees records D T 0 0 8 0 S Q S' Q' (Ok c)
+  ended e h =
       let u = h.how in
       let m = u.moved in
       let k = u.room in
-      record { how = record { what = u.what; same = wins _ or x u.same; moved = omega arith; room = omega arith; text = u.text ∙ rw e } }
-  ended {r = Fail failure} o h = absurd (⊎_elim (λ e. omega arith) (λ e. omega arith) o)
-  ended {r = Stop n} o h = record { how = record { how = halts _ or x h.how.how } }
+      record { how = record { what = u.what; same = rw e (wins _ or x (rw e at u.same)); moved = omega arith; room = omega arith; text = u.text } }
 
-pub failed_full : (d e w : ℕ) (Q ts : List ℕ) → w ≡ queue_limit → w ≤ length Q → failed d e (waiting_errors w Q) ts ≡ stop queue_full
+  pub halted : {n : ℕ} → Q ≡ [] → Agrees records d T p (p + 2) 14 0 S Q S' Q' (Err (Stop n)) → Agrees records D T 0 0 8 0 S Q S' Q' (Err (Stop n))
+  halted e h = record { how = record { how = rw e (halts _ or x (rw e at h.how.how)) } }
+
+pub failed_full : (d e : ℕ) (Q ts : List ℕ) → eqb (length Q) queue_limit ≡ true → failed d e Q ts ≡ stop queue_full
 unfolding failed
-failed_full d e w Q ts h g = push_full e w Q _ h g
+failed_full d e Q ts h = push_full e Q _ h
 
 -- the resynchronization, before the answer f
 abbrev pub sync_fail : ℕ → List ℕ → ℕ → List Error → Res Tree
@@ -56,7 +51,7 @@ front_of : {A : Type 0} (q : List Error) {e : ℕ} {q' : List Error} (k : ℕ �
 unfolding front
 front_of q k x = rw x
 
-pub failed_step : (d e w : ℕ) (Q ts : List ℕ) {q q' : List Error} {f : ℕ} → (w ≡ queue_limit → ⊥) → w ≤ length Q → q ≡ waiting_errors w Q ++ e ∷ [] → q ≡ f ∷ q' → As (waiting_errors w Q) (failed d e (waiting_errors w Q) ts) q' (sync_fail d ts f q')
+pub failed_step : (d e : ℕ) (Q ts : List ℕ) {q q' : List Error} {f : ℕ} → eqb (length Q) queue_limit ≡ false → q ≡ Q ++ e ∷ [] → q ≡ f ∷ q' → As Q (failed d e Q ts) q' (sync_fail d ts f q')
 unfolding failed
-failed_step d e w Q ts {q} {q'} {f} h g x y =
-    link (pushes e w Q (λ q₁. front q₁ (sync_fail d ts)) h g x) (link (way q (front_of q (sync_fail d ts) y)) (lose_as q q' q' f (synchronize (at_depth d) false (length ts) q' ts)))
+failed_step d e Q ts {q} {q'} {f} h x y =
+    link (pushes e Q (λ q₁. front q₁ (sync_fail d ts)) h x) (link (way q (front_of q (sync_fail d ts) y)) (lose_as q q' q' f (synchronize (at_depth d) false (length ts) q' ts)))

@@ -9,8 +9,7 @@ use grammar::{Answer, Reader};
 pub fn next_stmt_in(reader: &mut Reader, tokens: &[u64], store: &mut [u64]) -> Answer
     ensures { Leaves reader.old tokens.now store.old result reader.new store.new }
 {
-    let given = *reader;
-    let stepped = next_stmt(given, tokens, store);
+    let stepped = next_stmt(*reader, tokens, store);
     *reader = stepped.reader;
     stepped.answer
 }

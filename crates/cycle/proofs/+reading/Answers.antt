@@ -41,17 +41,17 @@ mod Val
 mod Whiles
 use Rattle.cycle.proofs.+reading.Goals as goal
 
-pub arm-returns-in_default : goal.arm-returns-in_default
-arm-returns-in_default = Rattle.cycle.proofs.+reading.Answers.Arm.arm-returns-in_default
+pub arm-returns-in_err-condition : goal.arm-returns-in_err-condition
+arm-returns-in_err-condition = Rattle.cycle.proofs.+reading.Answers.Arm.arm-returns-in_err-condition
 
-pub arm-expect-s-requires : goal.arm-expect-s-requires
-arm-expect-s-requires = Rattle.cycle.proofs.+reading.Answers.Arm.arm-expect-s-requires
+pub arm-expect-pos-requires : goal.arm-expect-pos-requires
+arm-expect-pos-requires = Rattle.cycle.proofs.+reading.Answers.Arm.arm-expect-pos-requires
 
-pub arm-returns-in_default-s : goal.arm-returns-in_default-s
-arm-returns-in_default-s = Rattle.cycle.proofs.+reading.Answers.Arm.arm-returns-in_default-s
+pub arm-returns-in_err-pos : goal.arm-returns-in_err-pos
+arm-returns-in_err-pos = Rattle.cycle.proofs.+reading.Answers.Arm.arm-returns-in_err-pos
 
-pub arm-list-l-requires : goal.arm-list-l-requires
-arm-list-l-requires = Rattle.cycle.proofs.+reading.Answers.Arm.arm-list-l-requires
+pub arm-list-statements-requires : goal.arm-list-statements-requires
+arm-list-statements-requires = Rattle.cycle.proofs.+reading.Answers.Arm.arm-list-statements-requires
 
 pub arm-block_under-requires : goal.arm-block_under-requires
 arm-block_under-requires = Rattle.cycle.proofs.+reading.Answers.Arm.arm-block_under-requires
@@ -65,8 +65,8 @@ atom-overflow_add-pos = Rattle.cycle.proofs.+reading.Answers.Atom.atom-overflow_
 pub atom-group-requires : goal.atom-group-requires
 atom-group-requires = Rattle.cycle.proofs.+reading.Answers.Atom.atom-group-requires
 
-pub atom-returns-then-kind-eq-OPEN_PAREN : goal.atom-returns-then-kind-eq-OPEN_PAREN
-atom-returns-then-kind-eq-OPEN_PAREN = Rattle.cycle.proofs.+reading.Answers.Atom.atom-returns-then-kind-eq-OPEN_PAREN
+pub atom-returns-then-token-eq-OPEN_PAREN : goal.atom-returns-then-token-eq-OPEN_PAREN
+atom-returns-then-token-eq-OPEN_PAREN = Rattle.cycle.proofs.+reading.Answers.Atom.atom-returns-then-token-eq-OPEN_PAREN
 
 pub atom-overflow_add-pos-in-Token : goal.atom-overflow_add-pos-in-Token
 atom-overflow_add-pos-in-Token = Rattle.cycle.proofs.+reading.Answers.Atom.atom-overflow_add-pos-in-Token
@@ -74,11 +74,11 @@ atom-overflow_add-pos-in-Token = Rattle.cycle.proofs.+reading.Answers.Atom.atom-
 pub atom-literal-requires : goal.atom-literal-requires
 atom-literal-requires = Rattle.cycle.proofs.+reading.Answers.Atom.atom-literal-requires
 
-pub atom-returns-else-kind-eq-OPEN_PAREN : goal.atom-returns-else-kind-eq-OPEN_PAREN
-atom-returns-else-kind-eq-OPEN_PAREN = Rattle.cycle.proofs.+reading.Answers.Atom.atom-returns-else-kind-eq-OPEN_PAREN
+pub atom-returns-else-token-eq-OPEN_PAREN : goal.atom-returns-else-token-eq-OPEN_PAREN
+atom-returns-else-token-eq-OPEN_PAREN = Rattle.cycle.proofs.+reading.Answers.Atom.atom-returns-else-token-eq-OPEN_PAREN
 
-pub atom-returns-in-Not : goal.atom-returns-in-Not
-atom-returns-in-Not = Rattle.cycle.proofs.+reading.Answers.Atom.atom-returns-in-Not
+pub atom-returns-in_err-token : goal.atom-returns-in_err-token
+atom-returns-in_err-token = Rattle.cycle.proofs.+reading.Answers.Atom.atom-returns-in_err-token
 
 pub begin-overflow_add-pos : goal.begin-overflow_add-pos
 begin-overflow_add-pos = Rattle.cycle.proofs.+reading.Answers.Begin.begin-overflow_add-pos
@@ -86,23 +86,23 @@ begin-overflow_add-pos = Rattle.cycle.proofs.+reading.Answers.Begin.begin-overfl
 pub begin-block-requires : goal.begin-block-requires
 begin-block-requires = Rattle.cycle.proofs.+reading.Answers.Begin.begin-block-requires
 
-pub begin-returns-then-kind-eq-BEGIN : goal.begin-returns-then-kind-eq-BEGIN
-begin-returns-then-kind-eq-BEGIN = Rattle.cycle.proofs.+reading.Answers.Begin.begin-returns-then-kind-eq-BEGIN
+pub begin-returns-then-look-eq-BEGIN : goal.begin-returns-then-look-eq-BEGIN
+begin-returns-then-look-eq-BEGIN = Rattle.cycle.proofs.+reading.Answers.Begin.begin-returns-then-look-eq-BEGIN
 
-pub begin-returns-else-kind-eq-BEGIN : goal.begin-returns-else-kind-eq-BEGIN
-begin-returns-else-kind-eq-BEGIN = Rattle.cycle.proofs.+reading.Answers.Begin.begin-returns-else-kind-eq-BEGIN
+pub begin-returns-else-look-eq-BEGIN : goal.begin-returns-else-look-eq-BEGIN
+begin-returns-else-look-eq-BEGIN = Rattle.cycle.proofs.+reading.Answers.Begin.begin-returns-else-look-eq-BEGIN
 
-pub begin-returns-in-Not : goal.begin-returns-in-Not
-begin-returns-in-Not = Rattle.cycle.proofs.+reading.Answers.Begin.begin-returns-in-Not
+pub begin-returns-in_err-look : goal.begin-returns-in_err-look
+begin-returns-in_err-look = Rattle.cycle.proofs.+reading.Answers.Begin.begin-returns-in_err-look
 
 pub binop-returns-then-level-eq-PRECEDENCE_END : goal.binop-returns-then-level-eq-PRECEDENCE_END
 binop-returns-then-level-eq-PRECEDENCE_END = Rattle.cycle.proofs.+reading.Answers.Binop.binop-returns-then-level-eq-PRECEDENCE_END
 
-pub binop-returns-in_default : goal.binop-returns-in_default
-binop-returns-in_default = Rattle.cycle.proofs.+reading.Answers.Binop.binop-returns-in_default
+pub binop-returns-in_err-left : goal.binop-returns-in_err-left
+binop-returns-in_err-left = Rattle.cycle.proofs.+reading.Answers.Binop.binop-returns-in_err-left
 
-pub binop-loop-kind-init : goal.binop-loop-kind-init
-binop-loop-kind-init = Rattle.cycle.proofs.+reading.Answers.Binop.binop-loop-kind-init
+pub binop-loop-token-init : goal.binop-loop-token-init
+binop-loop-token-init = Rattle.cycle.proofs.+reading.Answers.Binop.binop-loop-token-init
 
 pub binop-look-requires : goal.binop-look-requires
 binop-look-requires = Rattle.cycle.proofs.+reading.Answers.Binop.binop-look-requires
@@ -119,23 +119,23 @@ binop-overflow_sub-l = Rattle.cycle.proofs.+reading.Answers.Binop.binop-overflow
 pub binop-overflow_add-p : goal.binop-overflow_add-p
 binop-overflow_add-p = Rattle.cycle.proofs.+reading.Answers.Binop.binop-overflow_add-p
 
-pub binop-binop-r-requires : goal.binop-binop-r-requires
-binop-binop-r-requires = Rattle.cycle.proofs.+reading.Answers.Binop.binop-binop-r-requires
+pub binop-binop-right-requires : goal.binop-binop-right-requires
+binop-binop-right-requires = Rattle.cycle.proofs.+reading.Answers.Binop.binop-binop-right-requires
 
 pub binop-emit-a-requires : goal.binop-emit-a-requires
 binop-emit-a-requires = Rattle.cycle.proofs.+reading.Answers.Binop.binop-emit-a-requires
 
-pub binop-loop-kind-smaller : goal.binop-loop-kind-smaller
-binop-loop-kind-smaller = Rattle.cycle.proofs.+reading.Answers.Binop.binop-loop-kind-smaller
+pub binop-loop-token-smaller : goal.binop-loop-token-smaller
+binop-loop-token-smaller = Rattle.cycle.proofs.+reading.Answers.Binop.binop-loop-token-smaller
 
-pub binop-loop-kind-preserved : goal.binop-loop-kind-preserved
-binop-loop-kind-preserved = Rattle.cycle.proofs.+reading.Answers.Binop.binop-loop-kind-preserved
+pub binop-loop-token-preserved : goal.binop-loop-token-preserved
+binop-loop-token-preserved = Rattle.cycle.proofs.+reading.Answers.Binop.binop-loop-token-preserved
 
-pub binop-returns-in_default-r : goal.binop-returns-in_default-r
-binop-returns-in_default-r = Rattle.cycle.proofs.+reading.Answers.Binop.binop-returns-in_default-r
+pub binop-returns-in_err-right : goal.binop-returns-in_err-right
+binop-returns-in_err-right = Rattle.cycle.proofs.+reading.Answers.Binop.binop-returns-in_err-right
 
-pub binop-returns-in-Not : goal.binop-returns-in-Not
-binop-returns-in-Not = Rattle.cycle.proofs.+reading.Answers.Binop.binop-returns-in-Not
+pub binop-returns-in_err-token : goal.binop-returns-in_err-token
+binop-returns-in_err-token = Rattle.cycle.proofs.+reading.Answers.Binop.binop-returns-in_err-token
 
 pub block-block_under-requires : goal.block-block_under-requires
 block-block_under-requires = Rattle.cycle.proofs.+reading.Answers.Block.block-block_under-requires
@@ -155,17 +155,17 @@ call-overflow_add-result = Rattle.cycle.proofs.+reading.Answers.Call.call-overfl
 pub call-bare_call-requires : goal.call-bare_call-requires
 call-bare_call-requires = Rattle.cycle.proofs.+reading.Answers.Call.call-bare_call-requires
 
-pub call-returns-then-kind-eq-CLOSE_PAREN : goal.call-returns-then-kind-eq-CLOSE_PAREN
-call-returns-then-kind-eq-CLOSE_PAREN = Rattle.cycle.proofs.+reading.Answers.Call.call-returns-then-kind-eq-CLOSE_PAREN
+pub call-returns-then-token-eq-CLOSE_PAREN : goal.call-returns-then-token-eq-CLOSE_PAREN
+call-returns-then-token-eq-CLOSE_PAREN = Rattle.cycle.proofs.+reading.Answers.Call.call-returns-then-token-eq-CLOSE_PAREN
 
-pub call-returns-in_default : goal.call-returns-in_default
-call-returns-in_default = Rattle.cycle.proofs.+reading.Answers.Call.call-returns-in_default
+pub call-returns-in_err-inner : goal.call-returns-in_err-inner
+call-returns-in_err-inner = Rattle.cycle.proofs.+reading.Answers.Call.call-returns-in_err-inner
 
-pub call-expect-s-requires : goal.call-expect-s-requires
-call-expect-s-requires = Rattle.cycle.proofs.+reading.Answers.Call.call-expect-s-requires
+pub call-expect-pos-requires : goal.call-expect-pos-requires
+call-expect-pos-requires = Rattle.cycle.proofs.+reading.Answers.Call.call-expect-pos-requires
 
-pub call-returns-in_default-s : goal.call-returns-in_default-s
-call-returns-in_default-s = Rattle.cycle.proofs.+reading.Answers.Call.call-returns-in_default-s
+pub call-returns-in_err-pos : goal.call-returns-in_err-pos
+call-returns-in_err-pos = Rattle.cycle.proofs.+reading.Answers.Call.call-returns-in_err-pos
 
 pub call-call_end-requires : goal.call-call_end-requires
 call-call_end-requires = Rattle.cycle.proofs.+reading.Answers.Call.call-call_end-requires
@@ -173,8 +173,8 @@ call-call_end-requires = Rattle.cycle.proofs.+reading.Answers.Call.call-call_end
 pub call-returns-in-Done-s : goal.call-returns-in-Done-s
 call-returns-in-Done-s = Rattle.cycle.proofs.+reading.Answers.Call.call-returns-in-Done-s
 
-pub call-returns-in-Not : goal.call-returns-in-Not
-call-returns-in-Not = Rattle.cycle.proofs.+reading.Answers.Call.call-returns-in-Not
+pub call-returns-in_err-token : goal.call-returns-in_err-token
+call-returns-in_err-token = Rattle.cycle.proofs.+reading.Answers.Call.call-returns-in_err-token
 
 pub catch-returns-then-f-eq-END_OF_TOKENS : goal.catch-returns-then-f-eq-END_OF_TOKENS
 catch-returns-then-f-eq-END_OF_TOKENS = Rattle.cycle.proofs.+reading.Answers.Catch.catch-returns-then-f-eq-END_OF_TOKENS
@@ -182,11 +182,11 @@ catch-returns-then-f-eq-END_OF_TOKENS = Rattle.cycle.proofs.+reading.Answers.Cat
 pub catch-returns-then-f-eq-QUEUE : goal.catch-returns-then-f-eq-QUEUE
 catch-returns-then-f-eq-QUEUE = Rattle.cycle.proofs.+reading.Answers.Catch.catch-returns-then-f-eq-QUEUE
 
-pub catch-sync-r-requires : goal.catch-sync-r-requires
-catch-sync-r-requires = Rattle.cycle.proofs.+reading.Answers.Catch.catch-sync-r-requires
+pub catch-sync-pos-requires : goal.catch-sync-pos-requires
+catch-sync-pos-requires = Rattle.cycle.proofs.+reading.Answers.Catch.catch-sync-pos-requires
 
-pub catch-returns-in_default : goal.catch-returns-in_default
-catch-returns-in_default = Rattle.cycle.proofs.+reading.Answers.Catch.catch-returns-in_default
+pub catch-returns-in_err-pos : goal.catch-returns-in_err-pos
+catch-returns-in_err-pos = Rattle.cycle.proofs.+reading.Answers.Catch.catch-returns-in_err-pos
 
 pub catch-synchronized-requires : goal.catch-synchronized-requires
 catch-synchronized-requires = Rattle.cycle.proofs.+reading.Answers.Catch.catch-synchronized-requires
@@ -194,14 +194,14 @@ catch-synchronized-requires = Rattle.cycle.proofs.+reading.Answers.Catch.catch-s
 pub catch-returns : goal.catch-returns
 catch-returns = Rattle.cycle.proofs.+reading.Answers.Catch.catch-returns
 
-pub cond-loop-p1-init : goal.cond-loop-p1-init
-cond-loop-p1-init = Rattle.cycle.proofs.+reading.Answers.Cond.cond-loop-p1-init
+pub cond-loop-branch-init : goal.cond-loop-branch-init
+cond-loop-branch-init = Rattle.cycle.proofs.+reading.Answers.Cond.cond-loop-branch-init
 
-pub cond-arm-r-requires : goal.cond-arm-r-requires
-cond-arm-r-requires = Rattle.cycle.proofs.+reading.Answers.Cond.cond-arm-r-requires
+pub cond-arm-branch-requires : goal.cond-arm-branch-requires
+cond-arm-branch-requires = Rattle.cycle.proofs.+reading.Answers.Cond.cond-arm-branch-requires
 
-pub cond-returns-in_default : goal.cond-returns-in_default
-cond-returns-in_default = Rattle.cycle.proofs.+reading.Answers.Cond.cond-returns-in_default
+pub cond-returns-in_err-branch : goal.cond-returns-in_err-branch
+cond-returns-in_err-branch = Rattle.cycle.proofs.+reading.Answers.Cond.cond-returns-in_err-branch
 
 pub cond-look-requires : goal.cond-look-requires
 cond-look-requires = Rattle.cycle.proofs.+reading.Answers.Cond.cond-look-requires
@@ -227,8 +227,8 @@ cond-list_end-b-requires = Rattle.cycle.proofs.+reading.Answers.Cond.cond-list_e
 pub cond-overflow_add-p1 : goal.cond-overflow_add-p1
 cond-overflow_add-p1 = Rattle.cycle.proofs.+reading.Answers.Cond.cond-overflow_add-p1
 
-pub cond-body-e-requires : goal.cond-body-e-requires
-cond-body-e-requires = Rattle.cycle.proofs.+reading.Answers.Cond.cond-body-e-requires
+pub cond-body-otherwise-requires : goal.cond-body-otherwise-requires
+cond-body-otherwise-requires = Rattle.cycle.proofs.+reading.Answers.Cond.cond-body-otherwise-requires
 
 pub cond-block_under-requires : goal.cond-block_under-requires
 cond-block_under-requires = Rattle.cycle.proofs.+reading.Answers.Cond.cond-block_under-requires
@@ -245,32 +245,32 @@ cond-overflow_add-p = Rattle.cycle.proofs.+reading.Answers.Cond.cond-overflow_ad
 pub cond-overflow_add-n-in_default-kind : goal.cond-overflow_add-n-in_default-kind
 cond-overflow_add-n-in_default-kind = Rattle.cycle.proofs.+reading.Answers.Cond.cond-overflow_add-n-in_default-kind
 
-pub cond-loop-p1-smaller : goal.cond-loop-p1-smaller
-cond-loop-p1-smaller = Rattle.cycle.proofs.+reading.Answers.Cond.cond-loop-p1-smaller
+pub cond-loop-branch-smaller : goal.cond-loop-branch-smaller
+cond-loop-branch-smaller = Rattle.cycle.proofs.+reading.Answers.Cond.cond-loop-branch-smaller
 
-pub cond-loop-p1-preserved : goal.cond-loop-p1-preserved
-cond-loop-p1-preserved = Rattle.cycle.proofs.+reading.Answers.Cond.cond-loop-p1-preserved
+pub cond-loop-branch-preserved : goal.cond-loop-branch-preserved
+cond-loop-branch-preserved = Rattle.cycle.proofs.+reading.Answers.Cond.cond-loop-branch-preserved
 
-pub cond-returns-in-Not : goal.cond-returns-in-Not
-cond-returns-in-Not = Rattle.cycle.proofs.+reading.Answers.Cond.cond-returns-in-Not
+pub cond-returns-in_err-token : goal.cond-returns-in_err-token
+cond-returns-in_err-token = Rattle.cycle.proofs.+reading.Answers.Cond.cond-returns-in_err-token
 
-pub def-returns-in_default : goal.def-returns-in_default
-def-returns-in_default = Rattle.cycle.proofs.+reading.Answers.Def.def-returns-in_default
+pub def-returns-in_err-pos : goal.def-returns-in_err-pos
+def-returns-in_err-pos = Rattle.cycle.proofs.+reading.Answers.Def.def-returns-in_err-pos
 
-pub def-sig-r-requires : goal.def-sig-r-requires
-def-sig-r-requires = Rattle.cycle.proofs.+reading.Answers.Def.def-sig-r-requires
+pub def-sig-parameters-requires : goal.def-sig-parameters-requires
+def-sig-parameters-requires = Rattle.cycle.proofs.+reading.Answers.Def.def-sig-parameters-requires
 
-pub def-returns-in_default-r : goal.def-returns-in_default-r
-def-returns-in_default-r = Rattle.cycle.proofs.+reading.Answers.Def.def-returns-in_default-r
+pub def-returns-in_err-parameters : goal.def-returns-in_err-parameters
+def-returns-in_err-parameters = Rattle.cycle.proofs.+reading.Answers.Def.def-returns-in_err-parameters
 
-pub def-signature_end-c-requires : goal.def-signature_end-c-requires
-def-signature_end-c-requires = Rattle.cycle.proofs.+reading.Answers.Def.def-signature_end-c-requires
+pub def-signature_end-signature-requires : goal.def-signature_end-signature-requires
+def-signature_end-signature-requires = Rattle.cycle.proofs.+reading.Answers.Def.def-signature_end-signature-requires
 
-pub def-returns-in_default-c : goal.def-returns-in_default-c
-def-returns-in_default-c = Rattle.cycle.proofs.+reading.Answers.Def.def-returns-in_default-c
+pub def-returns-in_err-signature : goal.def-returns-in_err-signature
+def-returns-in_err-signature = Rattle.cycle.proofs.+reading.Answers.Def.def-returns-in_err-signature
 
-pub def-body-b-requires : goal.def-body-b-requires
-def-body-b-requires = Rattle.cycle.proofs.+reading.Answers.Def.def-body-b-requires
+pub def-body-statements-requires : goal.def-body-statements-requires
+def-body-statements-requires = Rattle.cycle.proofs.+reading.Answers.Def.def-body-statements-requires
 
 pub def-block_under-requires : goal.def-block_under-requires
 def-block_under-requires = Rattle.cycle.proofs.+reading.Answers.Def.def-block_under-requires
@@ -278,14 +278,14 @@ def-block_under-requires = Rattle.cycle.proofs.+reading.Answers.Def.def-block_un
 pub def-returns : goal.def-returns
 def-returns = Rattle.cycle.proofs.+reading.Answers.Def.def-returns
 
-pub dest-returns-in_default : goal.dest-returns-in_default
-dest-returns-in_default = Rattle.cycle.proofs.+reading.Answers.Dest.dest-returns-in_default
+pub dest-returns-in_err-receiver : goal.dest-returns-in_err-receiver
+dest-returns-in_err-receiver = Rattle.cycle.proofs.+reading.Answers.Dest.dest-returns-in_err-receiver
 
-pub dest-path-s-requires : goal.dest-path-s-requires
-dest-path-s-requires = Rattle.cycle.proofs.+reading.Answers.Dest.dest-path-s-requires
+pub dest-path-target-requires : goal.dest-path-target-requires
+dest-path-target-requires = Rattle.cycle.proofs.+reading.Answers.Dest.dest-path-target-requires
 
-pub dest-returns-in_default-s : goal.dest-returns-in_default-s
-dest-returns-in_default-s = Rattle.cycle.proofs.+reading.Answers.Dest.dest-returns-in_default-s
+pub dest-returns-in_err-target : goal.dest-returns-in_err-target
+dest-returns-in_err-target = Rattle.cycle.proofs.+reading.Answers.Dest.dest-returns-in_err-target
 
 pub dest-expect_pattern-requires : goal.dest-expect_pattern-requires
 dest-expect_pattern-requires = Rattle.cycle.proofs.+reading.Answers.Dest.dest-expect_pattern-requires
@@ -299,11 +299,11 @@ dots-overflow_add-result = Rattle.cycle.proofs.+reading.Answers.Dots.dots-overfl
 pub dots-lone_unpack-requires : goal.dots-lone_unpack-requires
 dots-lone_unpack-requires = Rattle.cycle.proofs.+reading.Answers.Dots.dots-lone_unpack-requires
 
-pub dots-returns-then-kind-eq-ELLIPSIS : goal.dots-returns-then-kind-eq-ELLIPSIS
-dots-returns-then-kind-eq-ELLIPSIS = Rattle.cycle.proofs.+reading.Answers.Dots.dots-returns-then-kind-eq-ELLIPSIS
+pub dots-returns-then-token-eq-ELLIPSIS : goal.dots-returns-then-token-eq-ELLIPSIS
+dots-returns-then-token-eq-ELLIPSIS = Rattle.cycle.proofs.+reading.Answers.Dots.dots-returns-then-token-eq-ELLIPSIS
 
-pub dots-returns-in_default : goal.dots-returns-in_default
-dots-returns-in_default = Rattle.cycle.proofs.+reading.Answers.Dots.dots-returns-in_default
+pub dots-returns-in_err-operand : goal.dots-returns-in_err-operand
+dots-returns-in_err-operand = Rattle.cycle.proofs.+reading.Answers.Dots.dots-returns-in_err-operand
 
 pub dots-look-requires-in-Token : goal.dots-look-requires-in-Token
 dots-look-requires-in-Token = Rattle.cycle.proofs.+reading.Answers.Dots.dots-look-requires-in-Token
@@ -320,20 +320,20 @@ dots-returns-then-next-eq-ELLIPSIS = Rattle.cycle.proofs.+reading.Answers.Dots.d
 pub dots-returns-else-next-eq-ELLIPSIS : goal.dots-returns-else-next-eq-ELLIPSIS
 dots-returns-else-next-eq-ELLIPSIS = Rattle.cycle.proofs.+reading.Answers.Dots.dots-returns-else-next-eq-ELLIPSIS
 
-pub dots-returns-in-Not-look : goal.dots-returns-in-Not-look
-dots-returns-in-Not-look = Rattle.cycle.proofs.+reading.Answers.Dots.dots-returns-in-Not-look
+pub dots-returns-in_err-token-look : goal.dots-returns-in_err-token-look
+dots-returns-in_err-token-look = Rattle.cycle.proofs.+reading.Answers.Dots.dots-returns-in_err-token-look
 
-pub dots-returns-in-Not : goal.dots-returns-in-Not
-dots-returns-in-Not = Rattle.cycle.proofs.+reading.Answers.Dots.dots-returns-in-Not
+pub dots-returns-in_err-token : goal.dots-returns-in_err-token
+dots-returns-in_err-token = Rattle.cycle.proofs.+reading.Answers.Dots.dots-returns-in_err-token
 
-pub each-returns-in_default : goal.each-returns-in_default
-each-returns-in_default = Rattle.cycle.proofs.+reading.Answers.Each.each-returns-in_default
+pub each-returns-in_err-left : goal.each-returns-in_err-left
+each-returns-in_err-left = Rattle.cycle.proofs.+reading.Answers.Each.each-returns-in_err-left
 
-pub each-expect-s-requires : goal.each-expect-s-requires
-each-expect-s-requires = Rattle.cycle.proofs.+reading.Answers.Each.each-expect-s-requires
+pub each-expect-pos-requires : goal.each-expect-pos-requires
+each-expect-pos-requires = Rattle.cycle.proofs.+reading.Answers.Each.each-expect-pos-requires
 
-pub each-returns-in_default-s : goal.each-returns-in_default-s
-each-returns-in_default-s = Rattle.cycle.proofs.+reading.Answers.Each.each-returns-in_default-s
+pub each-returns-in_err-pos : goal.each-returns-in_err-pos
+each-returns-in_err-pos = Rattle.cycle.proofs.+reading.Answers.Each.each-returns-in_err-pos
 
 pub each-whiles-requires : goal.each-whiles-requires
 each-whiles-requires = Rattle.cycle.proofs.+reading.Answers.Each.each-whiles-requires
@@ -341,11 +341,11 @@ each-whiles-requires = Rattle.cycle.proofs.+reading.Answers.Each.each-whiles-req
 pub each-returns : goal.each-returns
 each-returns = Rattle.cycle.proofs.+reading.Answers.Each.each-returns
 
-pub expr-tuple-l-requires : goal.expr-tuple-l-requires
-expr-tuple-l-requires = Rattle.cycle.proofs.+reading.Answers.Expr.expr-tuple-l-requires
+pub expr-tuple-left-requires : goal.expr-tuple-left-requires
+expr-tuple-left-requires = Rattle.cycle.proofs.+reading.Answers.Expr.expr-tuple-left-requires
 
-pub expr-returns-in_default : goal.expr-returns-in_default
-expr-returns-in_default = Rattle.cycle.proofs.+reading.Answers.Expr.expr-returns-in_default
+pub expr-returns-in_err-left : goal.expr-returns-in_err-left
+expr-returns-in_err-left = Rattle.cycle.proofs.+reading.Answers.Expr.expr-returns-in_err-left
 
 pub expr-look-requires : goal.expr-look-requires
 expr-look-requires = Rattle.cycle.proofs.+reading.Answers.Expr.expr-look-requires
@@ -356,20 +356,20 @@ expr-returns-then-code-eq0 = Rattle.cycle.proofs.+reading.Answers.Expr.expr-retu
 pub expr-overflow_add-p1 : goal.expr-overflow_add-p1
 expr-overflow_add-p1 = Rattle.cycle.proofs.+reading.Answers.Expr.expr-overflow_add-p1
 
-pub expr-expect_pattern-t-requires : goal.expr-expect_pattern-t-requires
-expr-expect_pattern-t-requires = Rattle.cycle.proofs.+reading.Answers.Expr.expr-expect_pattern-t-requires
+pub expr-expect_pattern-target-requires : goal.expr-expect_pattern-target-requires
+expr-expect_pattern-target-requires = Rattle.cycle.proofs.+reading.Answers.Expr.expr-expect_pattern-target-requires
 
-pub expr-returns-in_default-t : goal.expr-returns-in_default-t
-expr-returns-in_default-t = Rattle.cycle.proofs.+reading.Answers.Expr.expr-returns-in_default-t
+pub expr-returns-in_err-target : goal.expr-returns-in_err-target
+expr-returns-in_err-target = Rattle.cycle.proofs.+reading.Answers.Expr.expr-returns-in_err-target
 
-pub expr-rhs-r-requires : goal.expr-rhs-r-requires
-expr-rhs-r-requires = Rattle.cycle.proofs.+reading.Answers.Expr.expr-rhs-r-requires
+pub expr-rhs-right-requires : goal.expr-rhs-right-requires
+expr-rhs-right-requires = Rattle.cycle.proofs.+reading.Answers.Expr.expr-rhs-right-requires
 
 pub expr-shape_of-store-in_default-r : goal.expr-shape_of-store-in_default-r
 expr-shape_of-store-in_default-r = Rattle.cycle.proofs.+reading.Answers.Expr.expr-shape_of-store-in_default-r
 
-pub expr-returns-in_default-r : goal.expr-returns-in_default-r
-expr-returns-in_default-r = Rattle.cycle.proofs.+reading.Answers.Expr.expr-returns-in_default-r
+pub expr-returns-in_err-right : goal.expr-returns-in_err-right
+expr-returns-in_err-right = Rattle.cycle.proofs.+reading.Answers.Expr.expr-returns-in_err-right
 
 pub expr-overflow_add-action : goal.expr-overflow_add-action
 expr-overflow_add-action = Rattle.cycle.proofs.+reading.Answers.Expr.expr-overflow_add-action
@@ -383,26 +383,26 @@ expr-shape_of-store-in-Done-r = Rattle.cycle.proofs.+reading.Answers.Expr.expr-s
 pub expr-returns-in-Done-r : goal.expr-returns-in-Done-r
 expr-returns-in-Done-r = Rattle.cycle.proofs.+reading.Answers.Expr.expr-returns-in-Done-r
 
-pub expr-returns-in-Not-look : goal.expr-returns-in-Not-look
-expr-returns-in-Not-look = Rattle.cycle.proofs.+reading.Answers.Expr.expr-returns-in-Not-look
+pub expr-returns-in_err-keyword-look : goal.expr-returns-in_err-keyword-look
+expr-returns-in_err-keyword-look = Rattle.cycle.proofs.+reading.Answers.Expr.expr-returns-in_err-keyword-look
 
-pub expr-returns-in-Not : goal.expr-returns-in-Not
-expr-returns-in-Not = Rattle.cycle.proofs.+reading.Answers.Expr.expr-returns-in-Not
+pub expr-returns-in_err-keyword : goal.expr-returns-in_err-keyword
+expr-returns-in_err-keyword = Rattle.cycle.proofs.+reading.Answers.Expr.expr-returns-in_err-keyword
 
-pub fun-returns-then-kind-eq-OPEN_PAREN : goal.fun-returns-then-kind-eq-OPEN_PAREN
-fun-returns-then-kind-eq-OPEN_PAREN = Rattle.cycle.proofs.+reading.Answers.Fun.fun-returns-then-kind-eq-OPEN_PAREN
+pub fun-returns-then-token-eq-OPEN_PAREN : goal.fun-returns-then-token-eq-OPEN_PAREN
+fun-returns-then-token-eq-OPEN_PAREN = Rattle.cycle.proofs.+reading.Answers.Fun.fun-returns-then-token-eq-OPEN_PAREN
 
-pub fun-returns-in_default : goal.fun-returns-in_default
-fun-returns-in_default = Rattle.cycle.proofs.+reading.Answers.Fun.fun-returns-in_default
+pub fun-returns-in_err-target : goal.fun-returns-in_err-target
+fun-returns-in_err-target = Rattle.cycle.proofs.+reading.Answers.Fun.fun-returns-in_err-target
 
 pub fun-target_name-name-requires : goal.fun-target_name-name-requires
 fun-target_name-name-requires = Rattle.cycle.proofs.+reading.Answers.Fun.fun-target_name-name-requires
 
-pub fun-def-r-requires : goal.fun-def-r-requires
-fun-def-r-requires = Rattle.cycle.proofs.+reading.Answers.Fun.fun-def-r-requires
+pub fun-def-function-requires : goal.fun-def-function-requires
+fun-def-function-requires = Rattle.cycle.proofs.+reading.Answers.Fun.fun-def-function-requires
 
-pub fun-returns-in_default-r : goal.fun-returns-in_default-r
-fun-returns-in_default-r = Rattle.cycle.proofs.+reading.Answers.Fun.fun-returns-in_default-r
+pub fun-returns-in_err-function : goal.fun-returns-in_err-function
+fun-returns-in_err-function = Rattle.cycle.proofs.+reading.Answers.Fun.fun-returns-in_err-function
 
 pub fun-emit-requires : goal.fun-emit-requires
 fun-emit-requires = Rattle.cycle.proofs.+reading.Answers.Fun.fun-emit-requires
@@ -410,8 +410,8 @@ fun-emit-requires = Rattle.cycle.proofs.+reading.Answers.Fun.fun-emit-requires
 pub fun-returns-in-Done-r : goal.fun-returns-in-Done-r
 fun-returns-in-Done-r = Rattle.cycle.proofs.+reading.Answers.Fun.fun-returns-in-Done-r
 
-pub fun-returns-in-Not : goal.fun-returns-in-Not
-fun-returns-in-Not = Rattle.cycle.proofs.+reading.Answers.Fun.fun-returns-in-Not
+pub fun-returns-in_err-token : goal.fun-returns-in_err-token
+fun-returns-in_err-token = Rattle.cycle.proofs.+reading.Answers.Fun.fun-returns-in_err-token
 
 pub group-overflow_add-result : goal.group-overflow_add-result
 group-overflow_add-result = Rattle.cycle.proofs.+reading.Answers.Group.group-overflow_add-result
@@ -419,20 +419,20 @@ group-overflow_add-result = Rattle.cycle.proofs.+reading.Answers.Group.group-ove
 pub group-emit-requires : goal.group-emit-requires
 group-emit-requires = Rattle.cycle.proofs.+reading.Answers.Group.group-emit-requires
 
-pub group-returns-then-kind-eq-CLOSE_PAREN : goal.group-returns-then-kind-eq-CLOSE_PAREN
-group-returns-then-kind-eq-CLOSE_PAREN = Rattle.cycle.proofs.+reading.Answers.Group.group-returns-then-kind-eq-CLOSE_PAREN
+pub group-returns-then-token-eq-CLOSE_PAREN : goal.group-returns-then-token-eq-CLOSE_PAREN
+group-returns-then-token-eq-CLOSE_PAREN = Rattle.cycle.proofs.+reading.Answers.Group.group-returns-then-token-eq-CLOSE_PAREN
 
-pub group-expr-r-requires : goal.group-expr-r-requires
-group-expr-r-requires = Rattle.cycle.proofs.+reading.Answers.Group.group-expr-r-requires
+pub group-expr-inner-requires : goal.group-expr-inner-requires
+group-expr-inner-requires = Rattle.cycle.proofs.+reading.Answers.Group.group-expr-inner-requires
 
-pub group-returns-in_default : goal.group-returns-in_default
-group-returns-in_default = Rattle.cycle.proofs.+reading.Answers.Group.group-returns-in_default
+pub group-returns-in_err-inner : goal.group-returns-in_err-inner
+group-returns-in_err-inner = Rattle.cycle.proofs.+reading.Answers.Group.group-returns-in_err-inner
 
-pub group-expect-s-requires : goal.group-expect-s-requires
-group-expect-s-requires = Rattle.cycle.proofs.+reading.Answers.Group.group-expect-s-requires
+pub group-expect-pos-requires : goal.group-expect-pos-requires
+group-expect-pos-requires = Rattle.cycle.proofs.+reading.Answers.Group.group-expect-pos-requires
 
-pub group-returns-in_default-s : goal.group-returns-in_default-s
-group-returns-in_default-s = Rattle.cycle.proofs.+reading.Answers.Group.group-returns-in_default-s
+pub group-returns-in_err-pos : goal.group-returns-in_err-pos
+group-returns-in_err-pos = Rattle.cycle.proofs.+reading.Answers.Group.group-returns-in_err-pos
 
 pub group-group_end-requires : goal.group-group_end-requires
 group-group_end-requires = Rattle.cycle.proofs.+reading.Answers.Group.group-group_end-requires
@@ -440,14 +440,14 @@ group-group_end-requires = Rattle.cycle.proofs.+reading.Answers.Group.group-grou
 pub group-returns-in-Done-s : goal.group-returns-in-Done-s
 group-returns-in-Done-s = Rattle.cycle.proofs.+reading.Answers.Group.group-returns-in-Done-s
 
-pub group-returns-in-Not-assign_keyword : goal.group-returns-in-Not-assign_keyword
-group-returns-in-Not-assign_keyword = Rattle.cycle.proofs.+reading.Answers.Group.group-returns-in-Not-assign_keyword
+pub group-returns-in_err-token-assign_keyword : goal.group-returns-in_err-token-assign_keyword
+group-returns-in_err-token-assign_keyword = Rattle.cycle.proofs.+reading.Answers.Group.group-returns-in_err-token-assign_keyword
 
-pub group-returns-in-Not : goal.group-returns-in-Not
-group-returns-in-Not = Rattle.cycle.proofs.+reading.Answers.Group.group-returns-in-Not
+pub group-returns-in_err-token : goal.group-returns-in_err-token
+group-returns-in_err-token = Rattle.cycle.proofs.+reading.Answers.Group.group-returns-in_err-token
 
-pub index-returns-in_default : goal.index-returns-in_default
-index-returns-in_default = Rattle.cycle.proofs.+reading.Answers.Index.index-returns-in_default
+pub index-returns-in_err-inner : goal.index-returns-in_err-inner
+index-returns-in_err-inner = Rattle.cycle.proofs.+reading.Answers.Index.index-returns-in_err-inner
 
 pub index-expect-requires : goal.index-expect-requires
 index-expect-requires = Rattle.cycle.proofs.+reading.Answers.Index.index-expect-requires
@@ -455,20 +455,20 @@ index-expect-requires = Rattle.cycle.proofs.+reading.Answers.Index.index-expect-
 pub index-returns : goal.index-returns
 index-returns = Rattle.cycle.proofs.+reading.Answers.Index.index-returns
 
-pub item-returns-in_default : goal.item-returns-in_default
-item-returns-in_default = Rattle.cycle.proofs.+reading.Answers.Item.item-returns-in_default
+pub item-returns-in_err-field : goal.item-returns-in_err-field
+item-returns-in_err-field = Rattle.cycle.proofs.+reading.Answers.Item.item-returns-in_err-field
 
-pub item-expect-s-requires : goal.item-expect-s-requires
-item-expect-s-requires = Rattle.cycle.proofs.+reading.Answers.Item.item-expect-s-requires
+pub item-expect-pos-requires : goal.item-expect-pos-requires
+item-expect-pos-requires = Rattle.cycle.proofs.+reading.Answers.Item.item-expect-pos-requires
 
-pub item-returns-in_default-s : goal.item-returns-in_default-s
-item-returns-in_default-s = Rattle.cycle.proofs.+reading.Answers.Item.item-returns-in_default-s
+pub item-returns-in_err-pos : goal.item-returns-in_err-pos
+item-returns-in_err-pos = Rattle.cycle.proofs.+reading.Answers.Item.item-returns-in_err-pos
 
-pub item-binop-r-requires : goal.item-binop-r-requires
-item-binop-r-requires = Rattle.cycle.proofs.+reading.Answers.Item.item-binop-r-requires
+pub item-binop-value-requires : goal.item-binop-value-requires
+item-binop-value-requires = Rattle.cycle.proofs.+reading.Answers.Item.item-binop-value-requires
 
-pub item-returns-in_default-r : goal.item-returns-in_default-r
-item-returns-in_default-r = Rattle.cycle.proofs.+reading.Answers.Item.item-returns-in_default-r
+pub item-returns-in_err-value : goal.item-returns-in_err-value
+item-returns-in_err-value = Rattle.cycle.proofs.+reading.Answers.Item.item-returns-in_err-value
 
 pub item-emit-requires : goal.item-emit-requires
 item-emit-requires = Rattle.cycle.proofs.+reading.Answers.Item.item-emit-requires
@@ -476,8 +476,8 @@ item-emit-requires = Rattle.cycle.proofs.+reading.Answers.Item.item-emit-require
 pub item-returns : goal.item-returns
 item-returns = Rattle.cycle.proofs.+reading.Answers.Item.item-returns
 
-pub jump-returns-in_default : goal.jump-returns-in_default
-jump-returns-in_default = Rattle.cycle.proofs.+reading.Answers.Jump.jump-returns-in_default
+pub jump-returns-in_err-value : goal.jump-returns-in_err-value
+jump-returns-in_err-value = Rattle.cycle.proofs.+reading.Answers.Jump.jump-returns-in_err-value
 
 pub jump-emit-requires : goal.jump-emit-requires
 jump-emit-requires = Rattle.cycle.proofs.+reading.Answers.Jump.jump-emit-requires
@@ -491,11 +491,11 @@ jump-emit-requires-then-k-eq-CONTINUE = Rattle.cycle.proofs.+reading.Answers.Jum
 pub jump-returns-then-k-eq-CONTINUE : goal.jump-returns-then-k-eq-CONTINUE
 jump-returns-then-k-eq-CONTINUE = Rattle.cycle.proofs.+reading.Answers.Jump.jump-returns-then-k-eq-CONTINUE
 
-pub jump-val-r-requires-in-At : goal.jump-val-r-requires-in-At
-jump-val-r-requires-in-At = Rattle.cycle.proofs.+reading.Answers.Jump.jump-val-r-requires-in-At
+pub jump-val-value-requires-in-At : goal.jump-val-value-requires-in-At
+jump-val-value-requires-in-At = Rattle.cycle.proofs.+reading.Answers.Jump.jump-val-value-requires-in-At
 
-pub jump-returns-in_default-r : goal.jump-returns-in_default-r
-jump-returns-in_default-r = Rattle.cycle.proofs.+reading.Answers.Jump.jump-returns-in_default-r
+pub jump-returns-in_err-value : goal.jump-returns-in_err-value
+jump-returns-in_err-value = Rattle.cycle.proofs.+reading.Answers.Jump.jump-returns-in_err-value
 
 pub jump-emit-requires-in-At : goal.jump-emit-requires-in-At
 jump-emit-requires-in-At = Rattle.cycle.proofs.+reading.Answers.Jump.jump-emit-requires-in-At
@@ -503,8 +503,8 @@ jump-emit-requires-in-At = Rattle.cycle.proofs.+reading.Answers.Jump.jump-emit-r
 pub jump-returns-in-Done-r : goal.jump-returns-in-Done-r
 jump-returns-in-Done-r = Rattle.cycle.proofs.+reading.Answers.Jump.jump-returns-in-Done-r
 
-pub jump-returns-in-Not : goal.jump-returns-in-Not
-jump-returns-in-Not = Rattle.cycle.proofs.+reading.Answers.Jump.jump-returns-in-Not
+pub jump-returns-in_err-label : goal.jump-returns-in_err-label
+jump-returns-in_err-label = Rattle.cycle.proofs.+reading.Answers.Jump.jump-returns-in_err-label
 
 pub key-overflow_add-pos : goal.key-overflow_add-pos
 key-overflow_add-pos = Rattle.cycle.proofs.+reading.Answers.Key.key-overflow_add-pos
@@ -512,17 +512,17 @@ key-overflow_add-pos = Rattle.cycle.proofs.+reading.Answers.Key.key-overflow_add
 pub key-named_field-requires : goal.key-named_field-requires
 key-named_field-requires = Rattle.cycle.proofs.+reading.Answers.Key.key-named_field-requires
 
-pub key-returns-then-kind-ne-OPEN_SQUARE : goal.key-returns-then-kind-ne-OPEN_SQUARE
-key-returns-then-kind-ne-OPEN_SQUARE = Rattle.cycle.proofs.+reading.Answers.Key.key-returns-then-kind-ne-OPEN_SQUARE
+pub key-returns-then-token-ne-OPEN_SQUARE : goal.key-returns-then-token-ne-OPEN_SQUARE
+key-returns-then-token-ne-OPEN_SQUARE = Rattle.cycle.proofs.+reading.Answers.Key.key-returns-then-token-ne-OPEN_SQUARE
 
 pub key-overflow_add-pos-in-Token : goal.key-overflow_add-pos-in-Token
 key-overflow_add-pos-in-Token = Rattle.cycle.proofs.+reading.Answers.Key.key-overflow_add-pos-in-Token
 
-pub key-index-r-requires : goal.key-index-r-requires
-key-index-r-requires = Rattle.cycle.proofs.+reading.Answers.Key.key-index-r-requires
+pub key-index-place-requires : goal.key-index-place-requires
+key-index-place-requires = Rattle.cycle.proofs.+reading.Answers.Key.key-index-place-requires
 
-pub key-returns-in_default : goal.key-returns-in_default
-key-returns-in_default = Rattle.cycle.proofs.+reading.Answers.Key.key-returns-in_default
+pub key-returns-in_err-place : goal.key-returns-in_err-place
+key-returns-in_err-place = Rattle.cycle.proofs.+reading.Answers.Key.key-returns-in_err-place
 
 pub key-emit-requires : goal.key-emit-requires
 key-emit-requires = Rattle.cycle.proofs.+reading.Answers.Key.key-emit-requires
@@ -530,8 +530,8 @@ key-emit-requires = Rattle.cycle.proofs.+reading.Answers.Key.key-emit-requires
 pub key-returns-in-Done : goal.key-returns-in-Done
 key-returns-in-Done = Rattle.cycle.proofs.+reading.Answers.Key.key-returns-in-Done
 
-pub key-returns-in-Not : goal.key-returns-in-Not
-key-returns-in-Not = Rattle.cycle.proofs.+reading.Answers.Key.key-returns-in-Not
+pub key-returns-in_err-token : goal.key-returns-in_err-token
+key-returns-in_err-token = Rattle.cycle.proofs.+reading.Answers.Key.key-returns-in_err-token
 
 pub label-overflow_add-pos : goal.label-overflow_add-pos
 label-overflow_add-pos = Rattle.cycle.proofs.+reading.Answers.Label.label-overflow_add-pos
@@ -560,23 +560,23 @@ label-returns-in-58 = Rattle.cycle.proofs.+reading.Answers.Label.label-returns-i
 pub label-returns-in-59 : goal.label-returns-in-59
 label-returns-in-59 = Rattle.cycle.proofs.+reading.Answers.Label.label-returns-in-59
 
-pub label-returns-in_default : goal.label-returns-in_default
-label-returns-in_default = Rattle.cycle.proofs.+reading.Answers.Label.label-returns-in_default
+pub label-returns-in_err-None : goal.label-returns-in_err-None
+label-returns-in_err-None = Rattle.cycle.proofs.+reading.Answers.Label.label-returns-in_err-None
 
-pub label-returns-in-Not : goal.label-returns-in-Not
-label-returns-in-Not = Rattle.cycle.proofs.+reading.Answers.Label.label-returns-in-Not
+pub label-returns-in_err-token : goal.label-returns-in_err-token
+label-returns-in_err-token = Rattle.cycle.proofs.+reading.Answers.Label.label-returns-in_err-token
 
-pub lhs-tuple-r-requires : goal.lhs-tuple-r-requires
-lhs-tuple-r-requires = Rattle.cycle.proofs.+reading.Answers.Lhs.lhs-tuple-r-requires
+pub lhs-tuple-left-requires : goal.lhs-tuple-left-requires
+lhs-tuple-left-requires = Rattle.cycle.proofs.+reading.Answers.Lhs.lhs-tuple-left-requires
 
-pub lhs-returns-in_default : goal.lhs-returns-in_default
-lhs-returns-in_default = Rattle.cycle.proofs.+reading.Answers.Lhs.lhs-returns-in_default
+pub lhs-returns-in_err-left : goal.lhs-returns-in_err-left
+lhs-returns-in_err-left = Rattle.cycle.proofs.+reading.Answers.Lhs.lhs-returns-in_err-left
 
-pub lhs-expect_pattern-t-requires : goal.lhs-expect_pattern-t-requires
-lhs-expect_pattern-t-requires = Rattle.cycle.proofs.+reading.Answers.Lhs.lhs-expect_pattern-t-requires
+pub lhs-expect_pattern-target-requires : goal.lhs-expect_pattern-target-requires
+lhs-expect_pattern-target-requires = Rattle.cycle.proofs.+reading.Answers.Lhs.lhs-expect_pattern-target-requires
 
-pub lhs-returns-in_default-t : goal.lhs-returns-in_default-t
-lhs-returns-in_default-t = Rattle.cycle.proofs.+reading.Answers.Lhs.lhs-returns-in_default-t
+pub lhs-returns-in_err-target : goal.lhs-returns-in_err-target
+lhs-returns-in_err-target = Rattle.cycle.proofs.+reading.Answers.Lhs.lhs-returns-in_err-target
 
 pub lhs-modified-requires : goal.lhs-modified-requires
 lhs-modified-requires = Rattle.cycle.proofs.+reading.Answers.Lhs.lhs-modified-requires
@@ -584,14 +584,14 @@ lhs-modified-requires = Rattle.cycle.proofs.+reading.Answers.Lhs.lhs-modified-re
 pub lhs-returns-in-Done-t : goal.lhs-returns-in-Done-t
 lhs-returns-in-Done-t = Rattle.cycle.proofs.+reading.Answers.Lhs.lhs-returns-in-Done-t
 
-pub lhs-returns-in-Not : goal.lhs-returns-in-Not
-lhs-returns-in-Not = Rattle.cycle.proofs.+reading.Answers.Lhs.lhs-returns-in-Not
+pub lhs-returns-in_err-keyword : goal.lhs-returns-in_err-keyword
+lhs-returns-in_err-keyword = Rattle.cycle.proofs.+reading.Answers.Lhs.lhs-returns-in_err-keyword
 
 pub list-returns-then-depth-eq0 : goal.list-returns-then-depth-eq0
 list-returns-then-depth-eq0 = Rattle.cycle.proofs.+reading.Answers.List.list-returns-then-depth-eq0
 
-pub list-loop-kind-init : goal.list-loop-kind-init
-list-loop-kind-init = Rattle.cycle.proofs.+reading.Answers.List.list-loop-kind-init
+pub list-loop-token-init : goal.list-loop-token-init
+list-loop-token-init = Rattle.cycle.proofs.+reading.Answers.List.list-loop-token-init
 
 pub list-look-requires : goal.list-look-requires
 list-look-requires = Rattle.cycle.proofs.+reading.Answers.List.list-look-requires
@@ -599,11 +599,11 @@ list-look-requires = Rattle.cycle.proofs.+reading.Answers.List.list-look-require
 pub list-overflow_add-p : goal.list-overflow_add-p
 list-overflow_add-p = Rattle.cycle.proofs.+reading.Answers.List.list-overflow_add-p
 
-pub list-loop-kind-smaller-then-kind-eq-SEMICOLON : goal.list-loop-kind-smaller-then-kind-eq-SEMICOLON
-list-loop-kind-smaller-then-kind-eq-SEMICOLON = Rattle.cycle.proofs.+reading.Answers.List.list-loop-kind-smaller-then-kind-eq-SEMICOLON
+pub list-loop-token-smaller-then-token-eq-SEMICOLON : goal.list-loop-token-smaller-then-token-eq-SEMICOLON
+list-loop-token-smaller-then-token-eq-SEMICOLON = Rattle.cycle.proofs.+reading.Answers.List.list-loop-token-smaller-then-token-eq-SEMICOLON
 
-pub list-loop-kind-preserved-then-kind-eq-SEMICOLON : goal.list-loop-kind-preserved-then-kind-eq-SEMICOLON
-list-loop-kind-preserved-then-kind-eq-SEMICOLON = Rattle.cycle.proofs.+reading.Answers.List.list-loop-kind-preserved-then-kind-eq-SEMICOLON
+pub list-loop-token-preserved-then-token-eq-SEMICOLON : goal.list-loop-token-preserved-then-token-eq-SEMICOLON
+list-loop-token-preserved-then-token-eq-SEMICOLON = Rattle.cycle.proofs.+reading.Answers.List.list-loop-token-preserved-then-token-eq-SEMICOLON
 
 pub list-returns-then-ends : goal.list-returns-then-ends
 list-returns-then-ends = Rattle.cycle.proofs.+reading.Answers.List.list-returns-then-ends
@@ -617,26 +617,26 @@ list-mark-last-requires = Rattle.cycle.proofs.+reading.Answers.List.list-mark-la
 pub list-overflow_add-n : goal.list-overflow_add-n
 list-overflow_add-n = Rattle.cycle.proofs.+reading.Answers.List.list-overflow_add-n
 
-pub list-loop-kind-smaller-in-Stmt : goal.list-loop-kind-smaller-in-Stmt
-list-loop-kind-smaller-in-Stmt = Rattle.cycle.proofs.+reading.Answers.List.list-loop-kind-smaller-in-Stmt
+pub list-loop-token-smaller-in-Stmt : goal.list-loop-token-smaller-in-Stmt
+list-loop-token-smaller-in-Stmt = Rattle.cycle.proofs.+reading.Answers.List.list-loop-token-smaller-in-Stmt
 
-pub list-loop-kind-preserved-in-Stmt : goal.list-loop-kind-preserved-in-Stmt
-list-loop-kind-preserved-in-Stmt = Rattle.cycle.proofs.+reading.Answers.List.list-loop-kind-preserved-in-Stmt
+pub list-loop-token-preserved-in-Stmt : goal.list-loop-token-preserved-in-Stmt
+list-loop-token-preserved-in-Stmt = Rattle.cycle.proofs.+reading.Answers.List.list-loop-token-preserved-in-Stmt
 
 pub list-returns-in-Control : goal.list-returns-in-Control
 list-returns-in-Control = Rattle.cycle.proofs.+reading.Answers.List.list-returns-in-Control
 
-pub list-loop-kind-smaller : goal.list-loop-kind-smaller
-list-loop-kind-smaller = Rattle.cycle.proofs.+reading.Answers.List.list-loop-kind-smaller
+pub list-loop-token-smaller : goal.list-loop-token-smaller
+list-loop-token-smaller = Rattle.cycle.proofs.+reading.Answers.List.list-loop-token-smaller
 
-pub list-loop-kind-preserved : goal.list-loop-kind-preserved
-list-loop-kind-preserved = Rattle.cycle.proofs.+reading.Answers.List.list-loop-kind-preserved
+pub list-loop-token-preserved : goal.list-loop-token-preserved
+list-loop-token-preserved = Rattle.cycle.proofs.+reading.Answers.List.list-loop-token-preserved
 
-pub list-returns-in-Not-turn : goal.list-returns-in-Not-turn
-list-returns-in-Not-turn = Rattle.cycle.proofs.+reading.Answers.List.list-returns-in-Not-turn
+pub list-returns-in_err-token-turn : goal.list-returns-in_err-token-turn
+list-returns-in_err-token-turn = Rattle.cycle.proofs.+reading.Answers.List.list-returns-in_err-token-turn
 
-pub list-returns-in-Not : goal.list-returns-in-Not
-list-returns-in-Not = Rattle.cycle.proofs.+reading.Answers.List.list-returns-in-Not
+pub list-returns-in_err-token : goal.list-returns-in_err-token
+list-returns-in_err-token = Rattle.cycle.proofs.+reading.Answers.List.list-returns-in_err-token
 
 pub loops-list_under-requires : goal.loops-list_under-requires
 loops-list_under-requires = Rattle.cycle.proofs.+reading.Answers.Loops.loops-list_under-requires
@@ -647,8 +647,8 @@ loops-returns = Rattle.cycle.proofs.+reading.Answers.Loops.loops-returns
 pub param-required_end-b-requires : goal.param-required_end-b-requires
 param-required_end-b-requires = Rattle.cycle.proofs.+reading.Answers.Param.param-required_end-b-requires
 
-pub param-expr-r-requires : goal.param-expr-r-requires
-param-expr-r-requires = Rattle.cycle.proofs.+reading.Answers.Param.param-expr-r-requires
+pub param-expr-value-requires : goal.param-expr-value-requires
+param-expr-value-requires = Rattle.cycle.proofs.+reading.Answers.Param.param-expr-value-requires
 
 pub param-emit-requires : goal.param-emit-requires
 param-emit-requires = Rattle.cycle.proofs.+reading.Answers.Param.param-emit-requires
@@ -662,23 +662,23 @@ param-returns-in-Variadic = Rattle.cycle.proofs.+reading.Answers.Param.param-ret
 pub param-returns-in-Done : goal.param-returns-in-Done
 param-returns-in-Done = Rattle.cycle.proofs.+reading.Answers.Param.param-returns-in-Done
 
-pub param-returns-in_default : goal.param-returns-in_default
-param-returns-in_default = Rattle.cycle.proofs.+reading.Answers.Param.param-returns-in_default
+pub param-returns-in_err-None : goal.param-returns-in_err-None
+param-returns-in_err-None = Rattle.cycle.proofs.+reading.Answers.Param.param-returns-in_err-None
 
-pub param-returns-in-Not : goal.param-returns-in-Not
-param-returns-in-Not = Rattle.cycle.proofs.+reading.Answers.Param.param-returns-in-Not
+pub param-returns-in_err-look : goal.param-returns-in_err-look
+param-returns-in_err-look = Rattle.cycle.proofs.+reading.Answers.Param.param-returns-in_err-look
 
 pub part-member-requires : goal.part-member-requires
 part-member-requires = Rattle.cycle.proofs.+reading.Answers.Part.part-member-requires
 
-pub part-returns-in_default-r : goal.part-returns-in_default-r
-part-returns-in_default-r = Rattle.cycle.proofs.+reading.Answers.Part.part-returns-in_default-r
+pub part-returns-in_err-items : goal.part-returns-in_err-items
+part-returns-in_err-items = Rattle.cycle.proofs.+reading.Answers.Part.part-returns-in_err-items
 
 pub part-emit-requires : goal.part-emit-requires
 part-emit-requires = Rattle.cycle.proofs.+reading.Answers.Part.part-emit-requires
 
-pub part-returns-in_default-r-2 : goal.part-returns-in_default-r-2
-part-returns-in_default-r-2 = Rattle.cycle.proofs.+reading.Answers.Part.part-returns-in_default-r-2
+pub part-returns-in_err-items-2 : goal.part-returns-in_err-items-2
+part-returns-in_err-items-2 = Rattle.cycle.proofs.+reading.Answers.Part.part-returns-in_err-items-2
 
 pub part-emit-requires-in_default : goal.part-emit-requires-in_default
 part-emit-requires-in_default = Rattle.cycle.proofs.+reading.Answers.Part.part-emit-requires-in_default
@@ -695,8 +695,8 @@ part-returns-in-0 = Rattle.cycle.proofs.+reading.Answers.Part.part-returns-in-0
 pub part-returns-in-Done-r : goal.part-returns-in-Done-r
 part-returns-in-Done-r = Rattle.cycle.proofs.+reading.Answers.Part.part-returns-in-Done-r
 
-pub path-loop-kind-init : goal.path-loop-kind-init
-path-loop-kind-init = Rattle.cycle.proofs.+reading.Answers.Path.path-loop-kind-init
+pub path-loop-token-init : goal.path-loop-token-init
+path-loop-token-init = Rattle.cycle.proofs.+reading.Answers.Path.path-loop-token-init
 
 pub path-look-requires : goal.path-look-requires
 path-look-requires = Rattle.cycle.proofs.+reading.Answers.Path.path-look-requires
@@ -710,26 +710,26 @@ path-returns-then-not-continues = Rattle.cycle.proofs.+reading.Answers.Path.path
 pub path-overflow_add-p : goal.path-overflow_add-p
 path-overflow_add-p = Rattle.cycle.proofs.+reading.Answers.Path.path-overflow_add-p
 
-pub path-part-r-requires : goal.path-part-r-requires
-path-part-r-requires = Rattle.cycle.proofs.+reading.Answers.Path.path-part-r-requires
+pub path-part-end-requires : goal.path-part-end-requires
+path-part-end-requires = Rattle.cycle.proofs.+reading.Answers.Path.path-part-end-requires
 
 pub path-overflow_add-n : goal.path-overflow_add-n
 path-overflow_add-n = Rattle.cycle.proofs.+reading.Answers.Path.path-overflow_add-n
 
-pub path-loop-kind-smaller : goal.path-loop-kind-smaller
-path-loop-kind-smaller = Rattle.cycle.proofs.+reading.Answers.Path.path-loop-kind-smaller
+pub path-loop-token-smaller : goal.path-loop-token-smaller
+path-loop-token-smaller = Rattle.cycle.proofs.+reading.Answers.Path.path-loop-token-smaller
 
-pub path-loop-kind-preserved : goal.path-loop-kind-preserved
-path-loop-kind-preserved = Rattle.cycle.proofs.+reading.Answers.Path.path-loop-kind-preserved
+pub path-loop-token-preserved : goal.path-loop-token-preserved
+path-loop-token-preserved = Rattle.cycle.proofs.+reading.Answers.Path.path-loop-token-preserved
 
-pub path-returns-in_default : goal.path-returns-in_default
-path-returns-in_default = Rattle.cycle.proofs.+reading.Answers.Path.path-returns-in_default
+pub path-returns-in_err-None : goal.path-returns-in_err-None
+path-returns-in_err-None = Rattle.cycle.proofs.+reading.Answers.Path.path-returns-in_err-None
 
-pub path-returns-in-Not : goal.path-returns-in-Not
-path-returns-in-Not = Rattle.cycle.proofs.+reading.Answers.Path.path-returns-in-Not
+pub path-returns-in_err-token : goal.path-returns-in_err-token
+path-returns-in_err-token = Rattle.cycle.proofs.+reading.Answers.Path.path-returns-in_err-token
 
-pub prim-returns-in_default : goal.prim-returns-in_default
-prim-returns-in_default = Rattle.cycle.proofs.+reading.Answers.Prim.prim-returns-in_default
+pub prim-returns-in_err-receiver : goal.prim-returns-in_err-receiver
+prim-returns-in_err-receiver = Rattle.cycle.proofs.+reading.Answers.Prim.prim-returns-in_err-receiver
 
 pub prim-path-requires : goal.prim-path-requires
 prim-path-requires = Rattle.cycle.proofs.+reading.Answers.Prim.prim-path-requires
@@ -743,8 +743,8 @@ rhs-returns-then-depth-eq0 = Rattle.cycle.proofs.+reading.Answers.Rhs.rhs-return
 pub rhs-returns : goal.rhs-returns
 rhs-returns = Rattle.cycle.proofs.+reading.Answers.Rhs.rhs-returns
 
-pub sig-loop-kind-init : goal.sig-loop-kind-init
-sig-loop-kind-init = Rattle.cycle.proofs.+reading.Answers.Sig.sig-loop-kind-init
+pub sig-loop-look-init : goal.sig-loop-look-init
+sig-loop-look-init = Rattle.cycle.proofs.+reading.Answers.Sig.sig-loop-look-init
 
 pub sig-look-requires : goal.sig-look-requires
 sig-look-requires = Rattle.cycle.proofs.+reading.Answers.Sig.sig-look-requires
@@ -752,8 +752,8 @@ sig-look-requires = Rattle.cycle.proofs.+reading.Answers.Sig.sig-look-requires
 pub sig-params_end-requires : goal.sig-params_end-requires
 sig-params_end-requires = Rattle.cycle.proofs.+reading.Answers.Sig.sig-params_end-requires
 
-pub sig-returns-then-kind-eq-CLOSE_PAREN : goal.sig-returns-then-kind-eq-CLOSE_PAREN
-sig-returns-then-kind-eq-CLOSE_PAREN = Rattle.cycle.proofs.+reading.Answers.Sig.sig-returns-then-kind-eq-CLOSE_PAREN
+pub sig-returns-then-look-eq-CLOSE_PAREN : goal.sig-returns-then-look-eq-CLOSE_PAREN
+sig-returns-then-look-eq-CLOSE_PAREN = Rattle.cycle.proofs.+reading.Answers.Sig.sig-returns-then-look-eq-CLOSE_PAREN
 
 pub sig-param-one-requires : goal.sig-param-one-requires
 sig-param-one-requires = Rattle.cycle.proofs.+reading.Answers.Sig.sig-param-one-requires
@@ -761,17 +761,17 @@ sig-param-one-requires = Rattle.cycle.proofs.+reading.Answers.Sig.sig-param-one-
 pub sig-joined-requires : goal.sig-joined-requires
 sig-joined-requires = Rattle.cycle.proofs.+reading.Answers.Sig.sig-joined-requires
 
-pub sig-loop-kind-smaller : goal.sig-loop-kind-smaller
-sig-loop-kind-smaller = Rattle.cycle.proofs.+reading.Answers.Sig.sig-loop-kind-smaller
+pub sig-loop-look-smaller : goal.sig-loop-look-smaller
+sig-loop-look-smaller = Rattle.cycle.proofs.+reading.Answers.Sig.sig-loop-look-smaller
 
-pub sig-loop-kind-preserved : goal.sig-loop-kind-preserved
-sig-loop-kind-preserved = Rattle.cycle.proofs.+reading.Answers.Sig.sig-loop-kind-preserved
+pub sig-loop-look-preserved : goal.sig-loop-look-preserved
+sig-loop-look-preserved = Rattle.cycle.proofs.+reading.Answers.Sig.sig-loop-look-preserved
 
-pub sig-returns-in-Not-joined : goal.sig-returns-in-Not-joined
-sig-returns-in-Not-joined = Rattle.cycle.proofs.+reading.Answers.Sig.sig-returns-in-Not-joined
+pub sig-returns-in_err-look-joined : goal.sig-returns-in_err-look-joined
+sig-returns-in_err-look-joined = Rattle.cycle.proofs.+reading.Answers.Sig.sig-returns-in_err-look-joined
 
-pub sig-returns-in-Not : goal.sig-returns-in-Not
-sig-returns-in-Not = Rattle.cycle.proofs.+reading.Answers.Sig.sig-returns-in-Not
+pub sig-returns-in_err-look : goal.sig-returns-in_err-look
+sig-returns-in_err-look = Rattle.cycle.proofs.+reading.Answers.Sig.sig-returns-in_err-look
 
 pub stmt-overflow_add-pos : goal.stmt-overflow_add-pos
 stmt-overflow_add-pos = Rattle.cycle.proofs.+reading.Answers.Stmt.stmt-overflow_add-pos
@@ -803,11 +803,11 @@ stmt-label-requires = Rattle.cycle.proofs.+reading.Answers.Stmt.stmt-label-requi
 pub stmt-overflow_add-pos-in-67 : goal.stmt-overflow_add-pos-in-67
 stmt-overflow_add-pos-in-67 = Rattle.cycle.proofs.+reading.Answers.Stmt.stmt-overflow_add-pos-in-67
 
-pub stmt-expr-r-requires : goal.stmt-expr-r-requires
-stmt-expr-r-requires = Rattle.cycle.proofs.+reading.Answers.Stmt.stmt-expr-r-requires
+pub stmt-expr-expression-requires : goal.stmt-expr-expression-requires
+stmt-expr-expression-requires = Rattle.cycle.proofs.+reading.Answers.Stmt.stmt-expr-expression-requires
 
-pub stmt-returns-in_default-r : goal.stmt-returns-in_default-r
-stmt-returns-in_default-r = Rattle.cycle.proofs.+reading.Answers.Stmt.stmt-returns-in_default-r
+pub stmt-returns-in_err-expression : goal.stmt-returns-in_err-expression
+stmt-returns-in_err-expression = Rattle.cycle.proofs.+reading.Answers.Stmt.stmt-returns-in_err-expression
 
 pub stmt-emit-requires : goal.stmt-emit-requires
 stmt-emit-requires = Rattle.cycle.proofs.+reading.Answers.Stmt.stmt-emit-requires
@@ -818,8 +818,8 @@ stmt-overflow_add-result = Rattle.cycle.proofs.+reading.Answers.Stmt.stmt-overfl
 pub stmt-returns-then-is_control : goal.stmt-returns-then-is_control
 stmt-returns-then-is_control = Rattle.cycle.proofs.+reading.Answers.Stmt.stmt-returns-then-is_control
 
-pub stmt-returns-in_default-r-2 : goal.stmt-returns-in_default-r-2
-stmt-returns-in_default-r-2 = Rattle.cycle.proofs.+reading.Answers.Stmt.stmt-returns-in_default-r-2
+pub stmt-returns-in_err-expression-2 : goal.stmt-returns-in_err-expression-2
+stmt-returns-in_err-expression-2 = Rattle.cycle.proofs.+reading.Answers.Stmt.stmt-returns-in_err-expression-2
 
 pub stmt-expression_end-requires : goal.stmt-expression_end-requires
 stmt-expression_end-requires = Rattle.cycle.proofs.+reading.Answers.Stmt.stmt-expression_end-requires
@@ -842,11 +842,11 @@ stmt-returns-in-Done = Rattle.cycle.proofs.+reading.Answers.Stmt.stmt-returns-in
 pub stmt-returns-in-Done-r : goal.stmt-returns-in-Done-r
 stmt-returns-in-Done-r = Rattle.cycle.proofs.+reading.Answers.Stmt.stmt-returns-in-Done-r
 
-pub stmt-returns-in-Not : goal.stmt-returns-in-Not
-stmt-returns-in-Not = Rattle.cycle.proofs.+reading.Answers.Stmt.stmt-returns-in-Not
+pub stmt-returns-in_err-token : goal.stmt-returns-in_err-token
+stmt-returns-in_err-token = Rattle.cycle.proofs.+reading.Answers.Stmt.stmt-returns-in_err-token
 
-pub sync-loop-kind-init : goal.sync-loop-kind-init
-sync-loop-kind-init = Rattle.cycle.proofs.+reading.Answers.Sync.sync-loop-kind-init
+pub sync-loop-look-init : goal.sync-loop-look-init
+sync-loop-look-init = Rattle.cycle.proofs.+reading.Answers.Sync.sync-loop-look-init
 
 pub sync-look-requires : goal.sync-look-requires
 sync-look-requires = Rattle.cycle.proofs.+reading.Answers.Sync.sync-look-requires
@@ -860,11 +860,11 @@ sync-expr-r-requires = Rattle.cycle.proofs.+reading.Answers.Sync.sync-expr-r-req
 pub sync-returns-in-Done : goal.sync-returns-in-Done
 sync-returns-in-Done = Rattle.cycle.proofs.+reading.Answers.Sync.sync-returns-in-Done
 
-pub sync-loop-kind-smaller-in-Fail : goal.sync-loop-kind-smaller-in-Fail
-sync-loop-kind-smaller-in-Fail = Rattle.cycle.proofs.+reading.Answers.Sync.sync-loop-kind-smaller-in-Fail
+pub sync-loop-look-smaller-in-Fail : goal.sync-loop-look-smaller-in-Fail
+sync-loop-look-smaller-in-Fail = Rattle.cycle.proofs.+reading.Answers.Sync.sync-loop-look-smaller-in-Fail
 
-pub sync-loop-kind-preserved-in-Fail : goal.sync-loop-kind-preserved-in-Fail
-sync-loop-kind-preserved-in-Fail = Rattle.cycle.proofs.+reading.Answers.Sync.sync-loop-kind-preserved-in-Fail
+pub sync-loop-look-preserved-in-Fail : goal.sync-loop-look-preserved-in-Fail
+sync-loop-look-preserved-in-Fail = Rattle.cycle.proofs.+reading.Answers.Sync.sync-loop-look-preserved-in-Fail
 
 pub sync-returns-in-Stop : goal.sync-returns-in-Stop
 sync-returns-in-Stop = Rattle.cycle.proofs.+reading.Answers.Sync.sync-returns-in-Stop
@@ -872,17 +872,17 @@ sync-returns-in-Stop = Rattle.cycle.proofs.+reading.Answers.Sync.sync-returns-in
 pub sync-returns-then-f-eq-END_OF_TOKENS : goal.sync-returns-then-f-eq-END_OF_TOKENS
 sync-returns-then-f-eq-END_OF_TOKENS = Rattle.cycle.proofs.+reading.Answers.Sync.sync-returns-then-f-eq-END_OF_TOKENS
 
-pub sync-loop-kind-smaller : goal.sync-loop-kind-smaller
-sync-loop-kind-smaller = Rattle.cycle.proofs.+reading.Answers.Sync.sync-loop-kind-smaller
+pub sync-loop-look-smaller : goal.sync-loop-look-smaller
+sync-loop-look-smaller = Rattle.cycle.proofs.+reading.Answers.Sync.sync-loop-look-smaller
 
-pub sync-loop-kind-preserved : goal.sync-loop-kind-preserved
-sync-loop-kind-preserved = Rattle.cycle.proofs.+reading.Answers.Sync.sync-loop-kind-preserved
+pub sync-loop-look-preserved : goal.sync-loop-look-preserved
+sync-loop-look-preserved = Rattle.cycle.proofs.+reading.Answers.Sync.sync-loop-look-preserved
 
-pub sync-returns-in_default : goal.sync-returns-in_default
-sync-returns-in_default = Rattle.cycle.proofs.+reading.Answers.Sync.sync-returns-in_default
+pub sync-returns-in_err-None : goal.sync-returns-in_err-None
+sync-returns-in_err-None = Rattle.cycle.proofs.+reading.Answers.Sync.sync-returns-in_err-None
 
-pub table-loop-kind-init : goal.table-loop-kind-init
-table-loop-kind-init = Rattle.cycle.proofs.+reading.Answers.Table.table-loop-kind-init
+pub table-loop-look-init : goal.table-loop-look-init
+table-loop-look-init = Rattle.cycle.proofs.+reading.Answers.Table.table-loop-look-init
 
 pub table-look-requires : goal.table-look-requires
 table-look-requires = Rattle.cycle.proofs.+reading.Answers.Table.table-look-requires
@@ -893,14 +893,14 @@ table-overflow_add-result = Rattle.cycle.proofs.+reading.Answers.Table.table-ove
 pub table-list_end-requires : goal.table-list_end-requires
 table-list_end-requires = Rattle.cycle.proofs.+reading.Answers.Table.table-list_end-requires
 
-pub table-returns-then-kind-eq-CLOSE_BRACE : goal.table-returns-then-kind-eq-CLOSE_BRACE
-table-returns-then-kind-eq-CLOSE_BRACE = Rattle.cycle.proofs.+reading.Answers.Table.table-returns-then-kind-eq-CLOSE_BRACE
+pub table-returns-then-look-eq-CLOSE_BRACE : goal.table-returns-then-look-eq-CLOSE_BRACE
+table-returns-then-look-eq-CLOSE_BRACE = Rattle.cycle.proofs.+reading.Answers.Table.table-returns-then-look-eq-CLOSE_BRACE
 
-pub table-item-r-requires : goal.table-item-r-requires
-table-item-r-requires = Rattle.cycle.proofs.+reading.Answers.Table.table-item-r-requires
+pub table-item-one-requires : goal.table-item-one-requires
+table-item-one-requires = Rattle.cycle.proofs.+reading.Answers.Table.table-item-one-requires
 
-pub table-returns-in_default : goal.table-returns-in_default
-table-returns-in_default = Rattle.cycle.proofs.+reading.Answers.Table.table-returns-in_default
+pub table-returns-in_err-one : goal.table-returns-in_err-one
+table-returns-in_err-one = Rattle.cycle.proofs.+reading.Answers.Table.table-returns-in_err-one
 
 pub table-item_end-requires : goal.table-item_end-requires
 table-item_end-requires = Rattle.cycle.proofs.+reading.Answers.Table.table-item_end-requires
@@ -917,20 +917,20 @@ table-returns-then-closed-eq1 = Rattle.cycle.proofs.+reading.Answers.Table.table
 pub table-overflow_add-n-in-At : goal.table-overflow_add-n-in-At
 table-overflow_add-n-in-At = Rattle.cycle.proofs.+reading.Answers.Table.table-overflow_add-n-in-At
 
-pub table-loop-kind-smaller : goal.table-loop-kind-smaller
-table-loop-kind-smaller = Rattle.cycle.proofs.+reading.Answers.Table.table-loop-kind-smaller
+pub table-loop-look-smaller : goal.table-loop-look-smaller
+table-loop-look-smaller = Rattle.cycle.proofs.+reading.Answers.Table.table-loop-look-smaller
 
-pub table-loop-kind-preserved : goal.table-loop-kind-preserved
-table-loop-kind-preserved = Rattle.cycle.proofs.+reading.Answers.Table.table-loop-kind-preserved
+pub table-loop-look-preserved : goal.table-loop-look-preserved
+table-loop-look-preserved = Rattle.cycle.proofs.+reading.Answers.Table.table-loop-look-preserved
 
-pub table-returns-in-Not-item_end : goal.table-returns-in-Not-item_end
-table-returns-in-Not-item_end = Rattle.cycle.proofs.+reading.Answers.Table.table-returns-in-Not-item_end
+pub table-returns-in_err-look-item_end : goal.table-returns-in_err-look-item_end
+table-returns-in_err-look-item_end = Rattle.cycle.proofs.+reading.Answers.Table.table-returns-in_err-look-item_end
 
-pub table-returns-in-Not : goal.table-returns-in-Not
-table-returns-in-Not = Rattle.cycle.proofs.+reading.Answers.Table.table-returns-in-Not
+pub table-returns-in_err-look : goal.table-returns-in_err-look
+table-returns-in_err-look = Rattle.cycle.proofs.+reading.Answers.Table.table-returns-in_err-look
 
-pub tail-loop-kind-init : goal.tail-loop-kind-init
-tail-loop-kind-init = Rattle.cycle.proofs.+reading.Answers.Tail.tail-loop-kind-init
+pub tail-loop-look-init : goal.tail-loop-look-init
+tail-loop-look-init = Rattle.cycle.proofs.+reading.Answers.Tail.tail-loop-look-init
 
 pub tail-look-requires : goal.tail-look-requires
 tail-look-requires = Rattle.cycle.proofs.+reading.Answers.Tail.tail-look-requires
@@ -938,8 +938,8 @@ tail-look-requires = Rattle.cycle.proofs.+reading.Answers.Tail.tail-look-require
 pub tail-tuple_end-requires : goal.tail-tuple_end-requires
 tail-tuple_end-requires = Rattle.cycle.proofs.+reading.Answers.Tail.tail-tuple_end-requires
 
-pub tail-returns-then-kind-ne-COMMA : goal.tail-returns-then-kind-ne-COMMA
-tail-returns-then-kind-ne-COMMA = Rattle.cycle.proofs.+reading.Answers.Tail.tail-returns-then-kind-ne-COMMA
+pub tail-returns-then-look-ne-COMMA : goal.tail-returns-then-look-ne-COMMA
+tail-returns-then-look-ne-COMMA = Rattle.cycle.proofs.+reading.Answers.Tail.tail-returns-then-look-ne-COMMA
 
 pub tail-overflow_add-p : goal.tail-overflow_add-p
 tail-overflow_add-p = Rattle.cycle.proofs.+reading.Answers.Tail.tail-overflow_add-p
@@ -959,26 +959,26 @@ tail-returns-then-next-eq-CLOSE_PAREN = Rattle.cycle.proofs.+reading.Answers.Tai
 pub tail-overflow_add-p-in-Token-look : goal.tail-overflow_add-p-in-Token-look
 tail-overflow_add-p-in-Token-look = Rattle.cycle.proofs.+reading.Answers.Tail.tail-overflow_add-p-in-Token-look
 
-pub tail-binop-r-requires : goal.tail-binop-r-requires
-tail-binop-r-requires = Rattle.cycle.proofs.+reading.Answers.Tail.tail-binop-r-requires
+pub tail-binop-end-requires : goal.tail-binop-end-requires
+tail-binop-end-requires = Rattle.cycle.proofs.+reading.Answers.Tail.tail-binop-end-requires
 
-pub tail-returns-in_default : goal.tail-returns-in_default
-tail-returns-in_default = Rattle.cycle.proofs.+reading.Answers.Tail.tail-returns-in_default
+pub tail-returns-in_err-end : goal.tail-returns-in_err-end
+tail-returns-in_err-end = Rattle.cycle.proofs.+reading.Answers.Tail.tail-returns-in_err-end
 
 pub tail-overflow_add-n : goal.tail-overflow_add-n
 tail-overflow_add-n = Rattle.cycle.proofs.+reading.Answers.Tail.tail-overflow_add-n
 
-pub tail-loop-kind-smaller : goal.tail-loop-kind-smaller
-tail-loop-kind-smaller = Rattle.cycle.proofs.+reading.Answers.Tail.tail-loop-kind-smaller
+pub tail-loop-look-smaller : goal.tail-loop-look-smaller
+tail-loop-look-smaller = Rattle.cycle.proofs.+reading.Answers.Tail.tail-loop-look-smaller
 
-pub tail-loop-kind-preserved : goal.tail-loop-kind-preserved
-tail-loop-kind-preserved = Rattle.cycle.proofs.+reading.Answers.Tail.tail-loop-kind-preserved
+pub tail-loop-look-preserved : goal.tail-loop-look-preserved
+tail-loop-look-preserved = Rattle.cycle.proofs.+reading.Answers.Tail.tail-loop-look-preserved
 
-pub tail-returns-in-Not-look : goal.tail-returns-in-Not-look
-tail-returns-in-Not-look = Rattle.cycle.proofs.+reading.Answers.Tail.tail-returns-in-Not-look
+pub tail-returns-in_err-look-look : goal.tail-returns-in_err-look-look
+tail-returns-in_err-look-look = Rattle.cycle.proofs.+reading.Answers.Tail.tail-returns-in_err-look-look
 
-pub tail-returns-in-Not : goal.tail-returns-in-Not
-tail-returns-in-Not = Rattle.cycle.proofs.+reading.Answers.Tail.tail-returns-in-Not
+pub tail-returns-in_err-look : goal.tail-returns-in_err-look
+tail-returns-in_err-look = Rattle.cycle.proofs.+reading.Answers.Tail.tail-returns-in_err-look
 
 pub term-overflow_add-result : goal.term-overflow_add-result
 term-overflow_add-result = Rattle.cycle.proofs.+reading.Answers.Term.term-overflow_add-result
@@ -1004,11 +1004,11 @@ term-block-requires = Rattle.cycle.proofs.+reading.Answers.Term.term-block-requi
 pub term-overflow_add-pos-in-2 : goal.term-overflow_add-pos-in-2
 term-overflow_add-pos-in-2 = Rattle.cycle.proofs.+reading.Answers.Term.term-overflow_add-pos-in-2
 
-pub term-table-r-requires : goal.term-table-r-requires
-term-table-r-requires = Rattle.cycle.proofs.+reading.Answers.Term.term-table-r-requires
+pub term-table-items-requires : goal.term-table-items-requires
+term-table-items-requires = Rattle.cycle.proofs.+reading.Answers.Term.term-table-items-requires
 
-pub term-returns-in_default-r : goal.term-returns-in_default-r
-term-returns-in_default-r = Rattle.cycle.proofs.+reading.Answers.Term.term-returns-in_default-r
+pub term-returns-in_err-items : goal.term-returns-in_err-items
+term-returns-in_err-items = Rattle.cycle.proofs.+reading.Answers.Term.term-returns-in_err-items
 
 pub term-emit-requires : goal.term-emit-requires
 term-emit-requires = Rattle.cycle.proofs.+reading.Answers.Term.term-emit-requires
@@ -1040,14 +1040,14 @@ term-returns-in-Done = Rattle.cycle.proofs.+reading.Answers.Term.term-returns-in
 pub term-returns-in-73 : goal.term-returns-in-73
 term-returns-in-73 = Rattle.cycle.proofs.+reading.Answers.Term.term-returns-in-73
 
-pub term-returns-in_default : goal.term-returns-in_default
-term-returns-in_default = Rattle.cycle.proofs.+reading.Answers.Term.term-returns-in_default
+pub term-returns-in_err-items : goal.term-returns-in_err-items
+term-returns-in_err-items = Rattle.cycle.proofs.+reading.Answers.Term.term-returns-in_err-items
 
-pub term-returns-in-Not : goal.term-returns-in-Not
-term-returns-in-Not = Rattle.cycle.proofs.+reading.Answers.Term.term-returns-in-Not
+pub term-returns-in_err-token : goal.term-returns-in_err-token
+term-returns-in_err-token = Rattle.cycle.proofs.+reading.Answers.Term.term-returns-in_err-token
 
-pub tuple-returns-in_default : goal.tuple-returns-in_default
-tuple-returns-in_default = Rattle.cycle.proofs.+reading.Answers.Tuple.tuple-returns-in_default
+pub tuple-returns-in_err-first : goal.tuple-returns-in_err-first
+tuple-returns-in_err-first = Rattle.cycle.proofs.+reading.Answers.Tuple.tuple-returns-in_err-first
 
 pub tuple-look-requires : goal.tuple-look-requires
 tuple-look-requires = Rattle.cycle.proofs.+reading.Answers.Tuple.tuple-look-requires
@@ -1055,14 +1055,14 @@ tuple-look-requires = Rattle.cycle.proofs.+reading.Answers.Tuple.tuple-look-requ
 pub tuple-tail-requires : goal.tuple-tail-requires
 tuple-tail-requires = Rattle.cycle.proofs.+reading.Answers.Tuple.tuple-tail-requires
 
-pub tuple-returns-then-kind-eq-COMMA : goal.tuple-returns-then-kind-eq-COMMA
-tuple-returns-then-kind-eq-COMMA = Rattle.cycle.proofs.+reading.Answers.Tuple.tuple-returns-then-kind-eq-COMMA
+pub tuple-returns-then-look-eq-COMMA : goal.tuple-returns-then-look-eq-COMMA
+tuple-returns-then-look-eq-COMMA = Rattle.cycle.proofs.+reading.Answers.Tuple.tuple-returns-then-look-eq-COMMA
 
-pub tuple-returns-else-kind-eq-COMMA : goal.tuple-returns-else-kind-eq-COMMA
-tuple-returns-else-kind-eq-COMMA = Rattle.cycle.proofs.+reading.Answers.Tuple.tuple-returns-else-kind-eq-COMMA
+pub tuple-returns-else-look-eq-COMMA : goal.tuple-returns-else-look-eq-COMMA
+tuple-returns-else-look-eq-COMMA = Rattle.cycle.proofs.+reading.Answers.Tuple.tuple-returns-else-look-eq-COMMA
 
-pub tuple-returns-in-Not : goal.tuple-returns-in-Not
-tuple-returns-in-Not = Rattle.cycle.proofs.+reading.Answers.Tuple.tuple-returns-in-Not
+pub tuple-returns-in_err-look : goal.tuple-returns-in_err-look
+tuple-returns-in_err-look = Rattle.cycle.proofs.+reading.Answers.Tuple.tuple-returns-in_err-look
 
 pub turn-jump-c-requires : goal.turn-jump-c-requires
 turn-jump-c-requires = Rattle.cycle.proofs.+reading.Answers.Turn.turn-jump-c-requires
@@ -1103,11 +1103,11 @@ unop-returns-then-code-eq0 = Rattle.cycle.proofs.+reading.Answers.Unop.unop-retu
 pub unop-overflow_add-pos : goal.unop-overflow_add-pos
 unop-overflow_add-pos = Rattle.cycle.proofs.+reading.Answers.Unop.unop-overflow_add-pos
 
-pub unop-unop-r-requires : goal.unop-unop-r-requires
-unop-unop-r-requires = Rattle.cycle.proofs.+reading.Answers.Unop.unop-unop-r-requires
+pub unop-unop-operand-requires : goal.unop-unop-operand-requires
+unop-unop-operand-requires = Rattle.cycle.proofs.+reading.Answers.Unop.unop-unop-operand-requires
 
-pub unop-returns-in_default : goal.unop-returns-in_default
-unop-returns-in_default = Rattle.cycle.proofs.+reading.Answers.Unop.unop-returns-in_default
+pub unop-returns-in_err-operand : goal.unop-returns-in_err-operand
+unop-returns-in_err-operand = Rattle.cycle.proofs.+reading.Answers.Unop.unop-returns-in_err-operand
 
 pub unop-emit-requires : goal.unop-emit-requires
 unop-emit-requires = Rattle.cycle.proofs.+reading.Answers.Unop.unop-emit-requires
@@ -1115,8 +1115,8 @@ unop-emit-requires = Rattle.cycle.proofs.+reading.Answers.Unop.unop-emit-require
 pub unop-returns-in-Done : goal.unop-returns-in-Done
 unop-returns-in-Done = Rattle.cycle.proofs.+reading.Answers.Unop.unop-returns-in-Done
 
-pub unop-returns-in-Not : goal.unop-returns-in-Not
-unop-returns-in-Not = Rattle.cycle.proofs.+reading.Answers.Unop.unop-returns-in-Not
+pub unop-returns-in_err-token : goal.unop-returns-in_err-token
+unop-returns-in_err-token = Rattle.cycle.proofs.+reading.Answers.Unop.unop-returns-in_err-token
 
 pub val-emit-requires : goal.val-emit-requires
 val-emit-requires = Rattle.cycle.proofs.+reading.Answers.Val.val-emit-requires
@@ -1127,20 +1127,20 @@ val-returns-then-ends_control = Rattle.cycle.proofs.+reading.Answers.Val.val-ret
 pub val-returns-else-ends_control : goal.val-returns-else-ends_control
 val-returns-else-ends_control = Rattle.cycle.proofs.+reading.Answers.Val.val-returns-else-ends_control
 
-pub val-returns-in-Not : goal.val-returns-in-Not
-val-returns-in-Not = Rattle.cycle.proofs.+reading.Answers.Val.val-returns-in-Not
+pub val-returns-in_err-look : goal.val-returns-in_err-look
+val-returns-in_err-look = Rattle.cycle.proofs.+reading.Answers.Val.val-returns-in_err-look
 
-pub whiles-returns-in_default : goal.whiles-returns-in_default
-whiles-returns-in_default = Rattle.cycle.proofs.+reading.Answers.Whiles.whiles-returns-in_default
+pub whiles-returns-in_err-over : goal.whiles-returns-in_err-over
+whiles-returns-in_err-over = Rattle.cycle.proofs.+reading.Answers.Whiles.whiles-returns-in_err-over
 
-pub whiles-expect-s-requires : goal.whiles-expect-s-requires
-whiles-expect-s-requires = Rattle.cycle.proofs.+reading.Answers.Whiles.whiles-expect-s-requires
+pub whiles-expect-pos-requires : goal.whiles-expect-pos-requires
+whiles-expect-pos-requires = Rattle.cycle.proofs.+reading.Answers.Whiles.whiles-expect-pos-requires
 
-pub whiles-returns-in_default-s : goal.whiles-returns-in_default-s
-whiles-returns-in_default-s = Rattle.cycle.proofs.+reading.Answers.Whiles.whiles-returns-in_default-s
+pub whiles-returns-in_err-pos : goal.whiles-returns-in_err-pos
+whiles-returns-in_err-pos = Rattle.cycle.proofs.+reading.Answers.Whiles.whiles-returns-in_err-pos
 
-pub whiles-body-b-requires : goal.whiles-body-b-requires
-whiles-body-b-requires = Rattle.cycle.proofs.+reading.Answers.Whiles.whiles-body-b-requires
+pub whiles-body-statements-requires : goal.whiles-body-statements-requires
+whiles-body-statements-requires = Rattle.cycle.proofs.+reading.Answers.Whiles.whiles-body-statements-requires
 
 pub whiles-list_under-requires : goal.whiles-list_under-requires
 whiles-list_under-requires = Rattle.cycle.proofs.+reading.Answers.Whiles.whiles-list_under-requires

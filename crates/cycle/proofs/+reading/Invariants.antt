@@ -11,7 +11,10 @@ use Rattle.grammar.specs.Reading.Stmt.{stmts, synchronize}
 use Rattle.nodes.specs.Lists.{Ends}
 use Rattle.nodes.specs.Parameters.{name_bound, params_words, Fitting}
 use Rattle.operator.specs.Operator.{level_count}
-use Rattle.scan.specs.Post.{As, Moved, waiting_errors, Wrote}
+use Rattle.scan.specs.Post.{As, Moved, Wrote}
+use Rattle.scan.specs.declared.Cursor.{Cursor}
+use Rattle.scan.specs.declared.Suite.{Suite}
+use Rattle.nodes.specs.declared.Counts.{Counts}
 use Rattle.tree.specs.Tree.{Tree, records, count, all_records, none}
 use lib.ListN.{length, drop, take}
 use mathlib.Core.Bool.{Bool}
@@ -144,114 +147,114 @@ abbrev pub decreases-whiles : goal.decreases-whiles
 decreases-whiles l = span * l.depth + (level_count + 5)
 
 -- where the loop stands. What the first call read is only known by its text, so this is said for any tree t₀ with that text
-pub record GoingBinop (T S₀ Q₀ : List ℕ) (depth l pos at p₀ a₀ w₀ : ℕ) (S Q : List ℕ) (p a w : ℕ) : Type 0 where
+pub record GoingBinop (T S₀ Q₀ : List ℕ) (depth l pos at : ℕ) (first : Cursor) (S Q : List ℕ) (left : Cursor) : Type 0 where
   pub fuel : ℕ
-  pub enough : length T ≤ p + fuel
-  pub run : (t₀ : Tree) → take a₀ S₀ ≡ take at S₀ ++ records t₀ → Wrote records (climb (at_depth depth) l (length (drop p₀ T)) t₀ (waiting_errors w₀ Q₀) (drop p₀ T)) (climb (at_depth depth) l fuel) T pos (pos + 2) 20 at w₀ S₀ Q₀ p a w S Q
+  pub enough : length T ≤ left.pos + fuel
+  pub run : (t₀ : Tree) → take first.at S₀ ≡ take at S₀ ++ records t₀ → Wrote records (climb (at_depth depth) l (length (drop first.pos T)) t₀ Q₀ (drop first.pos T)) (climb (at_depth depth) l fuel) T pos (pos + 2) 20 at S₀ Q₀ left.pos left.at S Q
   pub kept : length S ≡ length S₀
 
-abbrev pub invariant-binop-loop-kind : goal.invariant-binop-loop-kind
-invariant-binop-loop-kind l = GoingBinop l.tokens l.initial.store l.initial.queue l.depth l.level l.pos l.at l.p0 l.a0 l.w0 l.store l.queue l.p l.a l.w
+abbrev pub invariant-binop-loop-token : goal.invariant-binop-loop-token
+invariant-binop-loop-token l = GoingBinop l.tokens l.initial.store l.initial.queue l.depth l.level l.cursor.pos l.cursor.at l.initial.left l.store l.queue l.left
 
-abbrev pub decreases-binop-loop-kind : goal.decreases-binop-loop-kind
-decreases-binop-loop-kind l = length l.tokens - l.p
+abbrev pub decreases-binop-loop-token : goal.decreases-binop-loop-token
+decreases-binop-loop-token l = length l.tokens - l.left.pos
 
-abbrev pub invariant-cond-loop-p1 : goal.invariant-cond-loop-p1
-invariant-cond-loop-p1 l = Going l.tokens l.initial.store l.initial.queue l.depth l.pos l.at l.waiting l.store l.queue l.p l.a l.w l.n
+abbrev pub invariant-cond-loop-branch : goal.invariant-cond-loop-branch
+invariant-cond-loop-branch l = Going l.tokens l.initial.store l.initial.queue l.depth l.cursor.pos l.cursor.at l.store l.queue l.end.pos l.end.at l.n
 
-abbrev pub decreases-cond-loop-p1 : goal.decreases-cond-loop-p1
-decreases-cond-loop-p1 l = length l.tokens - l.p
+abbrev pub decreases-cond-loop-branch : goal.decreases-cond-loop-branch
+decreases-cond-loop-branch l = length l.tokens - l.end.pos
 
 -- where the loop stands: the whole is what `stmts` makes of the n statements that are written so far
-pub record GoingList (T S₀ Q₀ : List ℕ) (depth end pos at waiting : ℕ) (S Q : List ℕ) (p a w n last : ℕ) : Type 0 where
+pub record GoingList (T S₀ Q₀ : List ℕ) (depth end pos at : ℕ) (S Q : List ℕ) (suite : Suite) : Type 0 where
   pub fuel : ℕ
-  pub enough : length T ≤ p + fuel
-  pub run : Wrote all_records ((at_depth depth).list end (waiting_errors waiting Q₀) (drop pos T)) (stmts (at_depth (depth - 1)) end fuel) T pos pos 8 at waiting S₀ Q₀ p a w S Q
-  pub many : count run.what ≡ n
-  pub short : 2 * n ≤ p
-  pub back : last ≤ a
-  pub ending : Ends run.what at a last
+  pub enough : length T ≤ suite.end.pos + fuel
+  pub run : Wrote all_records ((at_depth depth).list end Q₀ (drop pos T)) (stmts (at_depth (depth - 1)) end fuel) T pos pos 8 at S₀ Q₀ suite.end.pos suite.end.at S Q
+  pub many : count run.what ≡ suite.count
+  pub short : 2 * suite.count ≤ suite.end.pos
+  pub back : suite.last ≤ suite.end.at
+  pub ending : Ends run.what at suite.end.at suite.last
   pub kept : length S ≡ length S₀
 
-abbrev pub invariant-list-loop-kind : goal.invariant-list-loop-kind
-invariant-list-loop-kind l = GoingList l.tokens l.initial.store l.initial.queue l.depth l.end l.pos l.at l.waiting l.store l.queue l.p l.a l.w l.n l.last
+abbrev pub invariant-list-loop-token : goal.invariant-list-loop-token
+invariant-list-loop-token l = GoingList l.tokens l.initial.store l.initial.queue l.depth l.end l.cursor.pos l.cursor.at l.store l.queue l.suite
 
-abbrev pub decreases-list-loop-kind : goal.decreases-list-loop-kind
-decreases-list-loop-kind l = length l.tokens - l.p
+abbrev pub decreases-list-loop-token : goal.decreases-list-loop-token
+decreases-list-loop-token l = length l.tokens - l.suite.end.pos
 
 -- where the loop stands: the whole is what `path` makes of the n items that are written so far; the token before each of these has left 14 words
-pub record GoingPath (T S₀ Q₀ : List ℕ) (depth : ℕ) (calls : Bool) (pos at waiting : ℕ) (S Q : List ℕ) (p a w n : ℕ) : Type 0 where
+pub record GoingPath (T S₀ Q₀ : List ℕ) (depth : ℕ) (calls : Bool) (pos at : ℕ) (S Q : List ℕ) (p a n : ℕ) : Type 0 where
   pub fuel : ℕ
   pub enough : length T ≤ p + fuel
-  pub run : Wrote all_records (path_def (at_depth depth) calls (length (drop pos T)) none (waiting_errors waiting Q₀) (drop pos T)) (path_def (at_depth depth) calls fuel) T pos pos 8 at waiting S₀ Q₀ p a w S Q
+  pub run : Wrote all_records (path_def (at_depth depth) calls (length (drop pos T)) none Q₀ (drop pos T)) (path_def (at_depth depth) calls fuel) T pos pos 8 at S₀ Q₀ p a S Q
   pub many : count run.what ≡ n
   pub short : 2 * n ≤ p
   pub spare : a + 8 * pos + 14 * n ≤ at + 8 * p
   pub kept : length S ≡ length S₀
 
-abbrev pub invariant-path-loop-kind : goal.invariant-path-loop-kind
-invariant-path-loop-kind l = GoingPath l.tokens l.initial.store l.initial.queue l.depth l.calls l.pos l.at l.waiting l.store l.queue l.p l.a l.w l.n
+abbrev pub invariant-path-loop-token : goal.invariant-path-loop-token
+invariant-path-loop-token l = GoingPath l.tokens l.initial.store l.initial.queue l.depth l.calls l.cursor.pos l.cursor.at l.store l.queue l.end.pos l.end.at l.n
 
-abbrev pub decreases-path-loop-kind : goal.decreases-path-loop-kind
-decreases-path-loop-kind l = length l.tokens - l.p
+abbrev pub decreases-path-loop-token : goal.decreases-path-loop-token
+decreases-path-loop-token l = length l.tokens - l.end.pos
 
 -- where the loop stands
-pub record GoingSig (T S₀ Q₀ : List ℕ) (depth pos at waiting : ℕ) (S Q : List ℕ) (p a w m n v : ℕ) : Type 0 where
+pub record GoingSig (T S₀ Q₀ : List ℕ) (depth pos at : ℕ) (S Q : List ℕ) (p a : ℕ) (c : Counts) : Type 0 where
   pub fuel : ℕ
   pub enough : length T ≤ p + fuel
-  pub run : Wrote params_words (function_param_list (at_depth depth) (waiting_errors waiting Q₀) (drop pos T)) (params (at_depth depth) fuel) T pos pos 8 at waiting S₀ Q₀ p a w S Q
-  pub fits : Fitting run.what m n v
-  pub few : 2 * (m + n) ≤ p
-  pub below : v ≤ name_bound
+  pub run : Wrote params_words (function_param_list (at_depth depth) Q₀ (drop pos T)) (params (at_depth depth) fuel) T pos pos 8 at S₀ Q₀ p a S Q
+  pub fits : Fitting run.what c
+  pub few : 2 * (c.required + c.default) ≤ p
+  pub below : c.variadic ≤ name_bound
   pub kept : length S ≡ length S₀
 
-abbrev pub invariant-sig-loop-kind : goal.invariant-sig-loop-kind
-invariant-sig-loop-kind l = GoingSig l.tokens l.initial.store l.initial.queue l.depth l.pos l.at l.waiting l.store l.queue l.p l.a l.w l.required l.default l.variadic
+abbrev pub invariant-sig-loop-look : goal.invariant-sig-loop-look
+invariant-sig-loop-look l = GoingSig l.tokens l.initial.store l.initial.queue l.depth l.cursor.pos l.cursor.at l.store l.queue l.end.pos l.end.at l.counts
 
-abbrev pub decreases-sig-loop-kind : goal.decreases-sig-loop-kind
-decreases-sig-loop-kind l = length l.tokens - l.p
+abbrev pub decreases-sig-loop-look : goal.decreases-sig-loop-look
+decreases-sig-loop-look l = length l.tokens - l.end.pos
 
 -- where the loop stands: the whole is what resynchronizing from here makes
-pub record GoingSync (T S₀ Q₀ : List ℕ) (depth pos at waiting : ℕ) (inside : Bool) (S Q : List ℕ) (p w : ℕ) : Type 0 where
+pub record GoingSync (T S₀ Q₀ : List ℕ) (depth pos at : ℕ) (inside : Bool) (S Q : List ℕ) (p : ℕ) : Type 0 where
   pub fuel : ℕ
   pub enough : length T ≤ p + fuel
-  pub same : As (waiting_errors waiting Q₀) (synchronize (at_depth depth) inside (length (drop pos T)) (waiting_errors waiting Q₀) (drop pos T)) (waiting_errors w Q) (synchronize (at_depth depth) inside fuel (waiting_errors w Q) (drop p T))
-  pub moved : Moved (length T) pos waiting p w (length Q)
+  pub same : As Q₀ (synchronize (at_depth depth) inside (length (drop pos T)) Q₀ (drop pos T)) Q (synchronize (at_depth depth) inside fuel Q (drop p T))
+  pub moved : Moved (length T) pos p Q₀ Q
   pub text : take at S ≡ take at S₀
   pub kept : length S ≡ length S₀
 
-abbrev pub invariant-sync-loop-kind : goal.invariant-sync-loop-kind
-invariant-sync-loop-kind l = GoingSync l.tokens l.initial.store l.initial.queue l.depth l.pos l.at l.waiting l.inside l.store l.queue l.p l.w
+abbrev pub invariant-sync-loop-token : goal.invariant-sync-loop-token
+invariant-sync-loop-token l = GoingSync l.tokens l.initial.store l.initial.queue l.depth l.cursor.pos l.cursor.at l.inside l.store l.queue l.pos
 
-abbrev pub decreases-sync-loop-kind : goal.decreases-sync-loop-kind
-decreases-sync-loop-kind l = length l.tokens - l.p
+abbrev pub decreases-sync-loop-token : goal.decreases-sync-loop-token
+decreases-sync-loop-token l = length l.tokens - l.pos
 
 -- where the loop stands: the whole is what `table_items` makes of the n items that are written so far
-pub record GoingTable (T S₀ Q₀ : List ℕ) (depth pos at waiting : ℕ) (S Q : List ℕ) (p a w n : ℕ) : Type 0 where
+pub record GoingTable (T S₀ Q₀ : List ℕ) (depth pos at : ℕ) (S Q : List ℕ) (p a n : ℕ) : Type 0 where
   pub fuel : ℕ
   pub enough : length T ≤ p + fuel
-  pub run : Wrote all_records (table_literal (at_depth depth) (waiting_errors waiting Q₀) (drop pos T)) (table_items (at_depth depth) fuel) T pos pos 8 at waiting S₀ Q₀ p a w S Q
+  pub run : Wrote all_records (table_literal (at_depth depth) Q₀ (drop pos T)) (table_items (at_depth depth) fuel) T pos pos 8 at S₀ Q₀ p a S Q
   pub many : count run.what ≡ n
   pub short : 2 * n ≤ p
   pub kept : length S ≡ length S₀
 
-abbrev pub invariant-table-loop-kind : goal.invariant-table-loop-kind
-invariant-table-loop-kind l = GoingTable l.tokens l.initial.store l.initial.queue l.depth l.pos l.at l.waiting l.store l.queue l.p l.a l.w l.n
+abbrev pub invariant-table-loop-look : goal.invariant-table-loop-look
+invariant-table-loop-look l = GoingTable l.tokens l.initial.store l.initial.queue l.depth l.cursor.pos l.cursor.at l.store l.queue l.end.pos l.end.at l.n
 
-abbrev pub decreases-table-loop-kind : goal.decreases-table-loop-kind
-decreases-table-loop-kind l = length l.tokens - l.p
+abbrev pub decreases-table-loop-look : goal.decreases-table-loop-look
+decreases-table-loop-look l = length l.tokens - l.end.pos
 
 -- where the loop stands
-pub record GoingTail (T S₀ Q₀ : List ℕ) (depth pos at waiting : ℕ) (S Q : List ℕ) (p a w n : ℕ) : Type 0 where
+pub record GoingTail (T S₀ Q₀ : List ℕ) (depth pos at : ℕ) (S Q : List ℕ) (p a n : ℕ) : Type 0 where
   pub fuel : ℕ
   pub enough : length T ≤ p + fuel
-  pub run : Wrote all_records (tail (at_depth depth) (length (drop pos T)) none (waiting_errors waiting Q₀) (drop pos T)) (tail (at_depth depth) fuel) T pos pos 8 at waiting S₀ Q₀ p a w S Q
+  pub run : Wrote all_records (tail (at_depth depth) (length (drop pos T)) none Q₀ (drop pos T)) (tail (at_depth depth) fuel) T pos pos 8 at S₀ Q₀ p a S Q
   pub many : suc (count run.what) ≡ n
   pub few : 2 * n ≤ p + 2
   pub kept : length S ≡ length S₀
 
-abbrev pub invariant-tail-loop-kind : goal.invariant-tail-loop-kind
-invariant-tail-loop-kind l = GoingTail l.tokens l.initial.store l.initial.queue l.depth l.pos l.at l.waiting l.store l.queue l.p l.a l.w l.n
+abbrev pub invariant-tail-loop-look : goal.invariant-tail-loop-look
+invariant-tail-loop-look l = GoingTail l.tokens l.initial.store l.initial.queue l.depth l.cursor.pos l.cursor.at l.store l.queue l.end.pos l.end.at l.n
 
-abbrev pub decreases-tail-loop-kind : goal.decreases-tail-loop-kind
-decreases-tail-loop-kind l = length l.tokens - l.p
+abbrev pub decreases-tail-loop-look : goal.decreases-tail-loop-look
+decreases-tail-loop-look l = length l.tokens - l.end.pos

@@ -12,4 +12,4 @@ returns-then-e-eq-END c = rw (eq-eqb _ _ c.if-e-eq-END.true)
 
 pub returns : goal.returns
 unfolding error_answer ifb
-returns c = rw (ne_eqb _ _ c.if-e-eq-END.false) (ap Error c.error_kind.ensures)
+returns c = rw (ne_eqb _ _ c.if-e-eq-END.false) (ap Error c.from.ensures)

@@ -3,21 +3,20 @@ use mathlib.Core.Path.{refl, ◌∙◌}
 use Prim.Native.Nat.{◌-◌}
 use native.Mathlib.Omega.{arith}
 use lib.ListN.{length, drop, length-drop}
-use Rattle.scan.proofs.Laws.{way, here, link, goes, done, undone, did_not, taken, not_taken, fails, fails_unseen, as_agrees, anew, prefix, rebased, relabel, home}
+use Rattle.scan.proofs.Laws.{handed, way, here, link, goes, done, undone, did_not, taken, fails, fails_unseen, as_agrees, prefix, rebased, relabel, home}
 use Rattle.nodes.proofs.Made.{made_two}
 use Rattle.cycle.proofs.Climb.{binop_step, climb_looks, climb_ends, climb_takes}
 use Rattle.cycle.proofs.PathsExpr.{binop_unary}
-use Rattle.scan.proofs.Variants.{not_done}
 use Rattle.cycle.proofs.+reading.Goals as goal
 
 pub binop-returns-then-level-eq-PRECEDENCE_END : goal.binop-returns-then-level-eq-PRECEDENCE_END
 binop-returns-then-level-eq-PRECEDENCE_END t c = as_agrees (binop_unary _ _ _ _ c.if-level-eq-PRECEDENCE_END.true) c.unop.ensures
 
-pub binop-returns-in_default : goal.binop-returns-in_default
-binop-returns-in_default t c = anew c.again.ensures (did_not (fails _ (way _ (binop_step _ _ _ _ c.if-level-eq-PRECEDENCE_END.false)) (undone (not_done c.in_default.not-Done) c.unop-first.ensures) refl (omega arith)))
+pub binop-returns-in_err-left : goal.binop-returns-in_err-left
+binop-returns-in_err-left t c = rw (handed c.from_residual-in_err-left.ensures.1) (did_not (fails _ (way _ (binop_step _ _ _ _ c.if-level-eq-PRECEDENCE_END.false)) (undone c.in_err-left.ensures) refl (omega arith)))
 
-pub binop-loop-kind-init : goal.binop-loop-kind-init
-binop-loop-kind-init t c = let f = done c.in-Done.is c.unop-first.ensures in
+pub binop-loop-token-init : goal.binop-loop-token-init
+binop-loop-token-init t c = let f = done c.in_ok-left.ensures in
     record {
       fuel = length (drop c.in-Done.p0 c.args.tokens.now);
       enough = rw length-drop (omega arith);
@@ -26,25 +25,25 @@ binop-loop-kind-init t c = let f = done c.in-Done.is c.unop-first.ensures in
     }
 
 pub binop-look-requires : goal.binop-look-requires
-binop-look-requires t c = let f = done c.in-Done.is c.unop-first.ensures in
-    let i = c.loop-kind.invariant in
+binop-look-requires t c = let f = done c.in_ok-left.ensures in
+    let i = c.loop-token.invariant in
     let g = i.run f.what (rebased f (omega (arith, c.requires))) in
     g.moved.within
 
 pub binop-returns-then-l-eq0 : goal.binop-returns-then-l-eq0
-binop-returns-then-l-eq0 t c = let f = done c.in-Done.is c.unop-first.ensures in
+binop-returns-then-l-eq0 t c = let f = done c.in_ok-left.ensures in
     let path = goes _ (way _ (binop_step _ _ _ _ c.if-level-eq-PRECEDENCE_END.false)) f.same in
-    let i = c.loop-kind.invariant in
+    let i = c.loop-token.invariant in
     let g = i.run f.what (rebased f (omega (arith, c.requires))) in
-    let tk = taken c.in-Token.is c.look.ensures in
+    let tk = taken c.in_ok-token.ensures in
     record { how = home path (prefix f (omega arith)) f.moved.more (relabel g g.what refl (link g.same (way _ (climb_ends _ _ g.what _ i.fuel _ i.enough tk c.op_level-l.ensures (λ h. absurd (h c.if-l-eq0.true))))) g.moved g.room) }
 
 pub binop-returns-then-level-l : goal.binop-returns-then-level-l
-binop-returns-then-level-l t c = let f = done c.in-Done.is c.unop-first.ensures in
+binop-returns-then-level-l t c = let f = done c.in_ok-left.ensures in
     let path = goes _ (way _ (binop_step _ _ _ _ c.if-level-eq-PRECEDENCE_END.false)) f.same in
-    let i = c.loop-kind.invariant in
+    let i = c.loop-token.invariant in
     let g = i.run f.what (rebased f (omega (arith, c.requires))) in
-    let tk = taken c.in-Token.is c.look.ensures in
+    let tk = taken c.in_ok-token.ensures in
     record { how = home path (prefix f (omega arith)) f.moved.more (relabel g g.what refl (link g.same (way _ (climb_ends _ _ g.what _ i.fuel _ i.enough tk c.op_level-l.ensures (λ h. c.if-level-l.true)))) g.moved g.room) }
 
 pub binop-overflow_sub-l : goal.binop-overflow_sub-l
@@ -52,36 +51,36 @@ binop-overflow_sub-l t c = let n = c.if-l-eq0.false in
     omega arith
 
 pub binop-overflow_add-p : goal.binop-overflow_add-p
-binop-overflow_add-p t c = let tk = taken c.in-Token.is c.look.ensures in
+binop-overflow_add-p t c = let tk = taken c.in_ok-token.ensures in
     omega arith
 
-pub binop-binop-r-requires : goal.binop-binop-r-requires
-binop-binop-r-requires t c = let f = done c.in-Done.is c.unop-first.ensures in
-    let i = c.loop-kind.invariant in
+pub binop-binop-right-requires : goal.binop-binop-right-requires
+binop-binop-right-requires t c = let f = done c.in_ok-left.ensures in
+    let i = c.loop-token.invariant in
     let g = i.run f.what (rebased f (omega (arith, c.requires))) in
-    let tk = taken c.in-Token.is c.look.ensures in
+    let tk = taken c.in_ok-token.ensures in
     let n = c.if-l-eq0.false in
     let m = c.if-level-l.false in
     omega (arith, c.requires)
 
 pub binop-emit-a-requires : goal.binop-emit-a-requires
-binop-emit-a-requires t c = let f = done c.in-Done.is c.unop-first.ensures in
-    let i = c.loop-kind.invariant in
+binop-emit-a-requires t c = let f = done c.in_ok-left.ensures in
+    let i = c.loop-token.invariant in
     let g = i.run f.what (rebased f (omega (arith, c.requires))) in
-    let tk = taken c.in-Token.is c.look.ensures in
-    let w = done c.in-Done-r.is c.binop-r.ensures in
-    omega (arith, c.requires, c.unop-first.auto.store, f.moved, f.room, g.moved, g.room, i.kept, tk.within, w.moved, w.room, c.binop-r.auto.store)
+    let tk = taken c.in_ok-token.ensures in
+    let w = done c.in_ok-right.ensures in
+    omega (arith, c.requires, c.unop-left.auto.store, f.moved, f.room, g.moved, g.room, i.kept, tk.within, w.moved, w.room, c.binop-right.auto.store)
 
-pub binop-loop-kind-smaller : goal.binop-loop-kind-smaller
-binop-loop-kind-smaller t c = let tk = taken c.in-Token.is c.look.ensures in
-    let w = done c.in-Done-r.is c.binop-r.ensures in
+pub binop-loop-token-smaller : goal.binop-loop-token-smaller
+binop-loop-token-smaller t c = let tk = taken c.in_ok-token.ensures in
+    let w = done c.in_ok-right.ensures in
     omega arith
 
-pub binop-loop-kind-preserved : goal.binop-loop-kind-preserved
-binop-loop-kind-preserved t c = let f = done c.in-Done.is c.unop-first.ensures in
-    let i = c.loop-kind.invariant in
-    let tk = taken c.in-Token.is c.look.ensures in
-    let w = done c.in-Done-r.is c.binop-r.ensures in
+pub binop-loop-token-preserved : goal.binop-loop-token-preserved
+binop-loop-token-preserved t c = let f = done c.in_ok-left.ensures in
+    let i = c.loop-token.invariant in
+    let tk = taken c.in_ok-token.ensures in
+    let w = done c.in_ok-right.ensures in
     let e = c.emit-a.ensures in
     record {
       fuel = i.fuel - 1;
@@ -90,18 +89,18 @@ binop-loop-kind-preserved t c = let f = done c.in-Done.is c.unop-first.ensures i
       kept = omega arith;
     }
 
-pub binop-returns-in_default-r : goal.binop-returns-in_default-r
-binop-returns-in_default-r t c = let f = done c.in-Done.is c.unop-first.ensures in
+pub binop-returns-in_err-right : goal.binop-returns-in_err-right
+binop-returns-in_err-right t c = let f = done c.in_ok-left.ensures in
     let path = goes _ (way _ (binop_step _ _ _ _ c.if-level-eq-PRECEDENCE_END.false)) f.same in
-    let i = c.loop-kind.invariant in
+    let i = c.loop-token.invariant in
     let g = i.run f.what (rebased f (omega (arith, c.requires))) in
-    let tk = taken c.in-Token.is c.look.ensures in
+    let tk = taken c.in_ok-token.ensures in
     let on = link g.same (way _ (climb_takes _ _ g.what _ i.fuel _ i.enough tk c.op_level-l.ensures c.if-l-eq0.false c.if-level-l.false (refl))) in
-    anew c.again-in_default-r.ensures (did_not (fails _ (link path on) (undone (not_done c.in_default-r.not-Done) c.binop-r.ensures) (prefix g (omega (arith, c.requires, c.unop-first.auto.store, f.moved, f.room, g.moved, g.room, tk.within)) ∙ prefix f (omega (arith, c.requires, c.unop-first.auto.store, f.moved, f.room, g.moved, g.room, tk.within))) (omega (arith, c.requires, c.unop-first.auto.store, f.moved, f.room, g.moved, g.room, tk.within))))
+    rw (handed c.from_residual-in_err-right.ensures.1) (did_not (fails _ (link path on) (undone c.in_err-right.ensures) (prefix g (omega (arith, c.requires, c.unop-left.auto.store, f.moved, f.room, g.moved, g.room, tk.within)) ∙ prefix f (omega (arith, c.requires, c.unop-left.auto.store, f.moved, f.room, g.moved, g.room, tk.within))) (omega (arith, c.requires, c.unop-left.auto.store, f.moved, f.room, g.moved, g.room, tk.within))))
 
-pub binop-returns-in-Not : goal.binop-returns-in-Not
-binop-returns-in-Not t c = let f = done c.in-Done.is c.unop-first.ensures in
+pub binop-returns-in_err-token : goal.binop-returns-in_err-token
+binop-returns-in_err-token t c = let f = done c.in_ok-left.ensures in
     let path = goes _ (way _ (binop_step _ _ _ _ c.if-level-eq-PRECEDENCE_END.false)) f.same in
-    let i = c.loop-kind.invariant in
+    let i = c.loop-token.invariant in
     let g = i.run f.what (rebased f (omega (arith, c.requires))) in
-    did_not (fails_unseen (link path g.same) (climb_looks _ _ g.what _ _ i.fuel _ i.enough) (not_taken c.in-Not.is c.look.ensures) (prefix g (omega arith) ∙ prefix f (omega arith)) (omega arith))
+    rw (handed c.from_residual-in_err-token.ensures.1) (did_not (fails_unseen (link path g.same) (climb_looks _ _ g.what _ _ i.fuel _ i.enough) c.in_err-token.ensures (prefix g (omega arith) ∙ prefix f (omega arith)) (omega arith)))

@@ -1,38 +1,37 @@
 -- What is left to show of `cycle::dest` in its cycle of calls. Assumes nothing.
 use mathlib.Core.Path.{refl, ◌∙◌}
 use native.Mathlib.Omega.{arith}
-use Rattle.scan.proofs.Laws.{way, goes, done, undone, did_not, shorter, fails, prefix}
+use Rattle.scan.proofs.Laws.{handed, way, goes, done, undone, did_not, shorter, fails, prefix}
 use Rattle.cycle.proofs.PathsFunction.{target_step, target_stands}
 use Rattle.cycle.proofs.Writing.{written}
 use Rattle.grammar.specs.Reading.Primary.{with_path}
-use Rattle.scan.proofs.Variants.{not_done}
 use Rattle.cycle.proofs.+reading.Goals as goal
 
-pub dest-returns-in_default : goal.dest-returns-in_default
-dest-returns-in_default t c = let path = way _ (target_step _ _ _) in
-    did_not (fails _ path (undone (not_done c.in_default.not-Done) c.atom-r.ensures) refl (omega (arith, c.requires)))
+pub dest-returns-in_err-receiver : goal.dest-returns-in_err-receiver
+dest-returns-in_err-receiver t c = let path = way _ (target_step _ _ _) in
+    rw (handed c.from_residual-in_err-receiver.ensures.1) (did_not (fails _ path (undone c.in_err-receiver.ensures) refl (omega (arith, c.requires))))
 
-pub dest-path-s-requires : goal.dest-path-s-requires
-dest-path-s-requires t c = let g = done c.in-Done.is c.atom-r.ensures in
+pub dest-path-target-requires : goal.dest-path-target-requires
+dest-path-target-requires t c = let g = done c.in_ok-receiver.ensures in
     omega arith
 
-pub dest-returns-in_default-s : goal.dest-returns-in_default-s
-dest-returns-in_default-s t c = let g = done c.in-Done.is c.atom-r.ensures in
+pub dest-returns-in_err-target : goal.dest-returns-in_err-target
+dest-returns-in_err-target t c = let g = done c.in_ok-receiver.ensures in
     let path = way _ (target_step _ _ _) in
     let on = goes _ path g.same in
-    did_not (fails _ on (undone (not_done c.in_default-s.not-Done) c.path-s.ensures) (prefix g (omega (arith, c.requires))) (omega (arith, c.requires)))
+    rw (handed c.from_residual-in_err-target.ensures.1) (did_not (fails _ on (undone c.in_err-target.ensures) (prefix g (omega (arith, c.requires))) (omega (arith, c.requires))))
 
 pub dest-expect_pattern-requires : goal.dest-expect_pattern-requires
-dest-expect_pattern-requires t c = let g = done c.in-Done.is c.atom-r.ensures in
-    let h = done c.in-Done-s.is c.path-s.ensures in
+dest-expect_pattern-requires t c = let g = done c.in_ok-receiver.ensures in
+    let h = done c.in_ok-target.ensures in
     record { tree = with_path g.what h.what; whole = target_stands c.args.depth g h (omega (arith, c.requires)) (omega (arith, c.requires)) (omega (arith, c.requires)) }
 
 pub dest-returns : goal.dest-returns
-dest-returns t c = let g = done c.in-Done.is c.atom-r.ensures in
-    let h = done c.in-Done-s.is c.path-s.ensures in
+dest-returns t c = let g = done c.in_ok-receiver.ensures in
+    let h = done c.in_ok-target.ensures in
     let path = way _ (target_step _ _ _) in
     let on = goes _ path g.same in
     let wh = target_stands c.args.depth g h (omega (arith, c.requires)) (omega (arith, c.requires)) (omega (arith, c.requires)) in
-    let at = c.args.at in
+    let at = c.args.cursor.at in
     let before = shorter _ _ at _ g.room.up (prefix h (omega (arith, c.requires))) ∙ prefix g (omega (arith, c.requires)) in
     written (c.expect_pattern.ensures (with_path g.what h.what) c.args.tokens.now wh h.moved.within) before (goes _ on h.same) before (omega (arith, c.requires, g.moved, g.room, h.moved, h.room))

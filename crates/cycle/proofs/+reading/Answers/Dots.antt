@@ -3,34 +3,33 @@ use mathlib.Core.Path.{refl}
 use native.Mathlib.Omega.{arith}
 use lib.ListN.{take}
 use Rattle.tree.specs.Node
-use Rattle.scan.proofs.Laws.{way, here, link, goes, done, undone, did_not, taken, not_taken, fails, fails_unseen, anew, prefix, relabel}
+use Rattle.scan.proofs.Laws.{handed, way, here, link, goes, done, undone, did_not, taken, fails, fails_unseen, prefix, relabel}
 use Rattle.cycle.proofs.PathsPrimary.{unpack_looks, dots_looks, unpack_lone, unpack_some, dots_more, dots_none}
 use Rattle.cycle.proofs.Shapes.{given}
 use Rattle.cycle.proofs.Writing.{written, taller}
 use Rattle.grammar.proofs.Laws.Levels.Nonterminals.{depth_levels, primary_leveled}
-use Rattle.scan.proofs.Variants.{not_done}
 use Rattle.cycle.proofs.+reading.Goals as goal
 
 pub dots-overflow_add-result : goal.dots-overflow_add-result
-dots-overflow_add-result t c = let tk = taken c.in-Token.is c.look.ensures in
+dots-overflow_add-result t c = let tk = taken c.in_ok-token.ensures in
     omega arith
 
 pub dots-lone_unpack-requires : goal.dots-lone_unpack-requires
-dots-lone_unpack-requires t c = let tk = taken c.in-Token.is c.look.ensures in
+dots-lone_unpack-requires t c = let tk = taken c.in_ok-token.ensures in
     omega arith
 
-pub dots-returns-then-kind-eq-ELLIPSIS : goal.dots-returns-then-kind-eq-ELLIPSIS
-dots-returns-then-kind-eq-ELLIPSIS t c = let tk = taken c.in-Token.is c.look.ensures in
+pub dots-returns-then-token-eq-ELLIPSIS : goal.dots-returns-then-token-eq-ELLIPSIS
+dots-returns-then-token-eq-ELLIPSIS t c = let tk = taken c.in_ok-token.ensures in
     let e = c.lone_unpack.ensures in
-    record { how = record { what = Node.unpack Node.absent; same = way _ (unpack_lone _ _ tk c.if-kind-eq-ELLIPSIS.true); moved = omega (arith, c.requires, tk.within); room = omega (arith, e.up, e.far); text = e.text } }
+    record { how = record { what = Node.unpack Node.absent; same = way _ (unpack_lone _ _ tk c.if-token-eq-ELLIPSIS.true); moved = omega (arith, c.requires, tk.within); room = omega (arith, e.up, e.far); text = e.text } }
 
-pub dots-returns-in_default : goal.dots-returns-in_default
-dots-returns-in_default t c = let tk = taken c.in-Token.is c.look.ensures in
-    let path = way _ (unpack_some _ _ tk c.if-kind-eq-ELLIPSIS.false) in
-    anew c.again.ensures (did_not (fails _ path (undone (not_done c.in_default.not-Done) c.prim-r.ensures) refl (omega arith)))
+pub dots-returns-in_err-operand : goal.dots-returns-in_err-operand
+dots-returns-in_err-operand t c = let tk = taken c.in_ok-token.ensures in
+    let path = way _ (unpack_some _ _ tk c.if-token-eq-ELLIPSIS.false) in
+    rw (handed c.from_residual-in_err-operand.ensures.1) (did_not (fails _ path (undone c.in_err-operand.ensures) refl (omega arith)))
 
 pub dots-look-requires-in-Token : goal.dots-look-requires-in-Token
-dots-look-requires-in-Token t c = let w = done c.in-Done.is c.prim-r.ensures in
+dots-look-requires-in-Token t c = let w = done c.in_ok-operand.ensures in
     w.moved.within
 
 pub dots-overflow_add-p : goal.dots-overflow_add-p
@@ -38,33 +37,33 @@ dots-overflow_add-p t c = let tk2 = taken c.in-Token-look.is c.look-in-Token.ens
     omega arith
 
 pub dots-unpack_end-requires : goal.dots-unpack_end-requires
-dots-unpack_end-requires t c = let w = done c.in-Done.is c.prim-r.ensures in
+dots-unpack_end-requires t c = let w = done c.in_ok-operand.ensures in
     let tk2 = taken c.in-Token-look.is c.look-in-Token.ensures in
     let l = taller w (omega (arith, c.requires)) in
-    (omega arith, omega (arith, c.requires, w.moved, w.room, tk2.within, c.prim-r.auto.store))
+    (omega arith, omega (arith, c.requires, w.moved, w.room, tk2.within, c.prim-operand.auto.store))
 
 pub dots-returns-then-next-eq-ELLIPSIS : goal.dots-returns-then-next-eq-ELLIPSIS
-dots-returns-then-next-eq-ELLIPSIS t c = let tk = taken c.in-Token.is c.look.ensures in
-    let path = way _ (unpack_some _ _ tk c.if-kind-eq-ELLIPSIS.false) in
-    let w = done c.in-Done.is c.prim-r.ensures in
+dots-returns-then-next-eq-ELLIPSIS t c = let tk = taken c.in_ok-token.ensures in
+    let path = way _ (unpack_some _ _ tk c.if-token-eq-ELLIPSIS.false) in
+    let w = done c.in_ok-operand.ensures in
     let on = goes _ path w.same in
     let tk2 = taken c.in-Token-look.is c.look-in-Token.ensures in
-    written (c.unpack_end.ensures (take c.args.at c.args.store.now) w.what c.args.tokens.now (given (primary_leveled _ (depth_levels c.args.depth) _ _) w.same).leveled.small w.text tk2.within) refl (link on (way _ (dots_more _ _ tk2 c.if-next-eq-ELLIPSIS.true))) (prefix w (omega (arith, c.requires))) (omega (arith, c.requires, w.moved, w.room, tk2.within))
+    written (c.unpack_end.ensures (take c.args.cursor.at c.args.store.now) w.what c.args.tokens.now (given (primary_leveled _ (depth_levels c.args.depth) _ _) w.same).leveled.small w.text tk2.within) refl (link on (way _ (dots_more _ _ tk2 c.if-next-eq-ELLIPSIS.true))) (prefix w (omega (arith, c.requires))) (omega (arith, c.requires, w.moved, w.room, tk2.within))
 
 pub dots-returns-else-next-eq-ELLIPSIS : goal.dots-returns-else-next-eq-ELLIPSIS
-dots-returns-else-next-eq-ELLIPSIS t c = let tk = taken c.in-Token.is c.look.ensures in
-    let path = way _ (unpack_some _ _ tk c.if-kind-eq-ELLIPSIS.false) in
-    let w = done c.in-Done.is c.prim-r.ensures in
+dots-returns-else-next-eq-ELLIPSIS t c = let tk = taken c.in_ok-token.ensures in
+    let path = way _ (unpack_some _ _ tk c.if-token-eq-ELLIPSIS.false) in
+    let w = done c.in_ok-operand.ensures in
     let on = goes _ path w.same in
     let tk2 = taken c.in-Token-look.is c.look-in-Token.ensures in
     record { how = relabel w w.what refl (link on (way _ (dots_none _ _ tk2 c.if-next-eq-ELLIPSIS.false))) w.moved w.room }
 
-pub dots-returns-in-Not-look : goal.dots-returns-in-Not-look
-dots-returns-in-Not-look t c = let tk = taken c.in-Token.is c.look.ensures in
-    let path = way _ (unpack_some _ _ tk c.if-kind-eq-ELLIPSIS.false) in
-    let w = done c.in-Done.is c.prim-r.ensures in
+pub dots-returns-in_err-token-look : goal.dots-returns-in_err-token-look
+dots-returns-in_err-token-look t c = let tk = taken c.in_ok-token.ensures in
+    let path = way _ (unpack_some _ _ tk c.if-token-eq-ELLIPSIS.false) in
+    let w = done c.in_ok-operand.ensures in
     let on = goes _ path w.same in
-    did_not (fails_unseen on (dots_looks w.what _ _) (not_taken c.in-Not-look.is c.look-in-Token.ensures) (prefix w (omega arith)) (omega arith))
+    rw (handed c.from_residual-in_err-token-look.ensures.1) (did_not (fails_unseen on (dots_looks w.what _ _) c.in_err-token.ensures (prefix w (omega arith)) (omega arith)))
 
-pub dots-returns-in-Not : goal.dots-returns-in-Not
-dots-returns-in-Not t c = did_not (fails_unseen here (unpack_looks _ _ _) (not_taken c.in-Not.is c.look.ensures) refl (omega arith))
+pub dots-returns-in_err-token : goal.dots-returns-in_err-token
+dots-returns-in_err-token t c = rw (handed c.from_residual-in_err-token.ensures.1) (did_not (fails_unseen here (unpack_looks _ _ _) c.in_err-token.ensures refl (omega arith)))

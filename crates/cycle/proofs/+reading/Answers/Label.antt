@@ -3,7 +3,7 @@ use mathlib.Core.Path.{refl, sym, ◌∙◌}
 use mathlib.Core.List.{[], append-nil}
 use native.Mathlib.Omega.{arith}
 use Rattle.tree.specs.Node
-use Rattle.scan.proofs.Laws.{way, here, did_not, taken, not_taken, fails_unseen, later, continued}
+use Rattle.scan.proofs.Laws.{handed, way, here, did_not, taken, fails_unseen, later, continued}
 use Rattle.nodes.proofs.Made.{over_two}
 use Rattle.cycle.proofs.PathsStmt.{stmt_label_looks, while_as, label_loop, label_while, label_for, label_alone}
 use Rattle.cycle.proofs.Writing.{fails_with}
@@ -11,44 +11,44 @@ use Rattle.grammar.specs.Reading.Stmt.{stmt_list_of}
 use Rattle.cycle.proofs.+reading.Goals as goal
 
 pub label-overflow_add-pos : goal.label-overflow_add-pos
-label-overflow_add-pos t c = let tk = taken c.in-Token.is c.look.ensures in
+label-overflow_add-pos t c = let tk = taken c.in_ok-token.ensures in
     omega arith
 
 pub label-loops-requires : goal.label-loops-requires
-label-loops-requires t c = let tk = taken c.in-Token.is c.look.ensures in
+label-loops-requires t c = let tk = taken c.in_ok-token.ensures in
     omega arith
 
 pub label-overflow_add-pos-in-58 : goal.label-overflow_add-pos-in-58
-label-overflow_add-pos-in-58 t c = let tk = taken c.in-Token.is c.look.ensures in
+label-overflow_add-pos-in-58 t c = let tk = taken c.in_ok-token.ensures in
     omega arith
 
 pub label-whiles-requires : goal.label-whiles-requires
-label-whiles-requires t c = let tk = taken c.in-Token.is c.look.ensures in
+label-whiles-requires t c = let tk = taken c.in_ok-token.ensures in
     omega arith
 
 pub label-overflow_add-pos-in-59 : goal.label-overflow_add-pos-in-59
-label-overflow_add-pos-in-59 t c = let tk = taken c.in-Token.is c.look.ensures in
+label-overflow_add-pos-in-59 t c = let tk = taken c.in_ok-token.ensures in
     omega arith
 
 pub label-each-requires : goal.label-each-requires
-label-each-requires t c = let tk = taken c.in-Token.is c.look.ensures in
+label-each-requires t c = let tk = taken c.in_ok-token.ensures in
     omega arith
 
 pub label-returns-in-57 : goal.label-returns-in-57
-label-returns-in-57 t c = let tk = taken c.in-Token.is c.look.ensures in
+label-returns-in-57 t c = let tk = taken c.in_ok-token.ensures in
     later (label_loop _ _ tk _ c.in-57.is) c.loops.ensures (omega arith) (omega arith) (omega arith)
 
 pub label-returns-in-58 : goal.label-returns-in-58
-label-returns-in-58 t c = let tk = taken c.in-Token.is c.look.ensures in
+label-returns-in-58 t c = let tk = taken c.in_ok-token.ensures in
     continued (λ x. Node.while_loop c.args.label x.over (stmt_list_of x.run)) [] c.whiles.ensures (way _ (label_while _ _ tk _ c.in-58.is ∙ while_as _ _ _ _)) (sym (append-nil _)) (λ x. over_two 4 _ _ _) refl (omega arith)
 
 pub label-returns-in-59 : goal.label-returns-in-59
-label-returns-in-59 t c = let tk = taken c.in-Token.is c.look.ensures in
+label-returns-in-59 t c = let tk = taken c.in_ok-token.ensures in
     later (label_for _ _ tk _ c.in-59.is) c.each.ensures (omega arith) (omega arith) (omega arith)
 
-pub label-returns-in_default : goal.label-returns-in_default
-label-returns-in_default t c = let tk = taken c.in-Token.is c.look.ensures in
+pub label-returns-in_err-None : goal.label-returns-in_err-None
+label-returns-in_err-None t c = let tk = taken c.in_ok-token.ensures in
     fails_with (label_alone _ _ tk _ (search) (search) (search)) (omega arith) (omega arith)
 
-pub label-returns-in-Not : goal.label-returns-in-Not
-label-returns-in-Not t c = did_not (fails_unseen here (stmt_label_looks _ _ _ _) (not_taken c.in-Not.is c.look.ensures) refl (omega arith))
+pub label-returns-in_err-token : goal.label-returns-in_err-token
+label-returns-in_err-token t c = rw (handed c.from_residual-in_err-token.ensures.1) (did_not (fails_unseen here (stmt_label_looks _ _ _ _) c.in_err-token.ensures refl (omega arith)))

@@ -2,87 +2,86 @@
 use mathlib.Core.Path.{refl, ap, ◌∙◌}
 use native.Mathlib.Omega.{arith}
 use lib.ListN.{take}
-use Rattle.scan.proofs.Laws.{way, goes, done, undone, did_not, fails, lacks, found, unfound, gets, prefix}
+use Rattle.scan.proofs.Laws.{handed, way, goes, done, undone, did_not, fails, lacks, found, unfound, gets, prefix}
 use Rattle.cycle.proofs.PathsStmt.{ended_text, modified_text, lvalue_step}
 use Rattle.cycle.proofs.Shapes.{given}
 use Rattle.cycle.proofs.Writing.{stored, unstored, stored_up, stands}
 use Rattle.grammar.specs.Reading.Pattern.{modified}
 use Rattle.grammar.proofs.Laws.Levels.Nonterminals.{tuple_leveled, depth_levels}
-use Rattle.scan.proofs.Variants.{not_done}
 use Rattle.cycle.proofs.+reading.Goals as goal
 
-pub lhs-tuple-r-requires : goal.lhs-tuple-r-requires
-lhs-tuple-r-requires t c = let f = found c.in-At.is c.assign_keyword.ensures in
+pub lhs-tuple-left-requires : goal.lhs-tuple-left-requires
+lhs-tuple-left-requires t c = let f = found c.in_ok-keyword.ensures in
     let g = f.got in
     let gon = g.on in
     let gwithin = g.within in
     omega arith
 
-pub lhs-returns-in_default : goal.lhs-returns-in_default
-lhs-returns-in_default t c = let f = found c.in-At.is c.assign_keyword.ensures in
+pub lhs-returns-in_err-left : goal.lhs-returns-in_err-left
+lhs-returns-in_err-left t c = let f = found c.in_ok-keyword.ensures in
     let g = f.got in
     let gon = g.on in
     let gwithin = g.within in
     let path = way _ (lvalue_step _ _ _) in
     let on = gets _ g path in
-    did_not (fails _ on (undone (not_done c.in_default.not-Done) c.tuple-r.ensures) refl (omega arith))
+    rw (handed c.from_residual-in_err-left.ensures.1) (did_not (fails _ on (undone c.in_err-left.ensures) refl (omega arith)))
 
-pub lhs-expect_pattern-t-requires : goal.lhs-expect_pattern-t-requires
-lhs-expect_pattern-t-requires t c = let f = found c.in-At.is c.assign_keyword.ensures in
+pub lhs-expect_pattern-target-requires : goal.lhs-expect_pattern-target-requires
+lhs-expect_pattern-target-requires t c = let f = found c.in_ok-keyword.ensures in
     let g = f.got in
     let gon = g.on in
     let gwithin = g.within in
-    let w = done c.in-Done.is c.tuple-r.ensures in
+    let w = done c.in_ok-left.ensures in
     let small = (given (tuple_leveled _ (depth_levels _) _ _) w.same).small in
-    record { tree = w.what; whole = stands w small (omega (arith, c.requires, gon, gwithin)) (omega (arith, c.requires, gon, gwithin, w.moved, w.room, c.tuple-r.auto.store)) }
+    record { tree = w.what; whole = stands w small (omega (arith, c.requires, gon, gwithin)) (omega (arith, c.requires, gon, gwithin, w.moved, w.room, c.tuple-left.auto.store)) }
 
-pub lhs-returns-in_default-t : goal.lhs-returns-in_default-t
-lhs-returns-in_default-t t c = let f = found c.in-At.is c.assign_keyword.ensures in
+pub lhs-returns-in_err-target : goal.lhs-returns-in_err-target
+lhs-returns-in_err-target t c = let f = found c.in_ok-keyword.ensures in
     let g = f.got in
     let gon = g.on in
     let gwithin = g.within in
     let path = way _ (lvalue_step _ _ _) in
     let on = gets _ g path in
-    let w = done c.in-Done.is c.tuple-r.ensures in
+    let w = done c.in_ok-left.ensures in
     let on2 = goes _ on w.same in
     let small = (given (tuple_leveled _ (depth_levels _) _ _) w.same).small in
-    let inside = stands w small (omega (arith, c.requires, gon, gwithin)) (omega (arith, c.requires, gon, gwithin, w.moved, w.room, c.tuple-r.auto.store)) in
-    let ep = c.expect_pattern-t.ensures w.what c.args.tokens.now inside w.moved.within in
+    let inside = stands w small (omega (arith, c.requires, gon, gwithin)) (omega (arith, c.requires, gon, gwithin, w.moved, w.room, c.tuple-left.auto.store)) in
+    let ep = c.expect_pattern-target.ensures w.what c.args.tokens.now inside w.moved.within in
     let u = unstored (not_done c.in_default-t.not-Done) ep in
-    did_not (lacks _ u.unread on2 (ap (take c.args.at) u.text ∙ prefix w (omega (arith, c.requires, gon, gwithin))) (omega (arith, c.requires, gon, gwithin, w.moved)))
+    rw (handed c.from_residual-in_err-target.ensures.1) (did_not (lacks _ u.unread on2 (ap (take c.args.cursor.at) u.text ∙ prefix w (omega (arith, c.requires, gon, gwithin))) (omega (arith, c.requires, gon, gwithin, w.moved))))
 
 pub lhs-modified-requires : goal.lhs-modified-requires
-lhs-modified-requires t c = let f = found c.in-At.is c.assign_keyword.ensures in
+lhs-modified-requires t c = let f = found c.in_ok-keyword.ensures in
     let g = f.got in
     let gon = g.on in
     let gwithin = g.within in
-    let w = done c.in-Done.is c.tuple-r.ensures in
+    let w = done c.in_ok-left.ensures in
     let small = (given (tuple_leveled _ (depth_levels _) _ _) w.same).small in
-    let inside = stands w small (omega (arith, c.requires, gon, gwithin)) (omega (arith, c.requires, gon, gwithin, w.moved, w.room, c.tuple-r.auto.store)) in
-    let ep = c.expect_pattern-t.ensures w.what c.args.tokens.now inside w.moved.within in
+    let inside = stands w small (omega (arith, c.requires, gon, gwithin)) (omega (arith, c.requires, gon, gwithin, w.moved, w.room, c.tuple-left.auto.store)) in
+    let ep = c.expect_pattern-target.ensures w.what c.args.tokens.now inside w.moved.within in
     let st = stored c.in-Done-t.is ep in
     let below = f.below in
-    (omega (arith, c.requires, gon, gwithin, w.moved, w.room, st.far, c.tuple-r.auto.store, c.expect_pattern-t.auto.store), omega (arith, below))
+    (omega (arith, c.requires, gon, gwithin, w.moved, w.room, st.far, c.tuple-left.auto.store, c.expect_pattern-target.auto.store), omega (arith, below))
 
 pub lhs-returns-in-Done-t : goal.lhs-returns-in-Done-t
-lhs-returns-in-Done-t t c = let f = found c.in-At.is c.assign_keyword.ensures in
+lhs-returns-in-Done-t t c = let f = found c.in_ok-keyword.ensures in
     let g = f.got in
     let gon = g.on in
     let gwithin = g.within in
     let path = way _ (lvalue_step _ _ _) in
     let on = gets _ g path in
-    let w = done c.in-Done.is c.tuple-r.ensures in
+    let w = done c.in_ok-left.ensures in
     let on2 = goes _ on w.same in
     let small = (given (tuple_leveled _ (depth_levels _) _ _) w.same).small in
-    let inside = stands w small (omega (arith, c.requires, gon, gwithin)) (omega (arith, c.requires, gon, gwithin, w.moved, w.room, c.tuple-r.auto.store)) in
-    let ep = c.expect_pattern-t.ensures w.what c.args.tokens.now inside w.moved.within in
+    let inside = stands w small (omega (arith, c.requires, gon, gwithin)) (omega (arith, c.requires, gon, gwithin, w.moved, w.room, c.tuple-left.auto.store)) in
+    let ep = c.expect_pattern-target.ensures w.what c.args.tokens.now inside w.moved.within in
     let st = stored c.in-Done-t.is ep in
     let md = c.modified.ensures in
-    let up = stored_up c.args.at c.tuple-r.new.store st (omega (arith, c.requires, gon, gwithin, c.tuple-r.auto.store)) in
+    let up = stored_up c.args.cursor.at c.tuple-left.new.store st (omega (arith, c.requires, gon, gwithin, c.tuple-left.auto.store)) in
     let on3 = st.got.on in
     let in3 = st.got.within in
     record { how = record { what = modified g.what st.got.what; same = gets _ st.got on2; moved = omega (arith, c.requires, gon, gwithin, w.moved, on3, in3); room = omega (arith, c.requires, gon, gwithin, w.moved, w.room, st.far, md.up, md.far, up, on3, in3); text = modified_text st.got.what (ended_text md st) (prefix w (omega (arith, c.requires, gon, gwithin))) f.is } }
 
-pub lhs-returns-in-Not : goal.lhs-returns-in-Not
-lhs-returns-in-Not t c = let path = way _ (lvalue_step _ _ _) in
-    did_not (lacks _ (unfound c.in-Not.is c.assign_keyword.ensures) path refl (omega arith))
+pub lhs-returns-in_err-keyword : goal.lhs-returns-in_err-keyword
+lhs-returns-in_err-keyword t c = let path = way _ (lvalue_step _ _ _) in
+    rw (handed c.from_residual-in_err-keyword.ensures.1) (did_not (lacks _ (unfound c.in_err-keyword.ensures) path refl (omega arith)))

@@ -6,7 +6,7 @@ use native.Mathlib.Omega.{arith}
 use lib.ListN.{length, take, drop, length-drop}
 use Rattle.tree.specs.Tree.{none, snoc, count, records, all_records}
 use Rattle.tree.specs.Node
-use Rattle.scan.proofs.Laws.{way, link, ends, goes, taken, not_taken, fails, fails_unseen, prefix, relabel}
+use Rattle.scan.proofs.Laws.{handed, way, link, ends, goes, taken, fails, fails_unseen, prefix, relabel}
 use Rattle.scan.proofs.Text.{grown}
 use Rattle.nodes.proofs.Made.{count_snoc, joined}
 use Rattle.cycle.proofs.PathsExpr.{list_stops, list_step}
@@ -18,30 +18,30 @@ use Rattle.cycle.proofs.+reading.Goals as goal
 pub list-returns-then-depth-eq0 : goal.list-returns-then-depth-eq0
 list-returns-then-depth-eq0 t c = record { how = record { how = ends (list_stops _ _ _ _ c.if-depth-eq0.true) } }
 
-pub list-loop-kind-init : goal.list-loop-kind-init
+pub list-loop-token-init : goal.list-loop-token-init
 unfolding records count
-list-loop-kind-init t c = record { fuel = length (drop c.args.pos c.args.tokens.now); enough = rw length-drop (omega arith); run = record { what = none; same = way _ (list_step _ _ _ _ c.if-depth-eq0.false); moved = omega arith; room = omega arith; text = sym (append-nil (take c.args.at c.args.store.now)) }; many = refl; short = omega arith; back = omega arith; ending = keeps split_none refl; kept = refl }
+list-loop-token-init t c = record { fuel = length (drop c.args.cursor.pos c.args.tokens.now); enough = rw length-drop (omega arith); run = record { what = none; same = way _ (list_step _ _ _ _ c.if-depth-eq0.false); moved = omega arith; room = omega arith; text = sym (append-nil (take c.args.cursor.at c.args.store.now)) }; many = refl; short = omega arith; back = omega arith; ending = keeps split_none refl; kept = refl }
 
 pub list-look-requires : goal.list-look-requires
-list-look-requires t c = c.loop-kind.invariant.run.moved.within
+list-look-requires t c = c.loop-token.invariant.run.moved.within
 
 pub list-overflow_add-p : goal.list-overflow_add-p
-list-overflow_add-p t c = let tk = taken c.in-Token.is c.look.ensures in
+list-overflow_add-p t c = let tk = taken c.in_ok-token.ensures in
     omega arith
 
-pub list-loop-kind-smaller-then-kind-eq-SEMICOLON : goal.list-loop-kind-smaller-then-kind-eq-SEMICOLON
-list-loop-kind-smaller-then-kind-eq-SEMICOLON t c = let g = c.loop-kind.invariant in
-    let tk = taken c.in-Token.is c.look.ensures in
+pub list-loop-token-smaller-then-token-eq-SEMICOLON : goal.list-loop-token-smaller-then-token-eq-SEMICOLON
+list-loop-token-smaller-then-token-eq-SEMICOLON t c = let g = c.loop-token.invariant in
+    let tk = taken c.in_ok-token.ensures in
     omega arith
 
-pub list-loop-kind-preserved-then-kind-eq-SEMICOLON : goal.list-loop-kind-preserved-then-kind-eq-SEMICOLON
-list-loop-kind-preserved-then-kind-eq-SEMICOLON t c = let g = c.loop-kind.invariant in
+pub list-loop-token-preserved-then-token-eq-SEMICOLON : goal.list-loop-token-preserved-then-token-eq-SEMICOLON
+list-loop-token-preserved-then-token-eq-SEMICOLON t c = let g = c.loop-token.invariant in
     let gr = g.run in
-    let tk = taken c.in-Token.is c.look.ensures in
+    let tk = taken c.in_ok-token.ensures in
     record {
       fuel = g.fuel - 1;
       enough = omega arith;
-      run = relabel gr gr.what refl (link gr.same (way _ (stmts_semi _ _ gr.what _ g.fuel _ g.enough tk c.if-kind-eq-SEMICOLON.true))) (omega arith) (omega arith);
+      run = relabel gr gr.what refl (link gr.same (way _ (stmts_semi _ _ gr.what _ g.fuel _ g.enough tk c.if-token-eq-SEMICOLON.true))) (omega arith) (omega arith);
       many = g.many;
       short = omega arith;
       back = g.back;
@@ -50,12 +50,12 @@ list-loop-kind-preserved-then-kind-eq-SEMICOLON t c = let g = c.loop-kind.invari
     }
 
 pub list-returns-then-ends : goal.list-returns-then-ends
-list-returns-then-ends t c = let g = c.loop-kind.invariant in
+list-returns-then-ends t c = let g = c.loop-token.invariant in
     let gr = g.run in
-    let tk = taken c.in-Token.is c.look.ensures in
+    let tk = taken c.in_ok-token.ensures in
     record {
       how = record {
-        run = relabel gr (record { suite = gr.what; control = Node.absent }) refl (link gr.same (way _ (stmts_end _ _ gr.what _ g.fuel _ g.enough tk c.if-kind-eq-SEMICOLON.false (sym c.ends.ensures ∙ c.if-ends.true)))) gr.moved gr.room;
+        run = relabel gr (record { suite = gr.what; control = Node.absent }) refl (link gr.same (way _ (stmts_end _ _ gr.what _ g.fuel _ g.enough tk c.if-token-eq-SEMICOLON.false (sym c.ends.ensures ∙ c.if-ends.true)))) gr.moved gr.room;
         plain = refl;
         many = g.many;
         short = g.short;
@@ -65,78 +65,78 @@ list-returns-then-ends t c = let g = c.loop-kind.invariant in
     }
 
 pub list-turn-requires : goal.list-turn-requires
-list-turn-requires t c = let g = c.loop-kind.invariant in
+list-turn-requires t c = let g = c.loop-token.invariant in
     let gr = g.run in
-    let tk = taken c.in-Token.is c.look.ensures in
+    let tk = taken c.in_ok-token.ensures in
     omega (arith, c.requires, c.if-depth-eq0.false, g.short, g.kept, gr.moved, gr.room, tk.within)
 
 pub list-mark-last-requires : goal.list-mark-last-requires
-list-mark-last-requires t c = let g = c.loop-kind.invariant in
+list-mark-last-requires t c = let g = c.loop-token.invariant in
     let gr = g.run in
-    let tk = taken c.in-Token.is c.look.ensures in
+    let tk = taken c.in_ok-token.ensures in
     let w1 = was_stmt c.in-Stmt.is c.turn.ensures in
     let l = taller w1 (omega (arith, c.requires, g.kept, gr.moved, gr.room)) in
     (omega arith, omega (arith, c.requires, g.kept, gr.moved, gr.room, w1.moved, w1.room))
 
 pub list-overflow_add-n : goal.list-overflow_add-n
-list-overflow_add-n t c = let g = c.loop-kind.invariant in
+list-overflow_add-n t c = let g = c.loop-token.invariant in
     let gr = g.run in
-    let tk = taken c.in-Token.is c.look.ensures in
+    let tk = taken c.in_ok-token.ensures in
     let w1 = was_stmt c.in-Stmt.is c.turn.ensures in
     omega (arith, c.requires, g.short, gr.moved)
 
-pub list-loop-kind-smaller-in-Stmt : goal.list-loop-kind-smaller-in-Stmt
-list-loop-kind-smaller-in-Stmt t c = let g = c.loop-kind.invariant in
-    let tk = taken c.in-Token.is c.look.ensures in
+pub list-loop-token-smaller-in-Stmt : goal.list-loop-token-smaller-in-Stmt
+list-loop-token-smaller-in-Stmt t c = let g = c.loop-token.invariant in
+    let tk = taken c.in_ok-token.ensures in
     let w1 = was_stmt c.in-Stmt.is c.turn.ensures in
     omega (arith, w1.moved, tk.within)
 
-pub list-loop-kind-preserved-in-Stmt : goal.list-loop-kind-preserved-in-Stmt
-list-loop-kind-preserved-in-Stmt t c = let g = c.loop-kind.invariant in
+pub list-loop-token-preserved-in-Stmt : goal.list-loop-token-preserved-in-Stmt
+list-loop-token-preserved-in-Stmt t c = let g = c.loop-token.invariant in
     let gr = g.run in
-    let tk = taken c.in-Token.is c.look.ensures in
-    let try = link gr.same (way _ (stmts_turn _ _ gr.what _ g.fuel _ g.enough tk c.if-kind-eq-SEMICOLON.false (sym c.ends.ensures ∙ c.if-ends.false))) in
+    let tk = taken c.in_ok-token.ensures in
+    let try = link gr.same (way _ (stmts_turn _ _ gr.what _ g.fuel _ g.enough tk c.if-token-eq-SEMICOLON.false (sym c.ends.ensures ∙ c.if-ends.false))) in
     let w1 = was_stmt c.in-Stmt.is c.turn.ensures in
-    let mk = c.mark-last.ensures (take c.loop-kind.a c.loop-kind.store) w1.what (place_small _ _ _ _ _ _ w1.same) w1.text in
+    let mk = c.mark-last.ensures (take c.loop-token.a c.loop-token.store) w1.what (place_small _ _ _ _ _ _ w1.same) w1.text in
     let room = w1.room in
     let old = gr.room in
     let moved = w1.moved in
     record {
       fuel = g.fuel - 1;
       enough = omega (arith, g.enough, moved, tk.within);
-      run = record { what = snoc gr.what w1.what; same = goes _ try w1.same; moved = omega (arith, moved, gr.moved); room = omega (arith, room, old); text = joined gr.what w1.what (take c.args.at c.args.store.now) w1.text gr.text };
+      run = record { what = snoc gr.what w1.what; same = goes _ try w1.same; moved = omega (arith, moved, gr.moved); room = omega (arith, room, old); text = joined gr.what w1.what (take c.args.cursor.at c.args.store.now) w1.text gr.text };
       many = count_snoc gr.what w1.what ∙ ap (λ (i : ℕ). i + 1) g.many;
       short = omega (arith, g.short, moved);
       back = mark_le mk w1.room.up;
-      ending = next_ends gr.what mk (grown c.args.store.now c.loop-kind.store (all_records gr.what) _ _ gr.text (omega (arith, c.requires)) (omega (arith, c.requires, g.kept, gr.moved, old)));
+      ending = next_ends gr.what mk (grown c.args.store.now c.loop-token.store (all_records gr.what) _ _ gr.text (omega (arith, c.requires)) (omega (arith, c.requires, g.kept, gr.moved, old)));
       kept = omega (arith, g.kept);
     }
 
 pub list-returns-in-Control : goal.list-returns-in-Control
-list-returns-in-Control t c = let g = c.loop-kind.invariant in
+list-returns-in-Control t c = let g = c.loop-token.invariant in
     let gr = g.run in
-    let tk = taken c.in-Token.is c.look.ensures in
-    let try = link gr.same (way _ (stmts_turn _ _ gr.what _ g.fuel _ g.enough tk c.if-kind-eq-SEMICOLON.false (sym c.ends.ensures ∙ c.if-ends.false))) in
+    let tk = taken c.in_ok-token.ensures in
+    let try = link gr.same (way _ (stmts_turn _ _ gr.what _ g.fuel _ g.enough tk c.if-token-eq-SEMICOLON.false (sym c.ends.ensures ∙ c.if-ends.false))) in
     let k1 = was_control c.in-Control.is c.turn.ensures in
     let kr = k1.run in
     record {
       how = record {
-        run = record { what = record { suite = gr.what; control = kr.what }; same = goes _ try kr.same; moved = omega (arith, gr.moved, kr.moved); room = omega (arith, gr.room, kr.room); text = held_text gr.what kr.what (take c.args.at c.args.store.now) kr.text gr.text g.many };
+        run = record { what = record { suite = gr.what; control = kr.what }; same = goes _ try kr.same; moved = omega (arith, gr.moved, kr.moved); room = omega (arith, gr.room, kr.room); text = held_text gr.what kr.what (take c.args.cursor.at c.args.store.now) kr.text gr.text g.many };
         held = k1.held;
       };
     }
 
-pub list-loop-kind-smaller : goal.list-loop-kind-smaller
-list-loop-kind-smaller t c = let g = c.loop-kind.invariant in
-    let tk = taken c.in-Token.is c.look.ensures in
+pub list-loop-token-smaller : goal.list-loop-token-smaller
+list-loop-token-smaller t c = let g = c.loop-token.invariant in
+    let tk = taken c.in_ok-token.ensures in
     let v = was_caught c.in-Caught.is c.turn.ensures in
     omega (arith, v.moved, tk.within)
 
-pub list-loop-kind-preserved : goal.list-loop-kind-preserved
-list-loop-kind-preserved t c = let g = c.loop-kind.invariant in
+pub list-loop-token-preserved : goal.list-loop-token-preserved
+list-loop-token-preserved t c = let g = c.loop-token.invariant in
     let gr = g.run in
-    let tk = taken c.in-Token.is c.look.ensures in
-    let try = link gr.same (way _ (stmts_turn _ _ gr.what _ g.fuel _ g.enough tk c.if-kind-eq-SEMICOLON.false (sym c.ends.ensures ∙ c.if-ends.false))) in
+    let tk = taken c.in_ok-token.ensures in
+    let try = link gr.same (way _ (stmts_turn _ _ gr.what _ g.fuel _ g.enough tk c.if-token-eq-SEMICOLON.false (sym c.ends.ensures ∙ c.if-ends.false))) in
     let v = was_caught c.in-Caught.is c.turn.ensures in
     record {
       fuel = g.fuel - 1;
@@ -149,14 +149,14 @@ list-loop-kind-preserved t c = let g = c.loop-kind.invariant in
       kept = omega (arith, g.kept);
     }
 
-pub list-returns-in-Not-turn : goal.list-returns-in-Not-turn
-list-returns-in-Not-turn t c = let g = c.loop-kind.invariant in
+pub list-returns-in_err-token-turn : goal.list-returns-in_err-token-turn
+list-returns-in_err-token-turn t c = let g = c.loop-token.invariant in
     let gr = g.run in
-    let tk = taken c.in-Token.is c.look.ensures in
-    let try = link gr.same (way _ (stmts_turn _ _ gr.what _ g.fuel _ g.enough tk c.if-kind-eq-SEMICOLON.false (sym c.ends.ensures ∙ c.if-ends.false))) in
-    record { how = fails _ try (was_not c.in-Not-turn.is c.turn.ensures) (prefix gr (omega (arith, c.requires))) (omega (arith, gr.moved, gr.room)) }
+    let tk = taken c.in_ok-token.ensures in
+    let try = link gr.same (way _ (stmts_turn _ _ gr.what _ g.fuel _ g.enough tk c.if-token-eq-SEMICOLON.false (sym c.ends.ensures ∙ c.if-ends.false))) in
+    rw (handed c.from_residual-in_err-token-turn.ensures.1) (record { how = fails _ try (was_not c.in-Not-turn.is c.turn.ensures) (prefix gr (omega (arith, c.requires))) (omega (arith, gr.moved, gr.room)) })
 
-pub list-returns-in-Not : goal.list-returns-in-Not
-list-returns-in-Not t c = let g = c.loop-kind.invariant in
+pub list-returns-in_err-token : goal.list-returns-in_err-token
+list-returns-in_err-token t c = let g = c.loop-token.invariant in
     let gr = g.run in
-    record { how = fails_unseen gr.same (stmts_looks _ _ gr.what _ _ g.fuel _ g.enough) (not_taken c.in-Not.is c.look.ensures) (prefix gr (omega (arith, c.requires))) (omega arith) }
+    rw (handed c.from_residual-in_err-token.ensures.1) (record { how = fails_unseen gr.same (stmts_looks _ _ gr.what _ _ g.fuel _ g.enough) c.in_err-token.ensures (prefix gr (omega (arith, c.requires))) (omega arith) })

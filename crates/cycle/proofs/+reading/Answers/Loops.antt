@@ -3,7 +3,7 @@ use mathlib.Core.Path.{refl, sym}
 use mathlib.Core.List.{[], append-nil}
 use native.Mathlib.Omega.{arith}
 use Rattle.tree.specs.Node
-use Rattle.scan.proofs.Laws.{way}
+use Rattle.scan.proofs.Laws.{handed, way}
 use Rattle.nodes.proofs.Made.{over_one}
 use Rattle.cycle.proofs.PathsBody.{closable, under}
 use Rattle.cycle.proofs.PathsStmt.{loop_step}
@@ -11,7 +11,7 @@ use Rattle.grammar.specs.Reading.Stmt.{stmt_list_of}
 use Rattle.cycle.proofs.+reading.Goals as goal
 
 pub loops-list_under-requires : goal.loops-list_under-requires
-loops-list_under-requires t c = closable _ c.body-b.ensures (omega arith)
+loops-list_under-requires t c = closable _ c.body-statements.ensures (omega arith)
 
 pub loops-returns : goal.loops-returns
-loops-returns t c = under (λ s. Node.loop c.args.label (stmt_list_of s)) [] c.body-b.ensures c.list_under.ensures (way _ (loop_step _ _ _ _)) (sym (append-nil _)) (λ s. over_one 3 _ _) refl (omega arith)
+loops-returns t c = under (λ s. Node.loop c.args.label (stmt_list_of s)) [] c.body-statements.ensures c.list_under.ensures (way _ (loop_step _ _ _ _)) (sym (append-nil _)) (λ s. over_one 3 _ _) refl (omega arith)

@@ -4,11 +4,10 @@ use mathlib.Core.List.{append-nil}
 use native.Mathlib.Omega.{arith}
 use lib.ListN.{take}
 use Rattle.nodes.specs.Parts.{h_required, h_variadic, h_default}
-use Rattle.scan.proofs.Laws.{way, goes, done, undone, fails, lacks}
+use Rattle.scan.proofs.Laws.{handed, way, goes, done, undone, fails, lacks}
 use Rattle.cycle.proofs.PathsParams.{param_step, param_got, head_required, head_variadic, head_default, no_head, default_one}
 use Rattle.cycle.proofs.Writing.{added_prefix}
 use Rattle.nodes.specs.Parameters.{required_words}
-use Rattle.scan.proofs.Variants.{not_done}
 use Rattle.cycle.proofs.+reading.Goals as goal
 
 pub param-required_end-b-requires : goal.param-required_end-b-requires
@@ -16,8 +15,8 @@ param-required_end-b-requires t c = let h = head_default c.in-Default.is c.param
     let hg = h.got in
     (omega arith, omega arith)
 
-pub param-expr-r-requires : goal.param-expr-r-requires
-param-expr-r-requires t c = let h = head_default c.in-Default.is c.param_head.ensures in
+pub param-expr-value-requires : goal.param-expr-value-requires
+param-expr-value-requires t c = let h = head_default c.in-Default.is c.param_head.ensures in
     let hg = h.got in
     let b = c.required_end-b.ensures in
     omega (arith, c.requires)
@@ -26,35 +25,35 @@ pub param-emit-requires : goal.param-emit-requires
 param-emit-requires t c = let h = head_default c.in-Default.is c.param_head.ensures in
     let hg = h.got in
     let b = c.required_end-b.ensures in
-    let w = done c.in-Done.is c.expr-r.ensures in
+    let w = done c.in_ok-value.ensures in
     omega (arith, c.requires)
 
 pub param-returns-in-Required : goal.param-returns-in-Required
 param-returns-in-Required t c = let h = head_required c.in-Required.is c.param_head.ensures in
     let g = h.got in
-    record { how = record { run = record { what = tt; same = way _ (param_got _ h_required c.args.pos h _); moved = omega arith; room = omega arith; text = sym (append-nil (take c.args.at c.args.store.now)) }; below = h.below } }
+    record { how = record { run = record { what = tt; same = way _ (param_got _ h_required c.args.cursor.pos h _); moved = omega arith; room = omega arith; text = sym (append-nil (take c.args.cursor.at c.args.store.now)) }; below = h.below } }
 
 pub param-returns-in-Variadic : goal.param-returns-in-Variadic
 param-returns-in-Variadic t c = let h = head_variadic c.in-Variadic.is c.param_head.ensures in
     let g = h.got in
-    record { how = record { run = record { what = tt; same = way _ (param_got _ h_variadic c.args.pos h _); moved = omega arith; room = omega arith; text = sym (append-nil (take c.args.at c.args.store.now)) }; below = h.below } }
+    record { how = record { run = record { what = tt; same = way _ (param_got _ h_variadic c.args.cursor.pos h _); moved = omega arith; room = omega arith; text = sym (append-nil (take c.args.cursor.at c.args.store.now)) }; below = h.below } }
 
 pub param-returns-in-Done : goal.param-returns-in-Done
 param-returns-in-Done t c = let h = head_default c.in-Default.is c.param_head.ensures in
     let hg = h.got in
     let b = c.required_end-b.ensures in
-    let w = done c.in-Done.is c.expr-r.ensures in
-    let path = way _ (param_got _ h_default c.args.pos h _) in
+    let w = done c.in_ok-value.ensures in
+    let path = way _ (param_got _ h_default c.args.cursor.pos h _) in
     let x = c.args in
     let e = c.emit.ensures in
     record { how = record { what = record { name = c.in-Default.v; value = w.what }; same = goes _ path w.same; moved = omega (arith, c.requires, hg.on, w.moved); room = omega (arith, c.requires, hg.on, hg.within, b.up, b.far, w.room, w.moved, e.next); text = default_one (take x.at x.store.now) (required_words x.required x.default) c.in-Default.v w.what e w.text b.text } }
 
-pub param-returns-in_default : goal.param-returns-in_default
-param-returns-in_default t c = let h = head_default c.in-Default.is c.param_head.ensures in
+pub param-returns-in_err-None : goal.param-returns-in_err-None
+param-returns-in_err-None t c = let h = head_default c.in-Default.is c.param_head.ensures in
     let hg = h.got in
     let b = c.required_end-b.ensures in
-    let path = way _ (param_got _ h_default c.args.pos h _) in
-    record { how = fails _ path (undone (not_done c.in_default.not-Done) c.expr-r.ensures) (added_prefix b (omega arith)) (omega arith) }
+    let path = way _ (param_got _ h_default c.args.cursor.pos h _) in
+    rw (handed c.from_residual-in_err-None.ensures.1) (record { how = fails _ path (undone c.in_err-value.ensures) (added_prefix b (omega arith)) (omega arith) })
 
-pub param-returns-in-Not : goal.param-returns-in-Not
-param-returns-in-Not t c = record { how = lacks _ (no_head c.in-Not.is c.param_head.ensures) (way _ (param_step _ _ _)) refl (omega arith) }
+pub param-returns-in_err-look : goal.param-returns-in_err-look
+param-returns-in_err-look t c = rw (handed c.from_residual-in_err-look.ensures.1) (record { how = lacks _ (no_head c.in-Not.is c.param_head.ensures) (way _ (param_step _ _ _)) refl (omega arith) })

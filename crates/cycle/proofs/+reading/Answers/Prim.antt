@@ -2,21 +2,20 @@
 use mathlib.Core.Path.{refl}
 use native.Mathlib.Omega.{arith}
 use Rattle.tree.specs.Tree.{records}
-use Rattle.scan.proofs.Laws.{way, goes, done, undone, did_not, fails, anew, prefix, continued}
+use Rattle.scan.proofs.Laws.{handed, way, goes, done, undone, did_not, fails, prefix, continued}
 use Rattle.cycle.proofs.PathsPrimary.{primary_step}
 use Rattle.cycle.proofs.Trees.{path_text}
 use Rattle.grammar.specs.Reading.Primary.{with_path}
-use Rattle.scan.proofs.Variants.{not_done}
 use Rattle.cycle.proofs.+reading.Goals as goal
 
-pub prim-returns-in_default : goal.prim-returns-in_default
-prim-returns-in_default t c = anew c.again.ensures (did_not (fails _ (way _ (primary_step _ _ _)) (undone (not_done c.in_default.not-Done) c.atom-r.ensures) refl (omega arith)))
+pub prim-returns-in_err-receiver : goal.prim-returns-in_err-receiver
+prim-returns-in_err-receiver t c = rw (handed c.from_residual-in_err-receiver.ensures.1) (did_not (fails _ (way _ (primary_step _ _ _)) (undone c.in_err-receiver.ensures) refl (omega arith)))
 
 pub prim-path-requires : goal.prim-path-requires
-prim-path-requires t c = let f = done c.in-Done.is c.atom-r.ensures in
+prim-path-requires t c = let f = done c.in_ok-receiver.ensures in
     omega arith
 
 pub prim-returns : goal.prim-returns
-prim-returns t c = let f = done c.in-Done.is c.atom-r.ensures in
+prim-returns t c = let f = done c.in_ok-receiver.ensures in
     let on = goes _ (way _ (primary_step _ _ _)) f.same in
     continued (with_path f.what) (records f.what) c.path.ensures on f.text (path_text f.what) (prefix f (omega (arith, c.requires))) (omega (arith, c.requires, f.moved, f.room))

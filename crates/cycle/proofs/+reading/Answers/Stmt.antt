@@ -4,118 +4,117 @@ use mathlib.Core.List.{[], append-nil}
 use native.Mathlib.Omega.{arith}
 use lib.ListN.{take}
 use Rattle.tree.specs.Node
-use Rattle.scan.proofs.Laws.{way, here, goes, done, undone, did_not, taken, not_taken, fails, fails_unseen, prefix, later, continued}
+use Rattle.scan.proofs.Laws.{handed, way, here, goes, done, undone, did_not, taken, fails, fails_unseen, prefix, later, continued}
 use Rattle.scan.proofs.Looking.{taken_label}
 use Rattle.nodes.proofs.Made.{over_two, made_one}
 use Rattle.cycle.proofs.PathsStmt.{stmt_looks, while_as, stmt_loop, stmt_while, stmt_for, stmt_labelled, stmt_assert, stmt_control, stmt_expr}
 use Rattle.cycle.proofs.Shapes.{given, expr_shape}
 use Rattle.cycle.proofs.Writing.{written, fails_with}
 use Rattle.grammar.specs.Reading.Stmt.{stmt_list_of}
-use Rattle.scan.proofs.Variants.{not_done}
 use Rattle.cycle.proofs.+reading.Goals as goal
 
 pub stmt-overflow_add-pos : goal.stmt-overflow_add-pos
-stmt-overflow_add-pos t c = let tk = taken c.in-Token.is c.look.ensures in
+stmt-overflow_add-pos t c = let tk = taken c.in_ok-token.ensures in
     omega arith
 
 pub stmt-loops-requires : goal.stmt-loops-requires
-stmt-loops-requires t c = let tk = taken c.in-Token.is c.look.ensures in
+stmt-loops-requires t c = let tk = taken c.in_ok-token.ensures in
     omega arith
 
 pub stmt-overflow_add-pos-in-58 : goal.stmt-overflow_add-pos-in-58
-stmt-overflow_add-pos-in-58 t c = let tk = taken c.in-Token.is c.look.ensures in
+stmt-overflow_add-pos-in-58 t c = let tk = taken c.in_ok-token.ensures in
     omega arith
 
 pub stmt-whiles-requires : goal.stmt-whiles-requires
-stmt-whiles-requires t c = let tk = taken c.in-Token.is c.look.ensures in
+stmt-whiles-requires t c = let tk = taken c.in_ok-token.ensures in
     omega arith
 
 pub stmt-overflow_add-pos-in-59 : goal.stmt-overflow_add-pos-in-59
-stmt-overflow_add-pos-in-59 t c = let tk = taken c.in-Token.is c.look.ensures in
+stmt-overflow_add-pos-in-59 t c = let tk = taken c.in_ok-token.ensures in
     omega arith
 
 pub stmt-each-requires : goal.stmt-each-requires
-stmt-each-requires t c = let tk = taken c.in-Token.is c.look.ensures in
+stmt-each-requires t c = let tk = taken c.in_ok-token.ensures in
     omega arith
 
 pub stmt-overflow_add-value : goal.stmt-overflow_add-value
-stmt-overflow_add-value t c = let tk = taken c.in-Token.is c.look.ensures in
+stmt-overflow_add-value t c = let tk = taken c.in_ok-token.ensures in
     omega (arith, taken_label tk c.in-73.is)
 
 pub stmt-overflow_add-pos-in-73 : goal.stmt-overflow_add-pos-in-73
-stmt-overflow_add-pos-in-73 t c = let tk = taken c.in-Token.is c.look.ensures in
+stmt-overflow_add-pos-in-73 t c = let tk = taken c.in_ok-token.ensures in
     omega arith
 
 pub stmt-label-requires : goal.stmt-label-requires
-stmt-label-requires t c = let tk = taken c.in-Token.is c.look.ensures in
+stmt-label-requires t c = let tk = taken c.in_ok-token.ensures in
     omega arith
 
 pub stmt-overflow_add-pos-in-67 : goal.stmt-overflow_add-pos-in-67
-stmt-overflow_add-pos-in-67 t c = let tk = taken c.in-Token.is c.look.ensures in
+stmt-overflow_add-pos-in-67 t c = let tk = taken c.in_ok-token.ensures in
     omega arith
 
-pub stmt-expr-r-requires : goal.stmt-expr-r-requires
-stmt-expr-r-requires t c = let tk = taken c.in-Token.is c.look.ensures in
+pub stmt-expr-expression-requires : goal.stmt-expr-expression-requires
+stmt-expr-expression-requires t c = let tk = taken c.in_ok-token.ensures in
     omega arith
 
-pub stmt-returns-in_default-r : goal.stmt-returns-in_default-r
-stmt-returns-in_default-r t c = let tk = taken c.in-Token.is c.look.ensures in
+pub stmt-returns-in_err-expression : goal.stmt-returns-in_err-expression
+stmt-returns-in_err-expression t c = let tk = taken c.in_ok-token.ensures in
     let path = way _ (stmt_assert _ _ tk c.in-67.is) in
-    did_not (fails _ path (undone (not_done c.in_default-r.not-Done) c.expr-r.ensures) refl (omega arith))
+    rw (handed c.from_residual-in_err-expression.ensures.1) (did_not (fails _ path (undone c.in_err-expression.ensures) refl (omega arith)))
 
 pub stmt-emit-requires : goal.stmt-emit-requires
-stmt-emit-requires t c = let tk = taken c.in-Token.is c.look.ensures in
-    let w = done c.in-Done.is c.expr-r.ensures in
+stmt-emit-requires t c = let tk = taken c.in_ok-token.ensures in
+    let w = done c.in_ok-expression.ensures in
     omega arith
 
 pub stmt-overflow_add-result : goal.stmt-overflow_add-result
-stmt-overflow_add-result t c = let tk = taken c.in-Token.is c.look.ensures in
+stmt-overflow_add-result t c = let tk = taken c.in_ok-token.ensures in
     omega arith
 
 pub stmt-returns-then-is_control : goal.stmt-returns-then-is_control
-stmt-returns-then-is_control t c = let tk = taken c.in-Token.is c.look.ensures in
+stmt-returns-then-is_control t c = let tk = taken c.in_ok-token.ensures in
     let na = c.not_allowed.ensures in
     fails_with (stmt_control _ _ tk (search) (search) (search) (search) (search) c.is_control.ensures c.if-is_control.true ∙ rw (← na)) (omega arith) (omega arith)
 
-pub stmt-returns-in_default-r-2 : goal.stmt-returns-in_default-r-2
-stmt-returns-in_default-r-2 t c = let tk = taken c.in-Token.is c.look.ensures in
+pub stmt-returns-in_err-expression-2 : goal.stmt-returns-in_err-expression-2
+stmt-returns-in_err-expression-2 t c = let tk = taken c.in_ok-token.ensures in
     let track = way _ (stmt_expr _ _ tk (search) (search) (search) (search) (search) c.is_control.ensures c.if-is_control.false) in
-    did_not (fails _ track (undone (not_done c.in_default-r-2.not-Done) c.expr-r-in_default.ensures) refl (omega arith))
+    rw (handed c.from_residual-in_err-expression-2.ensures.1) (did_not (fails _ track (undone (not_done c.in_default-r-2.not-Done) c.expr-expression-in_default.ensures) refl (omega arith)))
 
 pub stmt-expression_end-requires : goal.stmt-expression_end-requires
-stmt-expression_end-requires t c = let tk = taken c.in-Token.is c.look.ensures in
-    let v = done c.in-Done-r.is c.expr-r-in_default.ensures in
+stmt-expression_end-requires t c = let tk = taken c.in_ok-token.ensures in
+    let v = done c.in-Done-r.is c.expr-expression-in_default.ensures in
     let sh = given (expr_shape _ _ _) v.same in
-    (record { before = take c.args.at c.args.store.now; tree = v.what; shape = sh; text = v.text; within = omega arith }, omega arith)
+    (record { before = take c.args.cursor.at c.args.store.now; tree = v.what; shape = sh; text = v.text; within = omega arith }, omega arith)
 
 pub stmt-returns-in-57 : goal.stmt-returns-in-57
-stmt-returns-in-57 t c = let tk = taken c.in-Token.is c.look.ensures in
+stmt-returns-in-57 t c = let tk = taken c.in_ok-token.ensures in
     later (stmt_loop _ _ tk c.in-57.is) c.loops.ensures (omega arith) (omega arith) (omega arith)
 
 pub stmt-returns-in-58 : goal.stmt-returns-in-58
-stmt-returns-in-58 t c = let tk = taken c.in-Token.is c.look.ensures in
+stmt-returns-in-58 t c = let tk = taken c.in_ok-token.ensures in
     continued (λ x. Node.while_loop 0 x.over (stmt_list_of x.run)) [] c.whiles.ensures (way _ (stmt_while _ _ tk c.in-58.is ∙ while_as _ _ _ _)) (sym (append-nil _)) (λ x. over_two 4 _ _ _) refl (omega arith)
 
 pub stmt-returns-in-59 : goal.stmt-returns-in-59
-stmt-returns-in-59 t c = let tk = taken c.in-Token.is c.look.ensures in
+stmt-returns-in-59 t c = let tk = taken c.in_ok-token.ensures in
     later (stmt_for _ _ tk c.in-59.is) c.each.ensures (omega arith) (omega arith) (omega arith)
 
 pub stmt-returns-in-73 : goal.stmt-returns-in-73
-stmt-returns-in-73 t c = let tk = taken c.in-Token.is c.look.ensures in
+stmt-returns-in-73 t c = let tk = taken c.in_ok-token.ensures in
     later (stmt_labelled _ _ tk c.in-73.is) c.label.ensures (omega arith) (omega arith) (omega arith)
 
 pub stmt-returns-in-Done : goal.stmt-returns-in-Done
-stmt-returns-in-Done t c = let tk = taken c.in-Token.is c.look.ensures in
-    let w = done c.in-Done.is c.expr-r.ensures in
+stmt-returns-in-Done t c = let tk = taken c.in_ok-token.ensures in
+    let w = done c.in_ok-expression.ensures in
     let path = way _ (stmt_assert _ _ tk c.in-67.is) in
     record { how = made_one 6 w c.emit.ensures (goes _ path w.same) (omega arith) (omega arith) refl }
 
 pub stmt-returns-in-Done-r : goal.stmt-returns-in-Done-r
-stmt-returns-in-Done-r t c = let tk = taken c.in-Token.is c.look.ensures in
-    let v = done c.in-Done-r.is c.expr-r-in_default.ensures in
+stmt-returns-in-Done-r t c = let tk = taken c.in_ok-token.ensures in
+    let v = done c.in-Done-r.is c.expr-expression-in_default.ensures in
     let track = way _ (stmt_expr _ _ tk (search) (search) (search) (search) (search) c.is_control.ensures c.if-is_control.false) in
     let sh = given (expr_shape _ _ _) v.same in
     written (c.expression_end.ensures _ _ _ sh v.text v.moved.within) refl (goes _ track v.same) (prefix v (omega (arith, c.requires, v.moved, v.room))) (omega (arith, c.requires, v.moved, v.room, tk.within))
 
-pub stmt-returns-in-Not : goal.stmt-returns-in-Not
-stmt-returns-in-Not t c = did_not (fails_unseen here (stmt_looks _ _ _) (not_taken c.in-Not.is c.look.ensures) refl (omega arith))
+pub stmt-returns-in_err-token : goal.stmt-returns-in_err-token
+stmt-returns-in_err-token t c = rw (handed c.from_residual-in_err-token.ensures.1) (did_not (fails_unseen here (stmt_looks _ _ _) c.in_err-token.ensures refl (omega arith)))

@@ -5,82 +5,81 @@ use Prim.Native.Nat.{ℕ, ◌+◌, ◌*◌, ◌-◌}
 use native.Mathlib.Omega.{arith}
 use lib.ListN.{length, take, drop, length-drop}
 use Rattle.tree.specs.Tree.{none, snoc, count, records}
-use Rattle.scan.proofs.Laws.{way, here, link, goes, done, undone, did_not, taken, not_taken, shorter, fails, lacks, fails_unseen, found, unfound, gets, prefix}
+use Rattle.scan.proofs.Laws.{handed, way, here, link, goes, done, undone, did_not, taken, shorter, fails, lacks, fails_unseen, found, unfound, gets, prefix}
 use Rattle.nodes.proofs.Made.{put, count_snoc, joined}
 use Rattle.cycle.proofs.PathsPrimary.{items_looks, items_end, items_more, items_closed, items_again}
-use Rattle.scan.proofs.Variants.{not_done}
 use Rattle.cycle.proofs.+reading.Goals as goal
 
-pub table-loop-kind-init : goal.table-loop-kind-init
+pub table-loop-look-init : goal.table-loop-look-init
 unfolding records count
-table-loop-kind-init t c = record {
-  fuel = length (drop c.args.pos c.args.tokens.now);
+table-loop-look-init t c = record {
+  fuel = length (drop c.args.cursor.pos c.args.tokens.now);
   enough = rw length-drop (omega arith);
-  run = record { what = none; same = here; moved = omega arith; room = omega arith; text = sym (append-nil (take c.args.at c.args.store.now)) };
+  run = record { what = none; same = here; moved = omega arith; room = omega arith; text = sym (append-nil (take c.args.cursor.at c.args.store.now)) };
   many = refl;
   short = omega arith;
   kept = refl;
 }
 
 pub table-look-requires : goal.table-look-requires
-table-look-requires t c = c.loop-kind.invariant.run.moved.within
+table-look-requires t c = c.loop-look.invariant.run.moved.within
 
 pub table-overflow_add-result : goal.table-overflow_add-result
-table-overflow_add-result t c = let tk = taken c.in-Token.is c.look.ensures in
+table-overflow_add-result t c = let tk = taken c.in_ok-look.ensures in
     omega arith
 
 pub table-list_end-requires : goal.table-list_end-requires
-table-list_end-requires t c = let g = c.loop-kind.invariant in
+table-list_end-requires t c = let g = c.loop-look.invariant in
     let gr = g.run in
-    let tk = taken c.in-Token.is c.look.ensures in
+    let tk = taken c.in_ok-look.ensures in
     (omega (arith, c.requires, g.kept, gr.moved, gr.room, tk.within), omega (arith, c.requires, g.short, tk.within))
 
-pub table-returns-then-kind-eq-CLOSE_BRACE : goal.table-returns-then-kind-eq-CLOSE_BRACE
-table-returns-then-kind-eq-CLOSE_BRACE t c = let g = c.loop-kind.invariant in
+pub table-returns-then-look-eq-CLOSE_BRACE : goal.table-returns-then-look-eq-CLOSE_BRACE
+table-returns-then-look-eq-CLOSE_BRACE t c = let g = c.loop-look.invariant in
     let gr = g.run in
-    let tk = taken c.in-Token.is c.look.ensures in
-    let out = link gr.same (way _ (items_end _ gr.what _ g.fuel _ g.enough tk c.if-kind-eq-CLOSE_BRACE.true)) in
+    let tk = taken c.in_ok-look.ensures in
+    let out = link gr.same (way _ (items_end _ gr.what _ g.fuel _ g.enough tk c.if-look-eq-CLOSE_BRACE.true)) in
     let e = c.list_end.ensures in
-    record { how = record { what = gr.what; same = out; moved = omega (arith, c.requires, gr.moved, tk.within); room = omega (arith, gr.room, e.next); text = put 1 gr.what (take c.args.at c.args.store.now) e gr.text (ap (λ (i : ℕ). 1 + 256 * i) (sym g.many)) } }
+    record { how = record { what = gr.what; same = out; moved = omega (arith, c.requires, gr.moved, tk.within); room = omega (arith, gr.room, e.next); text = put 1 gr.what (take c.args.cursor.at c.args.store.now) e gr.text (ap (λ (i : ℕ). 1 + 256 * i) (sym g.many)) } }
 
-pub table-item-r-requires : goal.table-item-r-requires
-table-item-r-requires t c = let g = c.loop-kind.invariant in
+pub table-item-one-requires : goal.table-item-one-requires
+table-item-one-requires t c = let g = c.loop-look.invariant in
     let gr = g.run in
-    let tk = taken c.in-Token.is c.look.ensures in
+    let tk = taken c.in_ok-look.ensures in
     omega (arith, c.requires, g.kept, gr.moved, gr.room, tk.within)
 
-pub table-returns-in_default : goal.table-returns-in_default
-table-returns-in_default t c = let g = c.loop-kind.invariant in
+pub table-returns-in_err-one : goal.table-returns-in_err-one
+table-returns-in_err-one t c = let g = c.loop-look.invariant in
     let gr = g.run in
-    let tk = taken c.in-Token.is c.look.ensures in
-    let on = link gr.same (way _ (items_more _ gr.what _ g.fuel _ g.enough tk c.if-kind-eq-CLOSE_BRACE.false)) in
-    did_not (fails _ on (undone (not_done c.in_default.not-Done) c.item-r.ensures) (prefix gr (omega (arith, c.requires))) (omega (arith, gr.moved, gr.room)))
+    let tk = taken c.in_ok-look.ensures in
+    let on = link gr.same (way _ (items_more _ gr.what _ g.fuel _ g.enough tk c.if-look-eq-CLOSE_BRACE.false)) in
+    rw (handed c.from_residual-in_err-one.ensures.1) (did_not (fails _ on (undone c.in_err-one.ensures) (prefix gr (omega (arith, c.requires))) (omega (arith, gr.moved, gr.room))))
 
 pub table-item_end-requires : goal.table-item_end-requires
-table-item_end-requires t c = let w = done c.in-Done.is c.item-r.ensures in
+table-item_end-requires t c = let w = done c.in_ok-one.ensures in
     w.moved.within
 
 pub table-overflow_add-n : goal.table-overflow_add-n
-table-overflow_add-n t c = let g = c.loop-kind.invariant in
-    let ie = found c.in-At.is c.item_end.ensures in
-    let w = done c.in-Done.is c.item-r.ensures in
+table-overflow_add-n t c = let g = c.loop-look.invariant in
+    let ie = found c.in_ok-closing.ensures in
+    let w = done c.in_ok-one.ensures in
     omega (arith, c.requires, g.short, w.moved, ie.got.on, ie.got.within)
 
 pub table-list_end-requires-then-closed-eq1 : goal.table-list_end-requires-then-closed-eq1
-table-list_end-requires-then-closed-eq1 t c = let g = c.loop-kind.invariant in
+table-list_end-requires-then-closed-eq1 t c = let g = c.loop-look.invariant in
     let gr = g.run in
-    let w = done c.in-Done.is c.item-r.ensures in
-    let ie = found c.in-At.is c.item_end.ensures in
-    (omega (arith, c.requires, g.kept, gr.moved, gr.room, w.moved, w.room, ie.got.on, ie.got.within, c.item-r.auto.store), omega (arith, c.requires, g.short, w.moved, ie.got.on, ie.got.within))
+    let w = done c.in_ok-one.ensures in
+    let ie = found c.in_ok-closing.ensures in
+    (omega (arith, c.requires, g.kept, gr.moved, gr.room, w.moved, w.room, ie.got.on, ie.got.within, c.item-one.auto.store), omega (arith, c.requires, g.short, w.moved, ie.got.on, ie.got.within))
 
 pub table-returns-then-closed-eq1 : goal.table-returns-then-closed-eq1
-table-returns-then-closed-eq1 t c = let g = c.loop-kind.invariant in
+table-returns-then-closed-eq1 t c = let g = c.loop-look.invariant in
     let gr = g.run in
-    let tk = taken c.in-Token.is c.look.ensures in
-    let on = link gr.same (way _ (items_more _ gr.what _ g.fuel _ g.enough tk c.if-kind-eq-CLOSE_BRACE.false)) in
-    let w = done c.in-Done.is c.item-r.ensures in
+    let tk = taken c.in_ok-look.ensures in
+    let on = link gr.same (way _ (items_more _ gr.what _ g.fuel _ g.enough tk c.if-look-eq-CLOSE_BRACE.false)) in
+    let w = done c.in_ok-one.ensures in
     let next = goes _ on w.same in
-    let ie = found c.in-At.is c.item_end.ensures in
+    let ie = found c.in_ok-closing.ensures in
     let got = gets _ ie.got next in
     let e = c.list_end-then-closed-eq1.ensures in
     let f = snoc gr.what w.what in
@@ -90,49 +89,49 @@ table-returns-then-closed-eq1 t c = let g = c.loop-kind.invariant in
         same = link got (way _ (items_closed _ _ _ _ _ (ie.is ∙ c.if-closed-eq1.true)));
         moved = omega (arith, gr.moved, w.moved, ie.got.on, ie.got.within);
         room = omega (arith, gr.room, w.room, ie.got.on, e.next);
-        text = put 1 f (take c.args.at c.args.store.now) e (joined gr.what w.what (take c.args.at c.args.store.now) w.text gr.text) (ap (λ (i : ℕ). 1 + 256 * i) (sym (count_snoc gr.what w.what ∙ ap (λ (i : ℕ). i + 1) g.many)));
+        text = put 1 f (take c.args.cursor.at c.args.store.now) e (joined gr.what w.what (take c.args.cursor.at c.args.store.now) w.text gr.text) (ap (λ (i : ℕ). 1 + 256 * i) (sym (count_snoc gr.what w.what ∙ ap (λ (i : ℕ). i + 1) g.many)));
       };
     }
 
 pub table-overflow_add-n-in-At : goal.table-overflow_add-n-in-At
-table-overflow_add-n-in-At t c = let g = c.loop-kind.invariant in
-    let ie = found c.in-At.is c.item_end.ensures in
-    let w = done c.in-Done.is c.item-r.ensures in
+table-overflow_add-n-in-At t c = let g = c.loop-look.invariant in
+    let ie = found c.in_ok-closing.ensures in
+    let w = done c.in_ok-one.ensures in
     omega (arith, c.requires, g.short, w.moved, ie.got.on, ie.got.within)
 
-pub table-loop-kind-smaller : goal.table-loop-kind-smaller
-table-loop-kind-smaller t c = let w = done c.in-Done.is c.item-r.ensures in
-    let ie = found c.in-At.is c.item_end.ensures in
+pub table-loop-look-smaller : goal.table-loop-look-smaller
+table-loop-look-smaller t c = let w = done c.in_ok-one.ensures in
+    let ie = found c.in_ok-closing.ensures in
     omega (arith, w.moved, ie.got.on, ie.got.within)
 
-pub table-loop-kind-preserved : goal.table-loop-kind-preserved
-table-loop-kind-preserved t c = let g = c.loop-kind.invariant in
+pub table-loop-look-preserved : goal.table-loop-look-preserved
+table-loop-look-preserved t c = let g = c.loop-look.invariant in
     let gr = g.run in
-    let tk = taken c.in-Token.is c.look.ensures in
-    let on = link gr.same (way _ (items_more _ gr.what _ g.fuel _ g.enough tk c.if-kind-eq-CLOSE_BRACE.false)) in
-    let w = done c.in-Done.is c.item-r.ensures in
+    let tk = taken c.in_ok-look.ensures in
+    let on = link gr.same (way _ (items_more _ gr.what _ g.fuel _ g.enough tk c.if-look-eq-CLOSE_BRACE.false)) in
+    let w = done c.in_ok-one.ensures in
     let next = goes _ on w.same in
-    let ie = found c.in-At.is c.item_end.ensures in
+    let ie = found c.in_ok-closing.ensures in
     let got = gets _ ie.got next in
     record {
       fuel = g.fuel - 1;
       enough = omega (arith, g.enough, w.moved, ie.got.on, tk.within);
-      run = record { what = snoc gr.what w.what; same = link got (way _ (items_again _ _ _ _ _ (λ i. c.if-closed-eq1.false (sym ie.is ∙ i)))); moved = omega (arith, gr.moved, w.moved, ie.got.on, ie.got.within); room = omega (arith, gr.room, w.room, ie.got.on); text = joined gr.what w.what (take c.args.at c.args.store.now) w.text gr.text };
+      run = record { what = snoc gr.what w.what; same = link got (way _ (items_again _ _ _ _ _ (λ i. c.if-closed-eq1.false (sym ie.is ∙ i)))); moved = omega (arith, gr.moved, w.moved, ie.got.on, ie.got.within); room = omega (arith, gr.room, w.room, ie.got.on); text = joined gr.what w.what (take c.args.cursor.at c.args.store.now) w.text gr.text };
       many = count_snoc gr.what w.what ∙ ap (λ (i : ℕ). i + 1) g.many;
       short = omega (arith, g.short, w.moved, ie.got.on);
-      kept = omega (arith, g.kept, c.item-r.auto.store);
+      kept = omega (arith, g.kept, c.item-one.auto.store);
     }
 
-pub table-returns-in-Not-item_end : goal.table-returns-in-Not-item_end
-table-returns-in-Not-item_end t c = let g = c.loop-kind.invariant in
+pub table-returns-in_err-look-item_end : goal.table-returns-in_err-look-item_end
+table-returns-in_err-look-item_end t c = let g = c.loop-look.invariant in
     let gr = g.run in
-    let tk = taken c.in-Token.is c.look.ensures in
-    let on = link gr.same (way _ (items_more _ gr.what _ g.fuel _ g.enough tk c.if-kind-eq-CLOSE_BRACE.false)) in
-    let w = done c.in-Done.is c.item-r.ensures in
+    let tk = taken c.in_ok-look.ensures in
+    let on = link gr.same (way _ (items_more _ gr.what _ g.fuel _ g.enough tk c.if-look-eq-CLOSE_BRACE.false)) in
+    let w = done c.in_ok-one.ensures in
     let next = goes _ on w.same in
-    did_not (lacks _ (unfound c.in-Not-item_end.is c.item_end.ensures) next (shorter _ _ _ _ gr.room.up (prefix w (omega (arith, c.requires, g.kept, gr.moved, gr.room))) ∙ prefix gr (omega (arith, c.requires))) (omega (arith, gr.moved, w.moved)))
+    rw (handed c.from_residual-in_err-look-item_end.ensures.1) (did_not (lacks _ (unfound c.in-Not-item_end.is c.item_end.ensures) next (shorter _ _ _ _ gr.room.up (prefix w (omega (arith, c.requires, g.kept, gr.moved, gr.room))) ∙ prefix gr (omega (arith, c.requires))) (omega (arith, gr.moved, w.moved))))
 
-pub table-returns-in-Not : goal.table-returns-in-Not
-table-returns-in-Not t c = let g = c.loop-kind.invariant in
+pub table-returns-in_err-look : goal.table-returns-in_err-look
+table-returns-in_err-look t c = let g = c.loop-look.invariant in
     let gr = g.run in
-    did_not (fails_unseen gr.same (items_looks _ gr.what _ _ g.fuel _ g.enough) (not_taken c.in-Not.is c.look.ensures) (prefix gr (omega (arith, c.requires))) (omega (arith, gr.moved)))
+    rw (handed c.from_residual-in_err-look.ensures.1) (did_not (fails_unseen gr.same (items_looks _ gr.what _ _ g.fuel _ g.enough) c.in_err-look.ensures (prefix gr (omega (arith, c.requires))) (omega (arith, gr.moved))))

@@ -1,22 +1,22 @@
 -- What is left to show of `cycle::val` in its cycle of calls. Assumes nothing.
 use mathlib.Core.Path.{refl, sym, ◌∙◌}
 use native.Mathlib.Omega.{arith}
-use Rattle.scan.proofs.Laws.{way, here, did_not, taken, not_taken, fails_unseen, later}
+use Rattle.scan.proofs.Laws.{handed, way, here, did_not, taken, fails_unseen, later}
 use Rattle.nodes.proofs.Made.{made_none}
 use Rattle.cycle.proofs.PathsControl.{value_looks, value_none, value_some}
 use Rattle.cycle.proofs.+reading.Goals as goal
 
 pub val-emit-requires : goal.val-emit-requires
-val-emit-requires t c = let tk = taken c.in-Token.is c.look.ensures in
+val-emit-requires t c = let tk = taken c.in_ok-look.ensures in
     omega (arith, c.requires, tk)
 
 pub val-returns-then-ends_control : goal.val-returns-then-ends_control
-val-returns-then-ends_control t c = let tk = taken c.in-Token.is c.look.ensures in
+val-returns-then-ends_control t c = let tk = taken c.in_ok-look.ensures in
     record { how = made_none 0 c.emit.ensures (way _ (value_none _ _ tk (sym c.ends_control.ensures ∙ c.if-ends_control.true))) (omega arith) (omega arith) refl }
 
 pub val-returns-else-ends_control : goal.val-returns-else-ends_control
-val-returns-else-ends_control t c = let tk = taken c.in-Token.is c.look.ensures in
+val-returns-else-ends_control t c = let tk = taken c.in_ok-look.ensures in
     later (value_some _ _ tk (sym c.ends_control.ensures ∙ c.if-ends_control.false)) c.expr.ensures (omega arith) (omega arith) (omega arith)
 
-pub val-returns-in-Not : goal.val-returns-in-Not
-val-returns-in-Not t c = did_not (fails_unseen here (value_looks _ _ _) (not_taken c.in-Not.is c.look.ensures) refl (omega arith))
+pub val-returns-in_err-look : goal.val-returns-in_err-look
+val-returns-in_err-look t c = rw (handed c.from_residual-in_err-look.ensures.1) (did_not (fails_unseen here (value_looks _ _ _) c.in_err-look.ensures refl (omega arith)))

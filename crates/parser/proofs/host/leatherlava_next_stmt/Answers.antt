@@ -1,4 +1,4 @@
--- `parser::host::leatherlava_next_stmt` meets its contract, by those of `next_stmt` and `flatten`. Assumes nothing.
+-- `parser::host::leatherlava_next_stmt` meets its contract, by those of `next_stmt` and `From`. Assumes nothing.
 use mathlib.Core.Path.{ap, ◌∙◌}
 use mathlib.Core.List.{List}
 use Prim.Native.Nat.{ℕ}
@@ -13,4 +13,4 @@ left_with R m x = record { answer = x; reader = R; store = m }
 pub returns : goal.returns
 returns c =
     let n = c.next_stmt-stepped in
-    ap (left_with n.result.reader _) c.flatten.ensures ∙ ap flat_called n.ensures
+    ap (left_with n.result.reader _) c.from.ensures ∙ ap flat_called n.ensures
