@@ -15,7 +15,7 @@ use Rattle.tree.specs.NodeKind
 use Rattle.tree.specs.Tree.{Tree, Forest, node, none, more, one, snoc, count, records, all_records, kind_of}
 use Rattle.tree.specs.Node
 use Rattle.tree.specs.Records.{Small}
-use Rattle.tree.specs.Store.{Result, leading}
+use Rattle.tree.specs.Store.{Emitted, Result, leading}
 use Rattle.grammar.specs.Reading.Result.{Res, ok, fail, ifb, Error}
 use Rattle.grammar.specs.Reading.Expr.{Stmts}
 use Rattle.grammar.specs.Reading.Pattern.{modified}
@@ -23,14 +23,17 @@ use Rattle.grammar.specs.Reading.Primary.{with_action, atom_error, literal, argu
 use Rattle.grammar.specs.Reading.Block.{whole, result, split, split_last, split_kids, split_before, block_split, block_of}
 use Rattle.grammar.specs.Reading.Function.{target_name}
 use Rattle.grammar.specs.Reading.Stmt.{stmt_list_of, lone_ellipsis}
-use Rattle.scan.specs.declared.Step.{Step}
-use Rattle.scan.specs.declared.Step.TheVariants.{Done, Fail}
+use Rattle.std.proofs.Common.{Ok, Err}
+use Rattle.scan.specs.declared.Cursor.{Cursor}
+use Rattle.scan.specs.declared.Halt.TheVariants.{Fail}
+use Rattle.scan.specs.declared.Suite.{Suite}
 use Rattle.scan.specs.declared.Listed.{Listed}
-use Rattle.scan.specs.declared.Listed.TheVariants.{Suite, Control, Not}
+use Rattle.scan.specs.declared.Listed.TheVariants.{Suite as ASuite}
+use Rattle.scan.specs.Lists.{end_of}
 use Rattle.scan.specs.Post.{Writes}
 use Rattle.nodes.specs.Ends.{Shape, other, a_tuple, lone, unpacked, Marked, statement, no_statement, Carries}
 use Rattle.nodes.specs.Parts.{path_words}
-use Rattle.nodes.specs.Lists.{Ends, keeps, gives, held_words, SuiteStands, HeldStands, Closing, Closable, Unders}
+use Rattle.nodes.specs.Lists.{Ends, keeps, gives, held_words, SuiteStands, HeldStands, Closing, Closable, Stands, Unders}
 use Rattle.nodes.proofs.Made.{over_one, all_snoc, count_snoc}
 
 -- THE LAST RECORD of a text: its words, and the text before it
@@ -73,10 +76,6 @@ pub joins : (X Z W : List ℕ) {Y Y₀ : List ℕ} → Y ≡ Y₀ ++ W → Y₀ 
 joins X Z W e t = e ∙ ap (λ (y : List ℕ). y ++ W) t ∙ append_assoc X Z W
 
 -- A GROUP'S ACTION
-act_none : (m : ℕ) (t : Tree) → m ≡ 0 → with_action m t ≡ t
-act_none zero t e = refl
-act_none (suc m) t e = absurd (omega arith)
-
 act_other : (m k v : ℕ) (f : Forest) → (k ≡ NodeKind.Assignment → ⊥) → with_action m (node k v f) ≡ node k v f
 act_other zero k v f e = refl
 act_other (suc m) k v f e = rw (ne_eqb k NodeKind.Assignment e)
@@ -88,9 +87,6 @@ act_some (suc m) k v f h e =
     rw (eq-eqb k NodeKind.Assignment e, z)
 
 module _ (S X : List ℕ) (a m : ℕ) where
-  pub unacted : (t : Tree) → m ≡ 0 → take a S ≡ X ++ records t → take a S ≡ X ++ records (with_action m t)
-  unacted t e text = rw (act_none m t e) text
-
   pub acted_other : (t : Tree) → Small t → a ≤ length S → (get_or S (a - 2) 0 % 256 ≡ NodeKind.Assignment → ⊥) → take a S ≡ X ++ records t → take a S ≡ X ++ records (with_action m t)
   unfolding Small
   acted_other (node k v f) s within h text = rw (act_other m k v f (λ e. h (root_kind S X a k v f text within s.0 ∙ e))) text
@@ -102,10 +98,6 @@ module _ (S X : List ℕ) (a m : ℕ) where
       rw (act_some m k v f h (sym (root_kind S X a k v f text within s.0) ∙ e), r.value) (r.changed (m - 1 + 4 * (v / 4)) ∙ append_assoc X (all_records f) ((k + 256 * count f) ∷ (m - 1 + 4 * (v / 4)) ∷ []))
 
 -- A PATTERN under a modifier
-pub modified_none : (m : ℕ) (t : Tree) → m ≡ 0 → modified m t ≡ t
-modified_none zero t e = refl
-modified_none (suc m) t e = absurd (omega arith)
-
 pub modified_some : (m : ℕ) (t : Tree) → (m ≡ 0 → ⊥) → records (modified m t) ≡ records t ++ 302 ∷ (m - 1) ∷ []
 modified_some zero t e = absurd (e refl)
 modified_some (suc m) t e =
@@ -259,23 +251,17 @@ module _ {s : Stmts} {X S : List ℕ} {a : ℕ} (st : HeldStands s X S a) where
   unfolding records count
   held_list text = joins X (held_words s) (519 ∷ 0 ∷ []) text st.text ∙ simp (append-nil, append_assoc)
 
--- A LIST by its variant: what may be asked, and what is to be shown
-pub closing : {l : Listed} {m most p a w n last : ℕ} → l ≡ Suite p a w n last → Closable m most l → Closing m most a n last
+-- A LIST by its variant: what may be asked of statements
+pub closing : {l : Listed} {m most : ℕ} {suite : Suite} → l ≡ ASuite suite → Closable m most l → Closing m most suite.end.at suite.count suite.last
 closing e c = (rw e at c).how
 
-pub closing_held : {l : Listed} {m most p a w : ℕ} → l ≡ Control p a w → Closable m most l → a + most ≤ m
-closing_held e c = (rw e at c).how
-
-pub under_suite : {tree : Stmts → Tree} {word value most p a w n last b : ℕ} {S S' : List ℕ} {l : Listed} → l ≡ Suite p a w n last → a ≤ b → b ≤ a + most
-    → ((s : Stmts) (X : List ℕ) → SuiteStands s X S a n last → take b S' ≡ X ++ (records (tree s) ++ word ∷ value ∷ [])) → Unders tree word value most S S' l (Done p b w)
-under_suite e up far text = rw e (record { how = record { stays = refl; waits = refl; up = up; far = far; text = text } })
-
-pub under_held : {tree : Stmts → Tree} {word value most p a w b : ℕ} {S S' : List ℕ} {l : Listed} → l ≡ Control p a w → a ≤ b → b ≤ a + most
-    → ((s : Stmts) (X : List ℕ) → HeldStands s X S a → take b S' ≡ X ++ (records (tree s) ++ word ∷ value ∷ [])) → Unders tree word value most S S' l (Done p b w)
-under_held e up far text = rw e (record { how = record { stays = refl; waits = refl; up = up; far = far; text = text } })
-
-pub under_not : {tree : Stmts → Tree} {word value most : ℕ} {S : List ℕ} {l : Listed} {r : Step} → l ≡ Not r → Unders tree word value most S S l r
-under_not e = rw e (record { how = (refl, refl) })
+-- a list l is k; its tree stands in S₁ up to b, and the record behind it was written
+pub node_over : {tree : Stmts → Tree} {word value most b r : ℕ} {S S₁ S₂ S' : List ℕ} {l k : Listed} {body : Cursor} → l ≡ k → body ≡ record { pos = (end_of k).pos; at = b } → S₂ ≡ S₁ → (end_of k).at ≤ b → b + 2 ≤ (end_of k).at + most
+    → ((s : Stmts) (X : List ℕ) → Stands S k s X → take b S₁ ≡ X ++ records (tree s)) → Emitted body.at word value r S₂ S' → Unders tree word value most S S' l (record { pos = body.pos; at = r })
+node_over {tree} {word} {value} e i o up far text m =
+    let j = ap (λ (c : Cursor). c.at) i in
+    let next = m.next in
+    rw e (record { how = record { stays = rw i; up = omega arith; far = omega arith; text = λ s X st. joins X (records (tree s)) (word ∷ value ∷ []) m.text (rw (i, o) (text s X st)) } })
 
 -- A CALL
 module _ (S X : List ℕ) (a : ℕ) (within : a ≤ length S) where
@@ -305,15 +291,17 @@ path_some none n e h = absurd (h (sym e))
 path_some (more t f) n e h = rw (← e)
 
 -- WHAT WAS WRITTEN, and what was refused, behind the token's word at pos
-pub wrote : {d : List Error → Res Tree} {T : List ℕ} {pos most at w r : ℕ} {X S S' : List ℕ} (t : Tree) → ((q : List Error) → d q ≡ ok t (drop pos T)) → pos ≤ length T → r ≤ at + most → take r S' ≡ X ++ records t → Writes records d T pos pos most at w X S S' (Done pos r w)
-wrote t same within far text = record { how = record { got = record { what = t; same = same; on = le_refl _; within = within }; waits = refl; far = far; text = text } }
+pub wrote : {d : List Error → Res Tree} {T : List ℕ} {pos most at r : ℕ} {X S S' : List ℕ} (t : Tree) → ((q : List Error) → d q ≡ ok t (drop pos T)) → pos ≤ length T → r ≤ at + most → take r S' ≡ X ++ records t → Writes records d T pos pos most at X S S' (Ok (record { pos = pos; at = r }))
+wrote t same within far text = record { how = record { got = record { what = t; same = same; on = le_refl _; within = within }; far = far; text = text } }
 
-pub refused : {d : List Error → Res Tree} {T : List ℕ} {pos most at w e : ℕ} {X S S' : List ℕ} → ((q : List Error) → d q ≡ fail e q (drop pos T)) → pos ≤ length T → S' ≡ S → Writes records d T pos pos most at w X S S' (Fail (record { error = e; pos = pos; waiting = w }))
-refused same within text = record { how = record { unread = record { how = record { same = same; waits = refl; on = le_refl _; within = within; far = omega arith } }; text = text } }
+pub refused : {d : List Error → Res Tree} {T : List ℕ} {pos most at e : ℕ} {X S S' : List ℕ} → ((q : List Error) → d q ≡ fail e q (drop pos T)) → pos ≤ length T → S' ≡ S → Writes records d T pos pos most at X S S' (Err (Fail (record { error = e; pos = pos })))
+refused same within text = record { how = record { unread = record { how = record { same = same; on = le_refl _; within = within; far = omega arith } }; text = text } }
 
--- A LITERAL goes by its kind
-pub of_kind : (v : ℕ) {k k' : ℕ} → k ≡ k' → (q : List Error) (ts : List ℕ) → literal (record { kind = k; newline = 0; value = v }) q ts ≡ literal (record { kind = k'; newline = 0; value = v }) q ts
-of_kind v e q ts = ap (λ (k : ℕ). literal (record { kind = k; newline = 0; value = v }) q ts) e
+-- A LITERAL goes by its kind: it is a tree of one record, whose words are those of w
+pub record OneRecord (k v : ℕ) (w : ℕ × ℕ) : Type 0 where
+  pub tree : Tree
+  pub same : (q : List Error) (ts : List ℕ) → literal (record { kind = k; newline = 0; value = v }) q ts ≡ ok tree ts
+  pub words : records tree ≡ w.0 ∷ w.1 ∷ []
 
 pub no_literal : (k v : ℕ) (q : List Error) (ts : List ℕ) → (k ≡ Kind.Identifier → ⊥) → (k ≡ Kind.Nil → ⊥) → (k ≡ Kind.True → ⊥) → (k ≡ Kind.False → ⊥) → (k ≡ Kind.IntegerLiteral → ⊥) → (k ≡ Kind.FloatLiteral → ⊥) → (k ≡ Kind.StringLiteral → ⊥) → literal (record { kind = k; newline = 0; value = v }) q ts ≡ fail (atom_error k) q ts
 unfolding literal ifb

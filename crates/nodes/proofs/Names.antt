@@ -4,8 +4,6 @@ use mathlib.Core.Bool.{Bool, true, false}
 use mathlib.Core.List.{List, [], ◌∷◌, ◌++◌, append_assoc, append-nil}
 use Prim.Native.Nat.{ℕ, zero, suc, ◌+◌, ◌*◌, ◌-◌, ◌≤◌, ◌<◌}
 use native.Mathlib.Omega.{arith}
-use types.Run.{OneOf}
-use denote.Enum.Declared.{tag_of}
 use borrow.Author.Tests.{eq-eqb, ne_eqb}
 use lib.Dec.{eqb}
 use lib.ListN.{take, drop}
@@ -19,63 +17,54 @@ use Rattle.grammar.specs.Reading.Number
 use Rattle.grammar.specs.Reading.Result.{Res, ok, bad, fail, stop, then, ifb, Error}
 use Rattle.grammar.specs.Reading.Look.{look}
 use Rattle.grammar.specs.Reading.Function.{Param, required, variadic, default, Params, joined}
-use Rattle.scan.specs.Post.{Unread, Got, Finds, Writes}
+use Rattle.scan.specs.Post.{Unread, Got, Writes}
 use Rattle.nodes.specs.Ends.{Added}
 use Rattle.nodes.specs.Parts.{Header, separator, join, signature_words}
 use Rattle.nodes.specs.Parameters.{Heads, required_words, words_of, params_words, variadic_of, with_default, Fitting}
-use Rattle.scan.specs.declared.Step.{Step}
-use Rattle.scan.specs.declared.Step.TheVariants.{Done, Fail, Stop}
-use Rattle.scan.specs.declared.Found.{Found}
-use Rattle.scan.specs.declared.Found.TheVariants.{At, Not as Nor}
+use Rattle.std.proofs.Common.{Result, Ok, Err}
+use Rattle.scan.specs.declared.Cursor.{Cursor}
+use Rattle.scan.specs.declared.Halt.{Halt}
+use Rattle.scan.specs.declared.Halt.TheVariants.{Fail, Stop}
+use Rattle.nodes.specs.declared.Counts.{Counts}
 use Rattle.nodes.specs.declared.Head.{Head}
-use Rattle.nodes.specs.declared.Head.TheVariants.{Required as HRequired, Variadic as HVariadic, Default as HDefault, Not as HNot}
-use Rattle.scan.specs.contracts.Found.{the_type}
+use Rattle.nodes.specs.declared.Head.TheVariants.{Required as HRequired, Variadic as HVariadic, Default as HDefault}
 use Rattle.nodes.proofs.Made.{all_snoc}
 use Rattle.scan.proofs.Looking.{through}
 use Rattle.nodes.proofs.Algebra.{look_plain, plain_not_bad}
 
 -- A READING e that is the reading d
-same_unread : {A : Type 0} {d e : List Error → Res A} {T : List ℕ} {pos₁ least₁ pos least w : ℕ} {r : Step} → ((q : List Error) → e q ≡ d q) → Unread d T pos₁ least₁ w r → pos ≤ pos₁ → least ≤ least₁ → Unread e T pos least w r
-same_unread {r = Done p a v} i u h g = record { how = u.how }
-same_unread {r = Fail failure} i u h g =
+same_unread : {A : Type 0} {d e : List Error → Res A} {T : List ℕ} {pos₁ least₁ pos least : ℕ} {h : Halt} → ((q : List Error) → e q ≡ d q) → Unread d T pos₁ least₁ h → pos ≤ pos₁ → least ≤ least₁ → Unread e T pos least h
+same_unread {h = Fail failure} i u f g =
     let l = u.how in
     let on = l.on in
     let far = l.far in
-    record { how = record { same = λ q. i q ∙ l.same q; waits = l.waits; on = omega arith; within = l.within; far = omega arith } }
-same_unread {r = Stop n} i u h g = record { how = λ q. i q ∙ u.how q }
+    record { how = record { same = λ q. i q ∙ l.same q; on = omega arith; within = l.within; far = omega arith } }
+same_unread {h = Stop n} i u f g = record { how = λ q. i q ∙ u.how q }
 
 -- A READING e that begins with the reading d, and fails as it does
 pub record Begins {A B : Type 0} (e : List Error → Res B) (d : List Error → Res A) : Type 0 where
   pub go : List ℕ → A → List Error → List ℕ → Res B
   pub is : (q : List Error) → e q ≡ then q (d q) (go q)
 
-pub onward : {A B : Type 0} {d : List Error → Res A} {e : List Error → Res B} {T : List ℕ} {pos₁ least₁ pos least w : ℕ} {r : Step} → Begins e d → Unread d T pos₁ least₁ w r → pos ≤ pos₁ → least ≤ least₁ → Unread e T pos least w r
-onward b u h g = same_unread (λ q. refl) (through b.go b.is u) h g
-
--- the same where the answer was of a kind that holds it
-pub lacks_too : {A B : Type 0} {number : A → ℕ} {number' : B → ℕ} {d : List Error → Res A} {e : List Error → Res B} {T : List ℕ} {pos least far bound least' far' bound' w : ℕ} {f : Found} → OneOf (1 ∷ []) (tag_of the_type f) → Begins e d → Finds number d T pos least far bound w f → far' ≤ far → Finds number' e T pos least' far' bound' w f
-lacks_too {f = At p v} o b h g = absurd (omega arith)
-lacks_too {f = Nor r} o b h g = record { how = onward b h.how (omega arith) g }
+pub onward : {A B : Type 0} {d : List Error → Res A} {e : List Error → Res B} {T : List ℕ} {pos₁ least₁ pos least : ℕ} {h : Halt} → Begins e d → Unread d T pos₁ least₁ h → pos ≤ pos₁ → least ≤ least₁ → Unread e T pos least h
+onward b u f g = same_unread (λ q. refl) (through b.go b.is u) f g
 
 -- what is not read is not written
-pub unwrote : {A : Type 0} {words : A → List ℕ} {d : List Error → Res A} {T : List ℕ} {pos least most at w : ℕ} {X S : List ℕ} {r : Step} → Unread d T pos least w r → Writes words d T pos least most at w X S S r
-unwrote {r = Done p a v} u = absurd u.how
-unwrote {r = Fail failure} u = record { how = record { unread = u; text = refl } }
-unwrote {r = Stop n} u = record { how = record { unread = u; text = refl } }
+pub unwrote : {A : Type 0} {words : A → List ℕ} {d : List Error → Res A} {T : List ℕ} {pos least most at : ℕ} {X S : List ℕ} {h : Halt} → Unread d T pos least h → Writes words d T pos least most at X S S (Err h)
+unwrote u = record { how = record { unread = u; text = refl } }
 
 abbrev same_got : {A : Type 0} {d e : List Error → Res A} {T : List ℕ} {least₁ least p : ℕ} → ((q : List Error) → e q ≡ d q) → Got d T least₁ p → least ≤ least₁ → Got e T least p
 same_got i g h = let on = g.on in record { what = g.what; same = λ q. i q ∙ g.same q; on = omega arith; within = g.within }
 
-pub same_writes : {A : Type 0} {words : A → List ℕ} {d e : List Error → Res A} {T : List ℕ} {pos least₁ least most at w : ℕ} {X S S' : List ℕ} {r : Step} → ((q : List Error) → e q ≡ d q) → Writes words d T pos least₁ most at w X S S' r → least ≤ least₁ → Writes words e T pos least most at w X S S' r
-same_writes {r = Done p a v} i u h = let s = u.how in record { how = record { got = same_got i s.got h; waits = s.waits; far = s.far; text = s.text } }
-same_writes {r = Fail failure} i u h = let s = u.how in record { how = record { unread = same_unread i s.unread (omega arith) h; text = s.text } }
-same_writes {r = Stop n} i u h = let s = u.how in record { how = record { unread = same_unread i s.unread (omega arith) h; text = s.text } }
+pub same_writes : {A : Type 0} {words : A → List ℕ} {d e : List Error → Res A} {T : List ℕ} {pos least₁ least most at : ℕ} {X S S' : List ℕ} {r : Result Cursor Halt} → ((q : List Error) → e q ≡ d q) → Writes words d T pos least₁ most at X S S' r → least ≤ least₁ → Writes words e T pos least most at X S S' r
+same_writes {r = Ok end} i u h = let s = u.how in record { how = record { got = same_got i s.got h; far = s.far; text = s.text } }
+same_writes {r = Err halt} i u h = let s = u.how in record { how = record { unread = same_unread i s.unread (omega arith) h; text = s.text } }
 
-pub same_heads : {T : List ℕ} {pos₁ least₁ pos least w : ℕ} {d e : List Error → Res Header} {r : Head} → ((q : List Error) → e q ≡ d q) → Heads d T pos₁ least₁ w r → pos ≤ pos₁ → least ≤ least₁ → Heads e T pos least w r
-same_heads {r = HRequired p v} i u h g = let s = u.how in record { how = record { got = same_got i s.got g; is = s.is; below = s.below } }
-same_heads {r = HVariadic p v} i u h g = let s = u.how in record { how = record { got = same_got i s.got g; is = s.is; below = s.below } }
-same_heads {r = HDefault p v} i u h g = let s = u.how in record { how = record { got = same_got i s.got g; is = s.is; below = s.below } }
-same_heads {r = HNot r} i u h g = record { how = same_unread i u.how h h }
+pub same_heads : {T : List ℕ} {pos₁ least₁ pos least : ℕ} {d e : List Error → Res Header} {r : Result Head Halt} → ((q : List Error) → e q ≡ d q) → Heads d T pos₁ least₁ r → pos ≤ pos₁ → least ≤ least₁ → Heads e T pos least r
+same_heads {r = Ok (HRequired p v)} i u h g = let s = u.how in record { how = record { got = same_got i s.got g; is = s.is; below = s.below } }
+same_heads {r = Ok (HVariadic p v)} i u h g = let s = u.how in record { how = record { got = same_got i s.got g; is = s.is; below = s.below } }
+same_heads {r = Ok (HDefault p v)} i u h g = let s = u.how in record { how = record { got = same_got i s.got g; is = s.is; below = s.below } }
+same_heads {r = Err halt} i u h g = record { how = same_unread i u.how h h }
 
 -- THE RECORD of a node without children
 pub leaf : (k : ℕ) {at v v' word r : ℕ} {S S' : List ℕ} → Emitted at word v r S S' → v' ≡ v → word ≡ k → take r S' ≡ take at S ++ records (node k v' none)
@@ -111,14 +100,15 @@ listed_words r (more t f) m n h g =
     let z : n ≡ 0 → ⊥ = λ e. omega arith in
     rw (ne_eqb _ _ z, ← g) (append_assoc (all_records r ++ (1 + 256 * count r) ∷ 0 ∷ []) _ _)
 
-pub signature : (ps : Params) (m n v : ℕ) (X Y B D R : List ℕ) → Fitting ps m n v → Y ≡ X ++ params_words ps → B ≡ Y ++ required_words m n → D ≡ B ++ (1 + 256 * n) ∷ 0 ∷ [] → R ≡ D ++ records (variadic_of v) → R ≡ X ++ signature_words ps
+pub signature : (ps : Params) (c : Counts) (X Y B D R : List ℕ) → Fitting ps c → Y ≡ X ++ params_words ps → B ≡ Y ++ required_words c.required c.default → D ≡ B ++ (1 + 256 * c.default) ∷ 0 ∷ [] → R ≡ D ++ records (variadic_of c.variadic) → R ≡ X ++ signature_words ps
 unfolding records
-signature ps m n v X Y B D R f y b d r =
+signature ps c X Y B D R f y b d r =
     let w = words_of ps.required_list ps.default_list in
-    let l : List ℕ = (1 + 256 * n) ∷ 0 ∷ [] in
-    let k = listed_words ps.required_list ps.default_list m n f.are_required f.are_default in
-    let e : D ≡ X ++ (records (Node.list ps.required_list) ++ records (Node.list ps.default_list)) = d ∙ ap (λ (s : List ℕ). s ++ l) (b ∙ ap (λ (s : List ℕ). s ++ required_words m n) y) ∙ append_assoc (X ++ w) (required_words m n) l ∙ append_assoc X w (required_words m n ++ l) ∙ ap (λ (s : List ℕ). X ++ s) k in
-    r ∙ ap (λ (s : List ℕ). s ++ records (variadic_of v)) e ∙ ap (λ (t : Tree). (X ++ (records (Node.list ps.required_list) ++ records (Node.list ps.default_list))) ++ records t) (sym f.is_variadic)
+    let o = required_words c.required c.default in
+    let l : List ℕ = (1 + 256 * c.default) ∷ 0 ∷ [] in
+    let k = listed_words ps.required_list ps.default_list c.required c.default f.are_required f.are_default in
+    let e : D ≡ X ++ (records (Node.list ps.required_list) ++ records (Node.list ps.default_list)) = d ∙ ap (λ (s : List ℕ). s ++ l) (b ∙ ap (λ (s : List ℕ). s ++ o) y) ∙ append_assoc (X ++ w) o l ∙ append_assoc X w (o ++ l) ∙ ap (λ (s : List ℕ). X ++ s) k in
+    r ∙ ap (λ (s : List ℕ). s ++ records (variadic_of c.variadic)) e ∙ ap (λ (t : Tree). (X ++ (records (Node.list ps.required_list) ++ records (Node.list ps.default_list))) ++ records t) (sym f.is_variadic)
     ∙ append_assoc X _ _ ∙ ap (λ (s : List ℕ). X ++ s) (append_assoc (records (Node.list ps.required_list)) _ _ ∙ ap (λ (s : List ℕ). records (Node.list ps.required_list) ++ (records (Node.list ps.default_list) ++ s)) (sym (append-nil (records ps.variadic_one))))
 
 pub is_empty : (f : Forest) → count f ≡ 0 → empty f ≡ true
@@ -224,12 +214,11 @@ join_stops : (ps : Params) (p : Param) (q : List Error) (ts : List ℕ) {n : ℕ
 unfolding join then
 join_stops ps p q ts l = rw l
 
-pub unjoined : {T : List ℕ} {pos w : ℕ} {r : Step} (ps : Params) (p : Param) → Unread (λ q. separator q (drop pos T)) T pos pos w r → Unread (λ q. join ps p q (drop pos T)) T pos pos w r
-unjoined {r = Done p' a v} ps p u = record { how = u.how }
-unjoined {r = Fail failure} ps p u =
+pub unjoined : {T : List ℕ} {pos : ℕ} {h : Halt} (ps : Params) (p : Param) → Unread (λ q. separator q (drop pos T)) T pos pos h → Unread (λ q. join ps p q (drop pos T)) T pos pos h
+unjoined {h = Fail failure} ps p u =
     let l = u.how in
-    record { how = record { same = λ q. join_lacks ps p q _ (neither q _ (l.same q)); waits = l.waits; on = l.on; within = l.within; far = l.far } }
-unjoined {r = Stop n} ps p u = record { how = λ q. join_stops ps p q _ (look_stopped q _ (u.how q)) }
+    record { how = record { same = λ q. join_lacks ps p q _ (neither q _ (l.same q)); on = l.on; within = l.within; far = l.far } }
+unjoined {h = Stop n} ps p u = record { how = λ q. join_stops ps p q _ (look_stopped q _ (u.how q)) }
 
 -- a parameter that is
 abbrev pub with_required : Params → ℕ → Params
@@ -273,11 +262,11 @@ module _ {T : List ℕ} {pos p : ℕ} (ps : Params) (g : Got (λ q. separator q 
   abbrev pub joins_default : (x : ℕ) (t : Tree) → Got (λ q. join ps (default x t) q (drop pos T)) T pos p
   joins_default x t = record { what = with_default ps x t; same = λ q. join_default ps x t q _ (between q _ (g.same q)); on = g.on; within = g.within }
 
-  pub out_of_order : {w : ℕ} (x : ℕ) → empty ps.default_list ≡ false → Unread (λ q. join ps (required x) q (drop pos T)) T pos pos w (Fail (record { error = Number.param_order; pos = pos; waiting = w }))
-  out_of_order x e = let h = g.on in let k = g.within in record { how = record { same = λ q. join_order ps x q _ e (between q _ (g.same q)); waits = refl; on = omega arith; within = omega arith; far = omega arith } }
+  pub out_of_order : (x : ℕ) → empty ps.default_list ≡ false → Unread (λ q. join ps (required x) q (drop pos T)) T pos pos (Fail (record { error = Number.param_order; pos = pos }))
+  out_of_order x e = let h = g.on in let k = g.within in record { how = record { same = λ q. join_order ps x q _ e (between q _ (g.same q)); on = omega arith; within = omega arith; far = omega arith } }
 
-  pub not_last : {w : ℕ} (x : ℕ) → g.what ≡ 1 → Unread (λ q. join ps (variadic x) q (drop pos T)) T pos pos w (Fail (record { error = Number.variadic_not_last; pos = pos; waiting = w }))
-  not_last x e = let h = g.on in let k = g.within in record { how = record { same = λ q. join_not_last ps x q _ e (between q _ (g.same q)); waits = refl; on = omega arith; within = omega arith; far = omega arith } }
+  pub not_last : (x : ℕ) → g.what ≡ 1 → Unread (λ q. join ps (variadic x) q (drop pos T)) T pos pos (Fail (record { error = Number.variadic_not_last; pos = pos }))
+  not_last x e = let h = g.on in let k = g.within in record { how = record { same = λ q. join_not_last ps x q _ e (between q _ (g.same q)); on = omega arith; within = omega arith; far = omega arith } }
 
 pub required_text : {at v a : ℕ} {S S' : List ℕ} (X : List ℕ) (ps : Params) → count ps.default_list ≡ 0 → take at S ≡ X ++ params_words ps → Emitted at 25 v a S S' → take a S' ≡ X ++ params_words (with_required ps v)
 required_text {v = v} X ps z t e =

@@ -8,7 +8,6 @@ use Rattle.grammar.specs.Reading.Block.{whole, split, block_of}
 use Rattle.scan.specs.declared.Cursor.{Cursor}
 use Rattle.scan.specs.declared.Listed.{Listed}
 use Rattle.scan.specs.declared.Listed.TheVariants.{Suite as ASuite, Control}
-use Rattle.scan.specs.declared.Suite.{Suite}
 use Rattle.scan.specs.Lists.{end_of}
 
 -- the end of a list's statements, whose words stand from «at» to a: the last one is an expression statement, whose words start at «last»; or last is a

@@ -6,7 +6,6 @@ use Rattle.grammar.specs.Reading.Result.{Res, ok, ifb, Error}
 use Rattle.grammar.specs.Reading.Function.{Param, required, variadic, default, Params}
 use Rattle.scan.specs.Post.{no_words, Wrote, Failed, Got, Unread}
 use Rattle.nodes.specs.Parts.{Header, h_required, h_variadic, h_default, join}
-use Rattle.scan.specs.declared.Cursor.{Cursor}
 use Rattle.scan.specs.declared.Halt.{Halt}
 use Rattle.nodes.specs.declared.Head.{Head}
 use Rattle.nodes.specs.declared.Head.TheVariants.{Required as HRequired, Variadic as HVariadic, Default as HDefault}

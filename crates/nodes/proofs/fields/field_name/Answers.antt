@@ -6,18 +6,17 @@ use Rattle.tree.specs.NodeKind
 use Rattle.tree.specs.Node
 use Rattle.grammar.specs.Reading.Result.{then}
 use Rattle.grammar.specs.Reading.Primary.{field_name}
-use Rattle.scan.proofs.Laws.{found, unfound}
+use Rattle.scan.proofs.Laws.{handed, found, unfound}
 use Rattle.nodes.proofs.Names.{onward, unwrote, leaf}
 use Rattle.nodes.proofs.fields.field_name.Goals as goal
 
-pub returns-in-At : goal.returns-in-At
-unfolding field_name then
-returns-in-At c = let f = found c.in-At.is c.expect_name.ensures in
-    let g = f.got in
-    let e = c.emit-a.ensures in
-    record { how = record { got = record { what = Node.field_attribute (Node.named g.what.value c.args.access); same = λ q. rw (g.same q); on = g.on; within = g.within }; waits = refl; far = omega (arith, e.next); text = leaf NodeKind.FieldAttribute e (ap (λ (n : ℕ). n * 2 + c.args.access) f.is) refl } }
-
-pub returns-in-Not : goal.returns-in-Not
+pub returns-in_err-name : goal.returns-in_err-name
 unfolding field_name
-returns-in-Not c = let no = unfound c.in-Not.is c.expect_name.ensures in
-    unwrote (onward (record { go = _; is = λ q. refl }) no (omega arith) (omega arith))
+returns-in_err-name c = rw (handed c.from_residual.ensures.1) (unwrote (onward (record { go = _; is = λ q. refl }) (unfound c.in_err-name.ensures) (omega arith) (omega arith)))
+
+pub returns : goal.returns
+unfolding field_name then
+returns c = let f = found c.in_ok-name.ensures in
+    let g = f.got in
+    let e = c.emit.ensures in
+    record { how = record { got = record { what = Node.field_attribute (Node.named g.what.value c.args.access); same = λ q. rw (g.same q); on = g.on; within = g.within }; far = omega (arith, e.next); text = leaf NodeKind.FieldAttribute e (ap (λ (n : ℕ). n * 2 + c.args.access) f.is) refl } }

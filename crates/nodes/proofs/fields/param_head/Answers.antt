@@ -3,17 +3,16 @@ use mathlib.Core.Path.{refl}
 use native.Mathlib.Omega.{arith}
 use Rattle.grammar.specs.Reading.Result.{then}
 use Rattle.nodes.specs.Parts.{param_head}
-use Rattle.scan.proofs.Laws.{found, unfound}
+use Rattle.scan.proofs.Laws.{handed, found, unfound}
 use Rattle.nodes.proofs.Names.{onward, same_heads}
 use Rattle.nodes.proofs.fields.param_head.Goals as goal
 
-pub returns-in-At : goal.returns-in-At
+pub returns-in_err-name : goal.returns-in_err-name
+unfolding param_head
+returns-in_err-name c = rw (handed c.from_residual.ensures.1) (record { how = onward (record { go = _; is = λ q. refl }) (unfound c.in_err-name.ensures) (omega arith) (omega arith) })
+
+pub returns : goal.returns
 unfolding param_head then
-returns-in-At c = let f = found c.in-At.is c.param_name.ensures in
+returns c = let f = found c.in_ok-name.ensures in
     let o = f.got.on in
     same_heads (λ q. rw (f.got.same q, f.is)) c.param_kind.ensures (omega arith) (omega arith)
-
-pub returns-in-Not : goal.returns-in-Not
-unfolding param_head
-returns-in-Not c = let no = unfound c.in-Not.is c.param_name.ensures in
-    record { how = onward (record { go = _; is = λ q. refl }) no (omega arith) (omega arith) }

@@ -5,31 +5,30 @@ use borrow.Author.Tests.{ne_eqb}
 use Rattle.token.specs.Kind
 use Rattle.grammar.specs.Reading.Result.{then, ifb}
 use Rattle.grammar.specs.Reading.Function.{param_mode}
-use Rattle.scan.proofs.Laws.{taken, not_taken, not_seen}
+use Rattle.scan.proofs.Laws.{handed, taken, not_seen}
 use Rattle.nodes.proofs.Names.{onward}
 use Rattle.nodes.proofs.fields.param_mode.Goals as goal
 
+pub returns-in_err-token : goal.returns-in_err-token
+unfolding param_mode
+returns-in_err-token c = rw (handed c.from_residual.ensures.1) (record { how = onward (record { go = _; is = λ q. refl }) (not_seen c.in_err-token.ensures) (omega arith) (omega arith) })
+
 pub returns-in-48 : goal.returns-in-48
 unfolding param_mode then ifb
-returns-in-48 c = let tk = taken c.in-Token.is c.look.ensures in
+returns-in-48 c = let tk = taken c.in_ok-token.ensures in
     record { how = record { got = record { what = 1; same = λ q. rw (tk.same q, c.in-48.is); on = omega arith; within = omega arith }; is = refl; below = omega arith } }
 
 pub returns-in-47 : goal.returns-in-47
 unfolding param_mode then ifb
-returns-in-47 c = let tk = taken c.in-Token.is c.look.ensures in
+returns-in-47 c = let tk = taken c.in_ok-token.ensures in
     record { how = record { got = record { what = 0; same = λ q. rw (tk.same q, c.in-47.is); on = omega arith; within = omega arith }; is = refl; below = omega arith } }
 
 pub returns-in-69 : goal.returns-in-69
 unfolding param_mode then ifb
-returns-in-69 c = let tk = taken c.in-Token.is c.look.ensures in
+returns-in-69 c = let tk = taken c.in_ok-token.ensures in
     record { how = record { got = record { what = 0; same = λ q. rw (tk.same q, c.in-69.is); on = omega arith; within = omega arith }; is = refl; below = omega arith } }
 
 pub returns-in_default : goal.returns-in_default
 unfolding param_mode then ifb
-returns-in_default c = let tk = taken c.in-Token.is c.look.ensures in
-    record { how = record { how = record { same = λ q. rw (tk.same q, ne_eqb c.in-Token.kind Kind.Var (search), ne_eqb c.in-Token.kind Kind.Let (search), ne_eqb c.in-Token.kind Kind.Identifier (search)); waits = refl; on = omega arith; within = omega arith; far = omega arith } } }
-
-pub returns-in-Not : goal.returns-in-Not
-unfolding param_mode
-returns-in-Not c = let no = not_seen (not_taken c.in-Not.is c.look.ensures) in
-    record { how = onward (record { go = _; is = λ q. refl }) no (omega arith) (omega arith) }
+returns-in_default c = let tk = taken c.in_ok-token.ensures in
+    record { how = record { how = record { same = λ q. rw (tk.same q, ne_eqb c.in_ok-token.token.kind Kind.Var (search), ne_eqb c.in_ok-token.token.kind Kind.Let (search), ne_eqb c.in_ok-token.token.kind Kind.Identifier (search)); on = omega arith; within = omega arith; far = omega arith } } }

@@ -12,4 +12,4 @@ returns c = let r = c.required_end-b.ensures in
     let next = l.next in
     let up2 = v.up in
     let far2 = v.far in
-    record { up = omega arith; far = omega arith; text = λ X ps f t. signature ps _ _ _ X _ _ _ _ f t r.text l.text v.text }
+    record { up = omega arith; far = omega arith; text = λ X ps f t. signature ps _ X _ _ _ _ f t r.text l.text v.text }

@@ -5,26 +5,25 @@ use borrow.Author.Tests.{ne_eqb}
 use Rattle.token.specs.Kind
 use Rattle.grammar.specs.Reading.Result.{then, ifb}
 use Rattle.nodes.specs.Parts.{separator}
-use Rattle.scan.proofs.Laws.{taken, not_taken, not_seen}
+use Rattle.scan.proofs.Laws.{handed, taken, not_seen}
 use Rattle.nodes.proofs.Names.{onward}
 use Rattle.nodes.proofs.fields.separator.Goals as goal
 
+pub returns-in_err-token : goal.returns-in_err-token
+unfolding separator
+returns-in_err-token c = rw (handed c.from_residual.ensures.1) (record { how = onward (record { go = _; is = λ q. refl }) (not_seen c.in_err-token.ensures) (omega arith) (omega arith) })
+
 pub returns-in-6 : goal.returns-in-6
 unfolding separator then ifb
-returns-in-6 c = let tk = taken c.in-Token.is c.look.ensures in
+returns-in-6 c = let tk = taken c.in_ok-token.ensures in
     record { how = record { got = record { what = 1; same = λ q. rw (tk.same q, c.in-6.is); on = omega arith; within = omega arith }; is = refl; below = omega arith } }
 
 pub returns-in-1 : goal.returns-in-1
 unfolding separator then ifb
-returns-in-1 c = let tk = taken c.in-Token.is c.look.ensures in
+returns-in-1 c = let tk = taken c.in_ok-token.ensures in
     record { how = record { got = record { what = 0; same = λ q. rw (tk.same q, c.in-1.is); on = omega arith; within = omega arith }; is = refl; below = omega arith } }
 
 pub returns-in_default : goal.returns-in_default
 unfolding separator then ifb
-returns-in_default c = let tk = taken c.in-Token.is c.look.ensures in
-    record { how = record { how = record { same = λ q. rw (tk.same q, ne_eqb c.in-Token.kind Kind.Comma (search), ne_eqb c.in-Token.kind Kind.CloseParen (search)); waits = refl; on = omega arith; within = omega arith; far = omega arith } } }
-
-pub returns-in-Not : goal.returns-in-Not
-unfolding separator
-returns-in-Not c = let no = not_seen (not_taken c.in-Not.is c.look.ensures) in
-    record { how = onward (record { go = _; is = λ q. refl }) no (omega arith) (omega arith) }
+returns-in_default c = let tk = taken c.in_ok-token.ensures in
+    record { how = record { how = record { same = λ q. rw (tk.same q, ne_eqb c.in_ok-token.token.kind Kind.Comma (search), ne_eqb c.in_ok-token.token.kind Kind.CloseParen (search)); on = omega arith; within = omega arith; far = omega arith } } }

@@ -4,21 +4,20 @@ use native.Mathlib.Omega.{arith}
 use borrow.Author.Tests.{eq-eqb, ne_eqb}
 use Rattle.grammar.specs.Reading.Result.{then, ifb}
 use Rattle.nodes.specs.Parts.{variadic_head, h_variadic}
-use Rattle.scan.proofs.Laws.{taken, not_taken, not_seen}
+use Rattle.scan.proofs.Laws.{handed, taken, not_seen}
 use Rattle.nodes.proofs.Names.{onward}
 use Rattle.nodes.proofs.fields.variadic_param.Goals as goal
 
-pub returns-then-kind-eq-OP_ASSIGN : goal.returns-then-kind-eq-OP_ASSIGN
-unfolding variadic_head then ifb
-returns-then-kind-eq-OP_ASSIGN c = let tk = taken c.in-Token.is c.look.ensures in
-    record { how = record { how = record { same = λ q. rw (tk.same q, eq-eqb _ _ c.if-kind-eq-OP_ASSIGN.true); waits = refl; on = omega arith; within = omega arith; far = omega arith } } }
-
-pub returns-else-kind-eq-OP_ASSIGN : goal.returns-else-kind-eq-OP_ASSIGN
-unfolding variadic_head then ifb
-returns-else-kind-eq-OP_ASSIGN c = let tk = taken c.in-Token.is c.look.ensures in
-    record { how = record { got = record { what = h_variadic c.args.v; same = λ q. rw (tk.same q, ne_eqb _ _ c.if-kind-eq-OP_ASSIGN.false); on = omega arith; within = omega arith }; is = refl; below = omega arith } }
-
-pub returns-in-Not : goal.returns-in-Not
+pub returns-in_err-token : goal.returns-in_err-token
 unfolding variadic_head
-returns-in-Not c = let no = not_seen (not_taken c.in-Not.is c.look.ensures) in
-    record { how = onward (record { go = _; is = λ q. refl }) no (omega arith) (omega arith) }
+returns-in_err-token c = rw (handed c.from_residual.ensures.1) (record { how = onward (record { go = _; is = λ q. refl }) (not_seen c.in_err-token.ensures) (omega arith) (omega arith) })
+
+pub returns-then-token-eq-OP_ASSIGN : goal.returns-then-token-eq-OP_ASSIGN
+unfolding variadic_head then ifb
+returns-then-token-eq-OP_ASSIGN c = let tk = taken c.in_ok-token.ensures in
+    record { how = record { how = record { same = λ q. rw (tk.same q, eq-eqb _ _ c.if-token-eq-OP_ASSIGN.true); on = omega arith; within = omega arith; far = omega arith } } }
+
+pub returns : goal.returns
+unfolding variadic_head then ifb
+returns c = let tk = taken c.in_ok-token.ensures in
+    record { how = record { got = record { what = h_variadic c.args.v; same = λ q. rw (tk.same q, ne_eqb _ _ c.if-token-eq-OP_ASSIGN.false); on = omega arith; within = omega arith }; is = refl; below = omega arith } }

@@ -28,10 +28,10 @@ unfolding expect_pattern
 returns-then-not-can_be_pattern c =
     λ t T g h.
     let no : can_be_pattern t ≡ false = sym (c.can_be_pattern.ensures t g) ∙ c.if-not-can_be_pattern.true in
-    refused (λ q. same c.args.e t (cannot (to_pattern t) no) q (drop c.args.pos T)) h refl
+    refused (λ q. same c.args.e t (cannot (to_pattern t) no) q (drop c.args.cursor.pos T)) h refl
 
 pub move_to_pattern-requires : goal.move_to_pattern-requires
-move_to_pattern-requires c = fit c.args.store.now c.args.from c.args.a c.requires (λ t g. sym (c.can_be_pattern.ensures t g) ∙ c.if-not-can_be_pattern.false)
+move_to_pattern-requires c = fit c.args.store.now c.args.from c.args.cursor.at c.requires (λ t g. sym (c.can_be_pattern.ensures t g) ∙ c.if-not-can_be_pattern.false)
 
 pub returns : goal.returns
 unfolding expect_pattern
@@ -40,4 +40,4 @@ returns c =
     let is : can_be_pattern t ≡ true = sym (c.can_be_pattern.ensures t g) ∙ c.if-not-can_be_pattern.false in
     let p = can (to_pattern t) is in
     let s = c.move_to_pattern.ensures t p.what (record { whole = g; same = p.same }) in
-    wrote p.what (λ q. same c.args.e t p.same q (drop c.args.pos T)) h (omega (arith, s.short)) s.text
+    wrote p.what (λ q. same c.args.e t p.same q (drop c.args.cursor.pos T)) h (omega (arith, s.short)) s.text

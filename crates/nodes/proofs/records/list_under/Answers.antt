@@ -1,18 +1,16 @@
 -- `nodes::records::list_under` meets its contract: the list's records by its variant, and one more. Assumes nothing.
-use mathlib.Core.List.{[], ◌∷◌}
 use native.Mathlib.Omega.{arith}
-use Rattle.tree.specs.Tree.{records}
-use Rattle.grammar.specs.Reading.Stmt.{stmt_list_of}
-use Rattle.nodes.proofs.Ends.{joins, listed_text, held_list, closing, under_suite, under_held}
+use Rattle.nodes.proofs.Ends.{listed_text, held_list, closing, node_over}
+use Rattle.nodes.proofs.records.list_under.Goals.{in-Suite, in-Control}
 use Rattle.nodes.proofs.records.list_under.Goals as goal
 
-pub returns-in-Suite : goal.returns-in-Suite
-returns-in-Suite c = let b = c.suite_end-b.ensures in
-    let e = c.emit.ensures in
-    let k = closing c.in-Suite.is c.requires in
-    under_suite c.in-Suite.is (omega arith) (omega arith) (λ s X st. joins X (records (stmt_list_of s)) (c.args.word ∷ c.args.value ∷ []) e.text (listed_text st (omega arith) b.text))
-
-pub returns-in-Control : goal.returns-in-Control
-returns-in-Control c = let l = c.emit-b.ensures in
-    let e = c.emit-in-Control.ensures in
-    under_held c.in-Control.is (omega arith) (omega arith) (λ s X st. joins X (records (stmt_list_of s)) (c.args.word ∷ c.args.value ∷ []) e.text (held_list st l.text))
+pub returns : goal.returns
+returns c = elim c.match-list.branch [
+        in-Suite w ↦
+            let b = w.suite_end.ensures in
+            let k = closing w.in-Suite.is c.requires in
+            node_over w.in-Suite.is w.body-is w.store-is b.up (omega arith) (λ s X st. listed_text st (omega arith) b.text) c.emit-2.ensures
+        | in-Control w ↦
+            let b = w.emit.ensures in
+            node_over w.in-Control.is w.body-is w.store-is (omega arith) (omega arith) (λ s X st. held_list st b.text) c.emit-2.ensures
+    ]

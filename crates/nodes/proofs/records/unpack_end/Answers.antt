@@ -14,9 +14,9 @@ use Rattle.nodes.proofs.records.unpack_end.Goals as goal
 
 pub returns-then-kind_of-eq-UNPACK : goal.returns-then-kind_of-eq-UNPACK
 unfolding unpack_end ifb
-returns-then-kind_of-eq-UNPACK c = λ X t T s text h. refused (λ q. rw (eq-eqb _ _ (sym (kind_read c.args.store.now X c.args.a t s text (omega arith)) ∙ sym c.kind_of.ensures ∙ c.if-kind_of-eq-UNPACK.true))) h refl
+returns-then-kind_of-eq-UNPACK c = λ X t T s text h. refused (λ q. rw (eq-eqb _ _ (sym (kind_read c.args.store.now X c.args.cursor.at t s text (omega arith)) ∙ sym c.kind_of.ensures ∙ c.if-kind_of-eq-UNPACK.true))) h refl
 
 pub returns : goal.returns
 unfolding unpack_end ifb
 returns c = λ X t T s text h. let e = c.emit.ensures in
-    wrote (Node.unpack t) (λ q. rw (ne_eqb _ _ (λ x. c.if-kind_of-eq-UNPACK.false (c.kind_of.ensures ∙ kind_read c.args.store.now X c.args.a t s text (omega arith) ∙ x)))) h (omega arith) (rw (over_one NodeKind.Unpack 0 t) (joins X (records t) (271 ∷ 0 ∷ []) e.text text))
+    wrote (Node.unpack t) (λ q. rw (ne_eqb _ _ (λ x. c.if-kind_of-eq-UNPACK.false (c.kind_of.ensures ∙ kind_read c.args.store.now X c.args.cursor.at t s text (omega arith) ∙ x)))) h (omega arith) (rw (over_one NodeKind.Unpack 0 t) (joins X (records t) (271 ∷ 0 ∷ []) e.text text))
