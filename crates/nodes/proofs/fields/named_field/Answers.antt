@@ -7,7 +7,7 @@ use Rattle.tree.specs.NodeKind
 use Rattle.tree.specs.Node
 use Rattle.grammar.specs.Reading.Result.{ifb}
 use Rattle.nodes.specs.Parts.{named_field}
-use Rattle.nodes.proofs.Names.{unwrote, same_writes, leaf}
+use Rattle.nodes.proofs.Names.{failed, unwrote, same_writes, leaf}
 use Rattle.nodes.proofs.fields.named_field.Goals as goal
 
 pub returns-in-48 : goal.returns-in-48
@@ -28,4 +28,4 @@ returns-in-69 c =
 
 pub returns-in_default : goal.returns-in_default
 unfolding named_field ifb
-returns-in_default c = unwrote (record { how = record { same = λ q. rw (ne_eqb c.args.kind Kind.Var (search), ne_eqb c.args.kind Kind.Let (search), ne_eqb c.args.kind Kind.Identifier (search)); on = omega arith; within = c.requires.0; far = omega arith } })
+returns-in_default c = unwrote (failed (λ q. rw (ne_eqb c.args.kind Kind.Var (search), ne_eqb c.args.kind Kind.Let (search), ne_eqb c.args.kind Kind.Identifier (search))) (omega arith) c.requires.0 (omega arith))
