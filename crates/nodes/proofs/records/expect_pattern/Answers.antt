@@ -1,5 +1,5 @@
 -- `nodes::records::expect_pattern` meets its contract: what the first step answers is what the second asks for. Assumes nothing.
-use mathlib.Core.Path.{◌≡◌, refl, sym, ap, ◌∙◌}
+use mathlib.Core.Path.{◌≡◌, sym, ap, ◌∙◌}
 use mathlib.Core.Bool.{true, false}
 use mathlib.Core.List.{List}
 use Prim.Native.Nat.{ℕ}
@@ -23,7 +23,7 @@ unfolding expect_pattern
 returns-then-not-can_be_pattern c =
     λ t T g h.
     let no : can_be_pattern t ≡ false = sym (c.can_be_pattern.ensures t g) ∙ c.if-not-can_be_pattern.true in
-    refused (λ q. same c.args.e t (cannot (to_pattern t) no) q (drop c.args.cursor.pos T)) h refl
+    refused (λ q. same c.args.e t (cannot (to_pattern t) no) q (drop c.args.cursor.pos T)) h
 
 pub returns : goal.returns
 unfolding expect_pattern

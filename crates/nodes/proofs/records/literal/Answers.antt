@@ -13,7 +13,7 @@ use Rattle.nodes.proofs.records.literal.Goals as goal
 
 pub returns-in_default : goal.returns-in_default
 returns-in_default c = λ T h.
-    refused (λ q. no_literal c.args.kind c.args.value q (drop c.args.cursor.pos T) (search) (search) (search) (search) (search) (search) (search) ∙ ap (λ (e : ℕ). fail e q (drop c.args.cursor.pos T)) (sym c.atom_error.ensures)) h refl
+    refused (λ q. no_literal c.args.kind c.args.value q (drop c.args.cursor.pos T) (search) (search) (search) (search) (search) (search) (search) ∙ ap (λ (e : ℕ). fail e q (drop c.args.cursor.pos T)) (sym c.atom_error.ensures)) h
 
 pub returns : goal.returns
 unfolding literal ifb records count
