@@ -35,6 +35,7 @@ use Rattle.nodes.specs.Ends.{Shape, other, a_tuple, lone, unpacked, Marked, stat
 use Rattle.nodes.specs.Parts.{path_words}
 use Rattle.nodes.specs.Lists.{Ends, keeps, gives, held_words, SuiteStands, HeldStands, Closing, Closable, Stands, Unders}
 use Rattle.nodes.proofs.Made.{over_one, all_snoc, count_snoc}
+use Rattle.nodes.proofs.Names.{failed, unwrote}
 
 -- THE LAST RECORD of a text: its words, and the text before it
 record Last (S Y : List ℕ) (a w v : ℕ) : Type 0 where
@@ -294,8 +295,8 @@ path_some (more t f) n e h = rw (← e)
 pub wrote : {d : List Error → Res Tree} {T : List ℕ} {pos most at r : ℕ} {X S S' : List ℕ} (t : Tree) → ((q : List Error) → d q ≡ ok t (drop pos T)) → pos ≤ length T → r ≤ at + most → take r S' ≡ X ++ records t → Writes records d T pos pos most at X S S' (Ok (record { pos = pos; at = r }))
 wrote t same within far text = record { how = record { got = record { what = t; same = same; on = le_refl _; within = within }; far = far; text = text } }
 
-pub refused : {d : List Error → Res Tree} {T : List ℕ} {pos most at e : ℕ} {X S S' : List ℕ} → ((q : List Error) → d q ≡ fail e q (drop pos T)) → pos ≤ length T → S' ≡ S → Writes records d T pos pos most at X S S' (Err (Fail (record { error = e; pos = pos })))
-refused same within text = record { how = record { unread = record { how = record { same = same; on = le_refl _; within = within; far = omega arith } }; text = text } }
+pub refused : {d : List Error → Res Tree} {T : List ℕ} {pos most at e : ℕ} {X S : List ℕ} → ((q : List Error) → d q ≡ fail e q (drop pos T)) → pos ≤ length T → Writes records d T pos pos most at X S S (Err (Fail (record { error = e; pos = pos })))
+refused same within = unwrote (failed same (le_refl _) within (omega arith))
 
 -- A LITERAL goes by its kind: it is a tree of one record, whose words are those of w
 pub record OneRecord (k v : ℕ) (w : ℕ × ℕ) : Type 0 where

@@ -6,7 +6,7 @@ use Prim.Native.Nat.{ℕ, zero, suc, ◌+◌, ◌*◌, ◌-◌, ◌≤◌, ◌<�
 use native.Mathlib.Omega.{arith}
 use borrow.Author.Tests.{eq-eqb, ne_eqb}
 use lib.Dec.{eqb}
-use lib.ListN.{take, drop}
+use lib.ListN.{length, take, drop}
 use Rattle.token.specs.Kind
 use Rattle.token.specs.declared.Token.{Token}
 use Rattle.tree.specs.Tree.{Tree, Forest, node, none, more, empty, snoc, count, records, all_records}
@@ -17,10 +17,10 @@ use Rattle.grammar.specs.Reading.Number
 use Rattle.grammar.specs.Reading.Result.{Res, ok, bad, fail, stop, then, ifb, Error}
 use Rattle.grammar.specs.Reading.Look.{look}
 use Rattle.grammar.specs.Reading.Function.{Param, required, variadic, default, Params, joined}
-use Rattle.scan.specs.Post.{Unread, Got, Writes}
+use Rattle.scan.specs.Post.{Unread, Got, Finds, itself, Writes}
 use Rattle.nodes.specs.Ends.{Added}
 use Rattle.nodes.specs.Parts.{Header, separator, join, signature_words}
-use Rattle.nodes.specs.Parameters.{Heads, required_words, words_of, params_words, variadic_of, with_default, Fitting}
+use Rattle.nodes.specs.Parameters.{Heads, required_words, words_of, params_words, variadic_of, with_default, Fitting, Joins}
 use Rattle.std.proofs.Common.{Result, Ok, Err}
 use Rattle.scan.specs.declared.Cursor.{Cursor}
 use Rattle.scan.specs.declared.Halt.{Halt}
@@ -41,13 +41,16 @@ same_unread {h = Fail failure} i u f g =
     record { how = record { same = λ q. i q ∙ l.same q; on = omega arith; within = l.within; far = omega arith } }
 same_unread {h = Stop n} i u f g = record { how = λ q. i q ∙ u.how q }
 
--- A READING e that begins with the reading d, and fails as it does
-pub record Begins {A B : Type 0} (e : List Error → Res B) (d : List Error → Res A) : Type 0 where
-  pub go : List ℕ → A → List Error → List ℕ → Res B
-  pub is : (q : List Error) → e q ≡ then q (d q) (go q)
+-- A READING e that begins with the reading d, and goes on by k: it fails as d does
+pub onward : {A B : Type 0} {d : List Error → Res A} {e : List Error → Res B} {T : List ℕ} {pos₁ least₁ pos least : ℕ} {h : Halt} (k : List ℕ → A → List Error → List ℕ → Res B) → ((q : List Error) → e q ≡ then q (d q) (k q)) → Unread d T pos₁ least₁ h → pos ≤ pos₁ → least ≤ least₁ → Unread e T pos least h
+onward k i u f g = same_unread (λ q. refl) (through k i u) f g
 
-pub onward : {A B : Type 0} {d : List Error → Res A} {e : List Error → Res B} {T : List ℕ} {pos₁ least₁ pos least : ℕ} {h : Halt} → Begins e d → Unread d T pos₁ least₁ h → pos ≤ pos₁ → least ≤ least₁ → Unread e T pos least h
-onward b u f g = same_unread (λ q. refl) (through b.go b.is u) f g
+-- A READING of a number, and one that fails, at p
+pub finds : {d : List Error → Res ℕ} {T : List ℕ} {pos least far bound p v : ℕ} → ((q : List Error) → d q ≡ ok v (drop p T)) → least ≤ p → p ≤ length T → v < bound → Finds itself d T pos least far bound (Ok (record { pos = p; number = v }))
+finds same on within below = record { how = record { got = record { what = _; same = same; on = on; within = within }; is = refl; below = below } }
+
+pub failed : {A : Type 0} {d : List Error → Res A} {T : List ℕ} {pos least p e : ℕ} → ((q : List Error) → d q ≡ fail e q (drop p T)) → pos ≤ p → p ≤ length T → least ≤ p + (least + 1 - length T) → Unread d T pos least (Fail (record { error = e; pos = p }))
+failed same on within far = record { how = record { same = same; on = on; within = within; far = far } }
 
 -- what is not read is not written
 pub unwrote : {A : Type 0} {words : A → List ℕ} {d : List Error → Res A} {T : List ℕ} {pos least most at : ℕ} {X S : List ℕ} {h : Halt} → Unread d T pos least h → Writes words d T pos least most at X S S (Err h)
@@ -214,11 +217,15 @@ join_stops : (ps : Params) (p : Param) (q : List Error) (ts : List ℕ) {n : ℕ
 unfolding join then
 join_stops ps p q ts l = rw l
 
-pub unjoined : {T : List ℕ} {pos : ℕ} {h : Halt} (ps : Params) (p : Param) → Unread (λ q. separator q (drop pos T)) T pos pos h → Unread (λ q. join ps p q (drop pos T)) T pos pos h
+-- what is not read is not joined
+not_joined : {d : List Error → Res Params} {X T : List ℕ} {pos at : ℕ} {k : Counts} {S : List ℕ} {h : Halt} → Unread d T pos pos h → Joins d X T pos k at S S (Err h)
+not_joined u = record { how = record { unread = u; text = refl } }
+
+pub unjoined : {X T : List ℕ} {pos at : ℕ} {k : Counts} {S : List ℕ} {h : Halt} (ps : Params) (p : Param) → Unread (λ q. separator q (drop pos T)) T pos pos h → Joins (λ q. join ps p q (drop pos T)) X T pos k at S S (Err h)
 unjoined {h = Fail failure} ps p u =
     let l = u.how in
-    record { how = record { same = λ q. join_lacks ps p q _ (neither q _ (l.same q)); on = l.on; within = l.within; far = l.far } }
-unjoined {h = Stop n} ps p u = record { how = λ q. join_stops ps p q _ (look_stopped q _ (u.how q)) }
+    not_joined (failed (λ q. join_lacks ps p q _ (neither q _ (l.same q))) l.on l.within l.far)
+unjoined {h = Stop n} ps p u = not_joined (record { how = λ q. join_stops ps p q _ (look_stopped q _ (u.how q)) })
 
 -- a parameter that is
 abbrev pub with_required : Params → ℕ → Params
@@ -262,11 +269,12 @@ module _ {T : List ℕ} {pos p : ℕ} (ps : Params) (g : Got (λ q. separator q 
   abbrev pub joins_default : (x : ℕ) (t : Tree) → Got (λ q. join ps (default x t) q (drop pos T)) T pos p
   joins_default x t = record { what = with_default ps x t; same = λ q. join_default ps x t q _ (between q _ (g.same q)); on = g.on; within = g.within }
 
-  pub out_of_order : (x : ℕ) → empty ps.default_list ≡ false → Unread (λ q. join ps (required x) q (drop pos T)) T pos pos (Fail (record { error = Number.param_order; pos = pos }))
-  out_of_order x e = let h = g.on in let k = g.within in record { how = record { same = λ q. join_order ps x q _ e (between q _ (g.same q)); on = omega arith; within = omega arith; far = omega arith } }
+  module _ {X S : List ℕ} {at : ℕ} {k : Counts} (x : ℕ) where
+    pub out_of_order : empty ps.default_list ≡ false → Joins (λ q. join ps (required x) q (drop pos T)) X T pos k at S S (Err (Fail (record { error = Number.param_order; pos = pos })))
+    out_of_order e = let h = g.on in let k = g.within in not_joined (failed (λ q. join_order ps x q _ e (between q _ (g.same q))) (omega arith) (omega arith) (omega arith))
 
-  pub not_last : (x : ℕ) → g.what ≡ 1 → Unread (λ q. join ps (variadic x) q (drop pos T)) T pos pos (Fail (record { error = Number.variadic_not_last; pos = pos }))
-  not_last x e = let h = g.on in let k = g.within in record { how = record { same = λ q. join_not_last ps x q _ e (between q _ (g.same q)); on = omega arith; within = omega arith; far = omega arith } }
+    pub not_last : g.what ≡ 1 → Joins (λ q. join ps (variadic x) q (drop pos T)) X T pos k at S S (Err (Fail (record { error = Number.variadic_not_last; pos = pos })))
+    not_last e = let h = g.on in let k = g.within in not_joined (failed (λ q. join_not_last ps x q _ e (between q _ (g.same q))) (omega arith) (omega arith) (omega arith))
 
 pub required_text : {at v a : ℕ} {S S' : List ℕ} (X : List ℕ) (ps : Params) → count ps.default_list ≡ 0 → take at S ≡ X ++ params_words ps → Emitted at 25 v a S S' → take a S' ≡ X ++ params_words (with_required ps v)
 required_text {v = v} X ps z t e =

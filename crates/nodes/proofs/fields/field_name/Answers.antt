@@ -12,7 +12,7 @@ use Rattle.nodes.proofs.fields.field_name.Goals as goal
 
 pub returns-in_err-name : goal.returns-in_err-name
 unfolding field_name
-returns-in_err-name c = rw (handed c.from_residual.ensures.1) (unwrote (onward (record { go = _; is = λ q. refl }) (unfound c.in_err-name.ensures) (omega arith) (omega arith)))
+returns-in_err-name c = rw (handed c.from_residual.ensures.1) (unwrote (onward _ (λ q. refl) (unfound c.in_err-name.ensures) (omega arith) (omega arith)))
 
 pub returns : goal.returns
 unfolding field_name then

@@ -1,5 +1,5 @@
 -- `nodes::fields::join_default` meets its contract. Assumes nothing.
-use mathlib.Core.Path.{refl, ap, ◌∙◌}
+use mathlib.Core.Path.{ap, ◌∙◌}
 use Prim.Native.Nat.{ℕ, ◌+◌}
 use native.Mathlib.Omega.{arith}
 use Rattle.scan.proofs.Laws.{handed, found, unfound}
@@ -8,7 +8,7 @@ use Rattle.nodes.proofs.Names.{unjoined, joins_default}
 use Rattle.nodes.proofs.fields.join_default.Goals as goal
 
 pub returns-in_err-pos : goal.returns-in_err-pos
-returns-in_err-pos c = λ S X ps v e t s. rw (handed c.from_residual.ensures.1) (record { how = record { unread = unjoined ps _ (unfound c.in_err-pos.ensures); text = refl } })
+returns-in_err-pos c = λ S X ps v e t s. rw (handed c.from_residual.ensures.1) (unjoined ps _ (unfound c.in_err-pos.ensures))
 
 pub returns : goal.returns
 returns c = let f = found c.in_ok-pos.ensures in

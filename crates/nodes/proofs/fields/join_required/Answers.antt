@@ -1,5 +1,5 @@
 -- `nodes::fields::join_required` meets its contract. Assumes nothing.
-use mathlib.Core.Path.{◌≡◌, refl, ap, ◌∙◌}
+use mathlib.Core.Path.{◌≡◌, ap, ◌∙◌}
 use Prim.Native.Nat.{ℕ, ◌+◌}
 use native.Mathlib.Omega.{arith}
 use Rattle.tree.specs.Tree.{count}
@@ -9,11 +9,11 @@ use Rattle.nodes.proofs.Names.{is_empty, not_empty, unjoined, joins_required, ou
 use Rattle.nodes.proofs.fields.join_required.Goals as goal
 
 pub returns-in_err-pos : goal.returns-in_err-pos
-returns-in_err-pos c = λ X ps t s. rw (handed c.from_residual.ensures.1) (record { how = record { unread = unjoined ps _ (unfound c.in_err-pos.ensures); text = refl } })
+returns-in_err-pos c = λ X ps t s. rw (handed c.from_residual.ensures.1) (unjoined ps _ (unfound c.in_err-pos.ensures))
 
 pub returns-then-counts-gt0 : goal.returns-then-counts-gt0
 returns-then-counts-gt0 c = let f = found c.in_ok-pos.ensures in
-    λ X ps t s. record { how = record { unread = out_of_order ps f.got c.args.v (not_empty ps.default_list (omega (arith, t.are_default, c.if-counts-gt0.true))); text = refl } }
+    λ X ps t s. out_of_order ps f.got c.args.v (not_empty ps.default_list (omega (arith, t.are_default, c.if-counts-gt0.true)))
 
 pub returns : goal.returns
 returns c = let f = found c.in_ok-pos.ensures in

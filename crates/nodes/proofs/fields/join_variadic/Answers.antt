@@ -1,5 +1,5 @@
 -- `nodes::fields::join_variadic` meets its contract. Assumes nothing.
-use mathlib.Core.Path.{refl, sym, ◌∙◌}
+use mathlib.Core.Path.{sym, ◌∙◌}
 use native.Mathlib.Numerals.{add-one}
 use native.Mathlib.Omega.{arith}
 use Rattle.scan.proofs.Laws.{handed, found, unfound}
@@ -7,11 +7,11 @@ use Rattle.nodes.proofs.Names.{unjoined, joins_variadic, not_last}
 use Rattle.nodes.proofs.fields.join_variadic.Goals as goal
 
 pub returns-in_err-behind : goal.returns-in_err-behind
-returns-in_err-behind c = λ S X ps t s. rw (handed c.from_residual.ensures.1) (record { how = record { unread = unjoined ps _ (unfound c.in_err-behind.ensures); text = refl } })
+returns-in_err-behind c = λ S X ps t s. rw (handed c.from_residual.ensures.1) (unjoined ps _ (unfound c.in_err-behind.ensures))
 
 pub returns-then-behind-eq1 : goal.returns-then-behind-eq1
 returns-then-behind-eq1 c = let f = found c.in_ok-behind.ensures in
-    λ S X ps t s. record { how = record { unread = not_last ps f.got c.args.v (f.is ∙ c.if-behind-eq1.true); text = refl } }
+    λ S X ps t s. not_last ps f.got c.args.v (f.is ∙ c.if-behind-eq1.true)
 
 pub returns : goal.returns
 returns c = let f = found c.in_ok-behind.ensures in

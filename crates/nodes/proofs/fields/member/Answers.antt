@@ -11,7 +11,7 @@ use Rattle.nodes.proofs.fields.member.Goals as goal
 
 pub returns-in_err-name : goal.returns-in_err-name
 unfolding member_access
-returns-in_err-name c = rw (handed c.from_residual.ensures.1) (unwrote (onward (record { go = _; is = λ q. refl }) (unfound c.in_err-name.ensures) (omega arith) (omega arith)))
+returns-in_err-name c = rw (handed c.from_residual.ensures.1) (unwrote (onward _ (λ q. refl) (unfound c.in_err-name.ensures) (omega arith) (omega arith)))
 
 pub returns : goal.returns
 unfolding member_access then

@@ -7,7 +7,8 @@ use Rattle.tree.specs.NodeKind
 use Rattle.tree.specs.Node
 use Rattle.grammar.specs.Reading.Result.{ifb}
 use Rattle.nodes.specs.Parts.{named_field}
-use Rattle.nodes.proofs.Names.{unwrote, same_writes, leaf}
+use Rattle.nodes.proofs.Ends.{wrote, refused}
+use Rattle.nodes.proofs.Names.{same_writes, leaf}
 use Rattle.nodes.proofs.fields.named_field.Goals as goal
 
 pub returns-in-48 : goal.returns-in-48
@@ -24,8 +25,8 @@ pub returns-in-69 : goal.returns-in-69
 unfolding named_field ifb
 returns-in-69 c =
     let e = c.emit.ensures in
-    record { how = record { got = record { what = Node.field_attribute (Node.named c.args.value 0); same = λ q. rw c.in-69.is; on = omega arith; within = c.requires.0 }; far = omega (arith, e.next); text = leaf NodeKind.FieldAttribute e (omega arith) refl } }
+    wrote (Node.field_attribute (Node.named c.args.value 0)) (λ q. rw c.in-69.is) c.requires.0 (omega (arith, e.next)) (leaf NodeKind.FieldAttribute e (omega arith) refl)
 
 pub returns-in_default : goal.returns-in_default
 unfolding named_field ifb
-returns-in_default c = unwrote (record { how = record { same = λ q. rw (ne_eqb c.args.kind Kind.Var (search), ne_eqb c.args.kind Kind.Let (search), ne_eqb c.args.kind Kind.Identifier (search)); on = omega arith; within = c.requires.0; far = omega arith } })
+returns-in_default c = refused (λ q. rw (ne_eqb c.args.kind Kind.Var (search), ne_eqb c.args.kind Kind.Let (search), ne_eqb c.args.kind Kind.Identifier (search))) c.requires.0

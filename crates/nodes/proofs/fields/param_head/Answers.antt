@@ -9,7 +9,7 @@ use Rattle.nodes.proofs.fields.param_head.Goals as goal
 
 pub returns-in_err-name : goal.returns-in_err-name
 unfolding param_head
-returns-in_err-name c = rw (handed c.from_residual.ensures.1) (record { how = onward (record { go = _; is = λ q. refl }) (unfound c.in_err-name.ensures) (omega arith) (omega arith) })
+returns-in_err-name c = rw (handed c.from_residual.ensures.1) (record { how = onward _ (λ q. refl) (unfound c.in_err-name.ensures) (omega arith) (omega arith) })
 
 pub returns : goal.returns
 unfolding param_head then

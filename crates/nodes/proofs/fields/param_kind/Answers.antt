@@ -11,7 +11,7 @@ use Rattle.nodes.proofs.fields.param_kind.Goals as goal
 
 pub returns-in_err-token : goal.returns-in_err-token
 unfolding param_kind
-returns-in_err-token c = rw (handed c.from_residual.ensures.1) (record { how = onward (record { go = _; is = λ q. refl }) (not_seen c.in_err-token.ensures) (omega arith) (omega arith) })
+returns-in_err-token c = rw (handed c.from_residual.ensures.1) (record { how = onward _ (λ q. refl) (not_seen c.in_err-token.ensures) (omega arith) (omega arith) })
 
 pub returns-in-9 : goal.returns-in-9
 unfolding param_kind then ifb

@@ -10,13 +10,13 @@ use Rattle.nodes.proofs.fields.param_name.Goals as goal
 
 pub returns-in_err-mode : goal.returns-in_err-mode
 unfolding param_name
-returns-in_err-mode c = rw (handed c.from_residual.ensures.1) (record { how = onward (record { go = _; is = λ q. refl }) (unfound c.in_err-mode.ensures) (omega arith) (omega arith) })
+returns-in_err-mode c = rw (handed c.from_residual.ensures.1) (record { how = onward _ (λ q. refl) (unfound c.in_err-mode.ensures) (omega arith) (omega arith) })
 
 pub returns-in_err-name : goal.returns-in_err-name
 unfolding param_name then
 returns-in_err-name c = let m = found c.in_ok-mode.ensures in
     let o = m.got.on in
-    rw (handed c.from_residual-in_err-name.ensures.1) (record { how = onward (record { go = λ q name q₂ s. ok (Node.named name.value m.got.what) s; is = λ q. rw (m.got.same q) }) (unfound c.in_err-name.ensures) (omega arith) (omega arith) })
+    rw (handed c.from_residual-in_err-name.ensures.1) (record { how = onward (λ q name q₂ s. ok (Node.named name.value m.got.what) s) (λ q. rw (m.got.same q)) (unfound c.in_err-name.ensures) (omega arith) (omega arith) })
 
 pub returns : goal.returns
 unfolding param_name then

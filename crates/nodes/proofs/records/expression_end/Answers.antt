@@ -1,5 +1,5 @@
 -- `nodes::records::expression_end` meets its contract: `...` alone is refused, and any other expression gets a record. Assumes nothing.
-use mathlib.Core.Path.{refl, sym, ◌∙◌}
+use mathlib.Core.Path.{sym, ◌∙◌}
 use mathlib.Core.List.{[], ◌∷◌}
 use native.Mathlib.Omega.{arith}
 use Rattle.tree.specs.NodeKind
@@ -13,7 +13,7 @@ use Rattle.nodes.proofs.records.expression_end.Goals as goal
 
 pub returns-then-lone_ellipsis : goal.returns-then-lone_ellipsis
 unfolding expression_end ifb
-returns-then-lone_ellipsis c = λ X t T s text h. refused (λ q. rw (sym (c.lone_ellipsis.ensures X t s text) ∙ c.if-lone_ellipsis.true)) h refl
+returns-then-lone_ellipsis c = λ X t T s text h. refused (λ q. rw (sym (c.lone_ellipsis.ensures X t s text) ∙ c.if-lone_ellipsis.true)) h
 
 pub returns : goal.returns
 unfolding expression_end ifb

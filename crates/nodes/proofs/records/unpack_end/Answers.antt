@@ -1,5 +1,5 @@
 -- `nodes::records::unpack_end` meets its contract: by the kind of the tree before, an error or one record more. Assumes nothing.
-use mathlib.Core.Path.{refl, sym, ◌∙◌}
+use mathlib.Core.Path.{sym, ◌∙◌}
 use mathlib.Core.List.{[], ◌∷◌}
 use borrow.Author.Tests.{eq-eqb, ne_eqb}
 use native.Mathlib.Omega.{arith}
@@ -14,7 +14,7 @@ use Rattle.nodes.proofs.records.unpack_end.Goals as goal
 
 pub returns-then-kind_of-eq-UNPACK : goal.returns-then-kind_of-eq-UNPACK
 unfolding unpack_end ifb
-returns-then-kind_of-eq-UNPACK c = λ X t T s text h. refused (λ q. rw (eq-eqb _ _ (sym (kind_read c.args.store.now X c.args.cursor.at t s text (omega arith)) ∙ sym c.kind_of.ensures ∙ c.if-kind_of-eq-UNPACK.true))) h refl
+returns-then-kind_of-eq-UNPACK c = λ X t T s text h. refused (λ q. rw (eq-eqb _ _ (sym (kind_read c.args.store.now X c.args.cursor.at t s text (omega arith)) ∙ sym c.kind_of.ensures ∙ c.if-kind_of-eq-UNPACK.true))) h
 
 pub returns : goal.returns
 unfolding unpack_end ifb
