@@ -40,7 +40,8 @@ went low T pos Q s = goes _ (way _ (body_step low Q (drop pos T))) s
 
 module _ (low : Depth) {T : List ℕ} {pos at : ℕ} {S Q S' Q' : List ℕ} (whole : at ≤ length S) where
   pub passes_lists : (l : Listed) (r : Result Listed Halt) → Lists (low.list 0 Q (drop pos T)) T pos 8 at S Q S' Q' (Ok l) → Passes T l r → Lists (body low Q (drop pos T)) T pos 24 at S Q S' Q' r
-  passes_lists (Suite suite) (Ok on) h (record { how = (tok, by) }) =
+  passes_lists (Suite suite) (Ok on) h f =
+      let by = f.how.1 in
       let s = h.how in
       let g = s.run in
       let m = g.moved in
@@ -48,7 +49,8 @@ module _ (low : Depth) {T : List ℕ} {pos at : ℕ} {S Q S' Q' : List ℕ} (who
       let short = s.short in
       let x = by.taken.within in
       rw by.is (record { how = record { run = relabel g g.what refl (goes _ (went low T pos Q g.same) (way _ (by.taken.same _))) (omega arith) (omega arith); plain = s.plain; many = s.many; short = omega arith; back = s.back; ends = s.ends } })
-  passes_lists (Control end) (Ok on) h (record { how = (tok, by) }) =
+  passes_lists (Control end) (Ok on) h f =
+      let by = f.how.1 in
       let s = h.how in
       let g = s.run in
       let m = g.moved in
@@ -108,29 +110,28 @@ pub record UnderFrom (m pos₀ least₀ slack₀ at₀ pos slack at most : ℕ) 
   pub w_le : length Q₀ ≤ length Q
   pub room : at + most + 8 * pos₀ + slack₀ ≤ at₀ + 8 * pos + slack
 
-module _ {A : Type 0} {words : A → List ℕ} {D : Res A} {d : Res Stmts} {T : List ℕ} {pos₀ least₀ slack₀ at₀ : ℕ} {S₀ Q₀ : List ℕ} {pos slack at : ℕ} {S Q S' Q' : List ℕ} where
+module _ {A : Type 0} {words : A → List ℕ} {D : Res A} {d : Res Stmts} {T : List ℕ} {pos₀ least₀ slack₀ at₀ : ℕ} {S₀ Q₀ : List ℕ} {pos slack at : ℕ} {S Q S' Q' S'' : List ℕ} {most : ℕ} (make : Stmts → A) (Y : List ℕ) where
   -- the list was read and ended
-  module _ {S'' : List ℕ} {most : ℕ} (make : Stmts → A) (Y : List ℕ) where
-    finish : {words₁ : Stmts → List ℕ} {p b p' b' : ℕ} (Z : Stmts → List ℕ) → As Q₀ D Q (then Q d (λ s q r. ok (make s) r)) → take at S ≡ take at₀ S₀ ++ Y → ((s : Stmts) → words (make s) ≡ Y ++ Z s) → UnderFrom (length S) pos₀ least₀ slack₀ at₀ pos slack at most Q₀ Q
-        → (g : Wrote words₁ d clean T pos pos slack at S Q p b S' Q') → p' ≡ p → b ≤ b' → b' ≤ b + most → take b' S'' ≡ take at S ++ Z g.what → Wrote words D clean T pos₀ least₀ slack₀ at₀ S₀ Q₀ p' b' S'' Q'
-    finish Z a y is n g e up far t =
-        let m = g.moved in
-        let o = g.room in
-        record { what = make g.what; same = rw e (goes _ a g.same); moved = omega arith; room = omega arith; text = t ∙ ap (λ (l : List ℕ). l ++ Z g.what) y ∙ append_assoc (take at₀ S₀) Y (Z g.what) ∙ ap (λ (l : List ℕ). take at₀ S₀ ++ l) (sym (is g.what)) }
+  finish : {words₁ : Stmts → List ℕ} {p b p' b' : ℕ} (Z : Stmts → List ℕ) → As Q₀ D Q (then Q d (λ s q r. ok (make s) r)) → take at S ≡ take at₀ S₀ ++ Y → ((s : Stmts) → words (make s) ≡ Y ++ Z s) → UnderFrom (length S) pos₀ least₀ slack₀ at₀ pos slack at most Q₀ Q
+      → (g : Wrote words₁ d clean T pos pos slack at S Q p b S' Q') → p' ≡ p → b ≤ b' → b' ≤ b + most → take b' S'' ≡ take at S ++ Z g.what → Wrote words D clean T pos₀ least₀ slack₀ at₀ S₀ Q₀ p' b' S'' Q'
+  finish Z a y is n g e up far t =
+      let m = g.moved in
+      let o = g.room in
+      record { what = make g.what; same = rw e (goes _ a g.same); moved = omega arith; room = omega arith; text = t ∙ ap (λ (l : List ℕ). l ++ Z g.what) y ∙ append_assoc (take at₀ S₀) Y (Z g.what) ∙ ap (λ (l : List ℕ). take at₀ S₀ ++ l) (sym (is g.what)) }
 
-    pub under : {tree : Stmts → Tree} {word value : ℕ} {l : Listed} {r : Cursor} → Lists d T pos slack at S Q S' Q' (Ok l) → Unders tree word value most S' S'' l r → As Q₀ D Q (then Q d (λ s q r. ok (make s) r)) → take at S ≡ take at₀ S₀ ++ Y → ((s : Stmts) → words (make s) ≡ Y ++ (records (tree s) ++ word ∷ value ∷ []))
-        → UnderFrom (length S) pos₀ least₀ slack₀ at₀ pos slack at most Q₀ Q → Agrees words D T pos₀ least₀ slack₀ at₀ S₀ Q₀ S'' Q' (Ok r)
-    under {tree} {word} {value} {l = Suite suite} h u a y is n =
-        let s = h.how in
-        let v = u.how in
-        let l : length (take at S) ≡ at = length-take-le at S n.within in
-        let z : Ends s.run.what.suite (length (take at S)) suite.end.at suite.last = rw l s.ends in
-        record { how = finish (λ s. records (tree s) ++ word ∷ value ∷ []) a y is n s.run v.stays v.up v.far (v.text s.run.what (take at S) (record { text = s.run.text; plain = s.plain; many = s.many; ends = z })) }
-    under {tree} {word} {value} {l = Control end} h u a y is n =
-        let s = h.how in
-        let v = u.how in
-        record { how = finish (λ s. records (tree s) ++ word ∷ value ∷ []) a y is n s.run v.stays v.up v.far (v.text s.run.what (take at S) (record { text = s.run.text; held = s.held })) }
+  pub under : {tree : Stmts → Tree} {word value : ℕ} {l : Listed} {r : Cursor} → Lists d T pos slack at S Q S' Q' (Ok l) → Unders tree word value most S' S'' l r → As Q₀ D Q (then Q d (λ s q r. ok (make s) r)) → take at S ≡ take at₀ S₀ ++ Y → ((s : Stmts) → words (make s) ≡ Y ++ (records (tree s) ++ word ∷ value ∷ []))
+      → UnderFrom (length S) pos₀ least₀ slack₀ at₀ pos slack at most Q₀ Q → Agrees words D T pos₀ least₀ slack₀ at₀ S₀ Q₀ S'' Q' (Ok r)
+  under {tree} {word} {value} {l = Suite suite} h u a y is n =
+      let s = h.how in
+      let v = u.how in
+      let l : length (take at S) ≡ at = length-take-le at S n.within in
+      let z : Ends s.run.what.suite (length (take at S)) suite.end.at suite.last = rw l s.ends in
+      record { how = finish (λ s. records (tree s) ++ word ∷ value ∷ []) a y is n s.run v.stays v.up v.far (v.text s.run.what (take at S) (record { text = s.run.text; plain = s.plain; many = s.many; ends = z })) }
+  under {tree} {word} {value} {l = Control end} h u a y is n =
+      let s = h.how in
+      let v = u.how in
+      record { how = finish (λ s. records (tree s) ++ word ∷ value ∷ []) a y is n s.run v.stays v.up v.far (v.text s.run.what (take at S) (record { text = s.run.text; held = s.held })) }
 
-  -- there was no list
-  pub unlisted : {h : Halt} (k : Stmts → List Error → List ℕ → Res A) → Lists d T pos slack at S Q S' Q' (Err h) → As Q₀ D Q (then Q d k) → take at₀ S ≡ take at₀ S₀ → Later pos₀ least₀ at₀ pos pos at Q₀ Q → Failed D T pos₀ least₀ at₀ S₀ Q₀ S' Q' h
-  unlisted k f a x l = fails k a f.how x l
+-- there was no list
+pub unlisted : {A : Type 0} {D : Res A} {d : Res Stmts} {T : List ℕ} {pos₀ least₀ at₀ : ℕ} {S₀ Q₀ : List ℕ} {pos slack at : ℕ} {S Q S' Q' : List ℕ} {h : Halt} (k : Stmts → List Error → List ℕ → Res A) → Lists d T pos slack at S Q S' Q' (Err h) → As Q₀ D Q (then Q d k) → take at₀ S ≡ take at₀ S₀ → Later pos₀ least₀ at₀ pos pos at Q₀ Q → Failed D T pos₀ least₀ at₀ S₀ Q₀ S' Q' h
+unlisted k f a x l = fails k a f.how x l

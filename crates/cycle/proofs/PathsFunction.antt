@@ -65,7 +65,7 @@ target_step low q ts = refl
 module _ (d : ℕ) where
   -- an atom and its path in the store
   pub target_stands : {T : List ℕ} {pos least slack at : ℕ} {S Q : List ℕ} {p a : ℕ} {S₁ Q₁ : List ℕ} {least₁ slack₁ p₂ a₂ : ℕ} {S₂ Q₂ : List ℕ} (g : Wrote records (atom (at_depth d) Q (drop pos T)) clean T pos least slack at S Q p a S₁ Q₁)
-      (h : Wrote path_words (path (at_depth d) false (length (drop p T)) none Q₁ (drop p T)) clean T p least₁ slack₁ a w S₁ Q₁ p₂ a₂ S₂ Q₂) → at ≤ length S → a ≤ length S₁ → a₂ ≤ length S₂ → Whole (with_path g.what h.what) S₂ at a₂
+      (h : Wrote path_words (path (at_depth d) false (length (drop p T)) none Q₁ (drop p T)) clean T p least₁ slack₁ a S₁ Q₁ p₂ a₂ S₂ Q₂) → at ≤ length S → a ≤ length S₁ → a₂ ≤ length S₂ → Whole (with_path g.what h.what) S₂ at a₂
   target_stands {at = at} {S = S} {a = a} {S₁ = S₁} {a₂ = a₂} {S₂ = S₂} g h i j k =
       let o = g.room in
       let o₂ = h.room in

@@ -124,7 +124,7 @@ module _ {D : Res Place} {d : Res (Unit {0})} {T : List ℕ} {pos n at p a : ℕ
       record { how = record { run = record { what = t; same = goes _ on x.same; moved = omega arith; room = omega arith; text = text }; held = some } }
 
   pub closes_not : {h : Halt} → Queues d T p Q Q' (Err h) → Enters D T pos n at S₀ Q₀ S Q' (Err h)
-  closes_not f = record { how = fails _ on (elsewhere S f.how) before (omega arith) }
+  closes_not f = record { how = fails {at₁ = at} _ on (elsewhere S f.how) before (omega arith) }
 
 -- A LIST
 -- how a list goes on from a place

@@ -127,7 +127,8 @@ fn dots(
         });
     }
     let operand = prim(tokens, store, queue, depth, cursor)?;
-    if look(tokens, operand.pos)?.kind == kind::ELLIPSIS {
+    let other = look(tokens, operand.pos)?;
+    if other.kind == kind::ELLIPSIS {
         let end = Cursor {
             pos: operand.pos + 2,
             ..operand
@@ -337,7 +338,8 @@ fn table(
     let mut end = cursor;
     let mut n: u64 = 0;
     loop {
-        if look(tokens, end.pos)?.kind == kind::CLOSE_BRACE {
+        let token = look(tokens, end.pos)?;
+        if token.kind == kind::CLOSE_BRACE {
             return Ok(Cursor {
                 pos: end.pos + 2,
                 at: list_end(store, end.at, n),
@@ -459,7 +461,8 @@ fn tuple(
     ensures { Reading records (tuple_expr (at_depth depth)) tokens.now cursor.pos (cursor.pos + 2) 16 cursor.at store.old queue.old store.new queue.new result }
 {
     let first = binop(tokens, store, queue, depth, PRECEDENCE_START, cursor)?;
-    if look(tokens, first.pos)?.kind == kind::COMMA {
+    let token = look(tokens, first.pos)?;
+    if token.kind == kind::COMMA {
         return tail(tokens, store, queue, depth, first);
     }
     Ok(first)
@@ -480,7 +483,8 @@ fn tail(
     let mut end = cursor;
     let mut n: u64 = 1;
     loop {
-        if look(tokens, end.pos)?.kind != kind::COMMA {
+        let token = look(tokens, end.pos)?;
+        if token.kind != kind::COMMA {
             return Ok(Cursor {
                 at: tuple_end(store, end.at, n),
                 ..end
@@ -490,7 +494,8 @@ fn tail(
             pos: end.pos + 2,
             ..end
         };
-        if look(tokens, next.pos)?.kind == kind::CLOSE_PAREN {
+        let other = look(tokens, next.pos)?;
+        if other.kind == kind::CLOSE_PAREN {
             return Ok(Cursor {
                 at: tuple_end(store, end.at, n),
                 ..next
@@ -519,7 +524,8 @@ fn expr(
         ..cursor
     };
     let left = tuple(tokens, store, queue, depth, start)?;
-    let code = assign_code(look(tokens, left.pos)?.kind);
+    let token = look(tokens, left.pos)?;
+    let code = assign_code(token.kind);
     if code == 0 {
         return unassigned(keyword.number, left);
     }
@@ -600,7 +606,8 @@ fn begin(
     requires { Ready (length tokens.now) (length store.old) cursor.pos cursor.at }
     ensures { Reading records (expr_label (at_depth depth) label) tokens.now cursor.pos cursor.pos 8 cursor.at store.old queue.old store.new queue.new result }
 {
-    if look(tokens, cursor.pos)?.kind != kind::BEGIN {
+    let token = look(tokens, cursor.pos)?;
+    if token.kind != kind::BEGIN {
         return Err(Halt::Fail(Failure {
             error: number::LABEL_ALONE,
             pos: cursor.pos,
@@ -753,7 +760,8 @@ fn sig(
         variadic: 0,
     };
     loop {
-        if look(tokens, end.pos)?.kind == kind::CLOSE_PAREN {
+        let token = look(tokens, end.pos)?;
+        if token.kind == kind::CLOSE_PAREN {
             return Ok(Cursor {
                 at: params_end(store, end.at, counts),
                 ..end
@@ -957,7 +965,8 @@ fn val(
     requires { Ready (length tokens.now) (length store.old) cursor.pos cursor.at × Lent (length tokens.now) (length store.old) cursor.pos cursor.at }
     ensures { Reading records (control_value (at_depth depth)) tokens.now cursor.pos cursor.pos 6 cursor.at store.old queue.old store.new queue.new result }
 {
-    if ends_control(look(tokens, cursor.pos)?.kind) {
+    let token = look(tokens, cursor.pos)?;
+    if ends_control(token.kind) {
         return Ok(Cursor {
             at: emit(store, cursor.at, word::ABSENT, 0),
             ..cursor

@@ -86,14 +86,14 @@ begin-overflow_add-pos = Rattle.cycle.proofs.+reading.Answers.Begin.begin-overfl
 pub begin-block-requires : goal.begin-block-requires
 begin-block-requires = Rattle.cycle.proofs.+reading.Answers.Begin.begin-block-requires
 
-pub begin-returns-then-look-eq-BEGIN : goal.begin-returns-then-look-eq-BEGIN
-begin-returns-then-look-eq-BEGIN = Rattle.cycle.proofs.+reading.Answers.Begin.begin-returns-then-look-eq-BEGIN
+pub begin-returns-then-token-eq-BEGIN : goal.begin-returns-then-token-eq-BEGIN
+begin-returns-then-token-eq-BEGIN = Rattle.cycle.proofs.+reading.Answers.Begin.begin-returns-then-token-eq-BEGIN
 
-pub begin-returns-else-look-eq-BEGIN : goal.begin-returns-else-look-eq-BEGIN
-begin-returns-else-look-eq-BEGIN = Rattle.cycle.proofs.+reading.Answers.Begin.begin-returns-else-look-eq-BEGIN
+pub begin-returns-else-token-eq-BEGIN : goal.begin-returns-else-token-eq-BEGIN
+begin-returns-else-token-eq-BEGIN = Rattle.cycle.proofs.+reading.Answers.Begin.begin-returns-else-token-eq-BEGIN
 
-pub begin-returns-in_err-look : goal.begin-returns-in_err-look
-begin-returns-in_err-look = Rattle.cycle.proofs.+reading.Answers.Begin.begin-returns-in_err-look
+pub begin-returns-in_err-token : goal.begin-returns-in_err-token
+begin-returns-in_err-token = Rattle.cycle.proofs.+reading.Answers.Begin.begin-returns-in_err-token
 
 pub binop-returns-then-level-eq-PRECEDENCE_END : goal.binop-returns-then-level-eq-PRECEDENCE_END
 binop-returns-then-level-eq-PRECEDENCE_END = Rattle.cycle.proofs.+reading.Answers.Binop.binop-returns-then-level-eq-PRECEDENCE_END
@@ -743,8 +743,8 @@ rhs-returns-then-depth-eq0 = Rattle.cycle.proofs.+reading.Answers.Rhs.rhs-return
 pub rhs-returns : goal.rhs-returns
 rhs-returns = Rattle.cycle.proofs.+reading.Answers.Rhs.rhs-returns
 
-pub sig-loop-look-init : goal.sig-loop-look-init
-sig-loop-look-init = Rattle.cycle.proofs.+reading.Answers.Sig.sig-loop-look-init
+pub sig-loop-token-init : goal.sig-loop-token-init
+sig-loop-token-init = Rattle.cycle.proofs.+reading.Answers.Sig.sig-loop-token-init
 
 pub sig-look-requires : goal.sig-look-requires
 sig-look-requires = Rattle.cycle.proofs.+reading.Answers.Sig.sig-look-requires
@@ -752,8 +752,8 @@ sig-look-requires = Rattle.cycle.proofs.+reading.Answers.Sig.sig-look-requires
 pub sig-params_end-requires : goal.sig-params_end-requires
 sig-params_end-requires = Rattle.cycle.proofs.+reading.Answers.Sig.sig-params_end-requires
 
-pub sig-returns-then-look-eq-CLOSE_PAREN : goal.sig-returns-then-look-eq-CLOSE_PAREN
-sig-returns-then-look-eq-CLOSE_PAREN = Rattle.cycle.proofs.+reading.Answers.Sig.sig-returns-then-look-eq-CLOSE_PAREN
+pub sig-returns-then-token-eq-CLOSE_PAREN : goal.sig-returns-then-token-eq-CLOSE_PAREN
+sig-returns-then-token-eq-CLOSE_PAREN = Rattle.cycle.proofs.+reading.Answers.Sig.sig-returns-then-token-eq-CLOSE_PAREN
 
 pub sig-param-one-requires : goal.sig-param-one-requires
 sig-param-one-requires = Rattle.cycle.proofs.+reading.Answers.Sig.sig-param-one-requires
@@ -761,17 +761,17 @@ sig-param-one-requires = Rattle.cycle.proofs.+reading.Answers.Sig.sig-param-one-
 pub sig-joined-requires : goal.sig-joined-requires
 sig-joined-requires = Rattle.cycle.proofs.+reading.Answers.Sig.sig-joined-requires
 
-pub sig-loop-look-smaller : goal.sig-loop-look-smaller
-sig-loop-look-smaller = Rattle.cycle.proofs.+reading.Answers.Sig.sig-loop-look-smaller
+pub sig-loop-token-smaller : goal.sig-loop-token-smaller
+sig-loop-token-smaller = Rattle.cycle.proofs.+reading.Answers.Sig.sig-loop-token-smaller
 
-pub sig-loop-look-preserved : goal.sig-loop-look-preserved
-sig-loop-look-preserved = Rattle.cycle.proofs.+reading.Answers.Sig.sig-loop-look-preserved
+pub sig-loop-token-preserved : goal.sig-loop-token-preserved
+sig-loop-token-preserved = Rattle.cycle.proofs.+reading.Answers.Sig.sig-loop-token-preserved
 
-pub sig-returns-in_err-look-joined : goal.sig-returns-in_err-look-joined
-sig-returns-in_err-look-joined = Rattle.cycle.proofs.+reading.Answers.Sig.sig-returns-in_err-look-joined
+pub sig-returns-in_err-token-joined : goal.sig-returns-in_err-token-joined
+sig-returns-in_err-token-joined = Rattle.cycle.proofs.+reading.Answers.Sig.sig-returns-in_err-token-joined
 
-pub sig-returns-in_err-look : goal.sig-returns-in_err-look
-sig-returns-in_err-look = Rattle.cycle.proofs.+reading.Answers.Sig.sig-returns-in_err-look
+pub sig-returns-in_err-token : goal.sig-returns-in_err-token
+sig-returns-in_err-token = Rattle.cycle.proofs.+reading.Answers.Sig.sig-returns-in_err-token
 
 pub stmt-overflow_add-pos : goal.stmt-overflow_add-pos
 stmt-overflow_add-pos = Rattle.cycle.proofs.+reading.Answers.Stmt.stmt-overflow_add-pos
@@ -881,8 +881,8 @@ sync-loop-look-preserved = Rattle.cycle.proofs.+reading.Answers.Sync.sync-loop-l
 pub sync-returns-in_err-None : goal.sync-returns-in_err-None
 sync-returns-in_err-None = Rattle.cycle.proofs.+reading.Answers.Sync.sync-returns-in_err-None
 
-pub table-loop-look-init : goal.table-loop-look-init
-table-loop-look-init = Rattle.cycle.proofs.+reading.Answers.Table.table-loop-look-init
+pub table-loop-token-init : goal.table-loop-token-init
+table-loop-token-init = Rattle.cycle.proofs.+reading.Answers.Table.table-loop-token-init
 
 pub table-look-requires : goal.table-look-requires
 table-look-requires = Rattle.cycle.proofs.+reading.Answers.Table.table-look-requires
@@ -893,8 +893,8 @@ table-overflow_add-result = Rattle.cycle.proofs.+reading.Answers.Table.table-ove
 pub table-list_end-requires : goal.table-list_end-requires
 table-list_end-requires = Rattle.cycle.proofs.+reading.Answers.Table.table-list_end-requires
 
-pub table-returns-then-look-eq-CLOSE_BRACE : goal.table-returns-then-look-eq-CLOSE_BRACE
-table-returns-then-look-eq-CLOSE_BRACE = Rattle.cycle.proofs.+reading.Answers.Table.table-returns-then-look-eq-CLOSE_BRACE
+pub table-returns-then-token-eq-CLOSE_BRACE : goal.table-returns-then-token-eq-CLOSE_BRACE
+table-returns-then-token-eq-CLOSE_BRACE = Rattle.cycle.proofs.+reading.Answers.Table.table-returns-then-token-eq-CLOSE_BRACE
 
 pub table-item-one-requires : goal.table-item-one-requires
 table-item-one-requires = Rattle.cycle.proofs.+reading.Answers.Table.table-item-one-requires
@@ -917,20 +917,20 @@ table-returns-then-closed-eq1 = Rattle.cycle.proofs.+reading.Answers.Table.table
 pub table-overflow_add-n-in-At : goal.table-overflow_add-n-in-At
 table-overflow_add-n-in-At = Rattle.cycle.proofs.+reading.Answers.Table.table-overflow_add-n-in-At
 
-pub table-loop-look-smaller : goal.table-loop-look-smaller
-table-loop-look-smaller = Rattle.cycle.proofs.+reading.Answers.Table.table-loop-look-smaller
+pub table-loop-token-smaller : goal.table-loop-token-smaller
+table-loop-token-smaller = Rattle.cycle.proofs.+reading.Answers.Table.table-loop-token-smaller
 
-pub table-loop-look-preserved : goal.table-loop-look-preserved
-table-loop-look-preserved = Rattle.cycle.proofs.+reading.Answers.Table.table-loop-look-preserved
+pub table-loop-token-preserved : goal.table-loop-token-preserved
+table-loop-token-preserved = Rattle.cycle.proofs.+reading.Answers.Table.table-loop-token-preserved
 
-pub table-returns-in_err-look-item_end : goal.table-returns-in_err-look-item_end
-table-returns-in_err-look-item_end = Rattle.cycle.proofs.+reading.Answers.Table.table-returns-in_err-look-item_end
+pub table-returns-in_err-token-item_end : goal.table-returns-in_err-token-item_end
+table-returns-in_err-token-item_end = Rattle.cycle.proofs.+reading.Answers.Table.table-returns-in_err-token-item_end
 
-pub table-returns-in_err-look : goal.table-returns-in_err-look
-table-returns-in_err-look = Rattle.cycle.proofs.+reading.Answers.Table.table-returns-in_err-look
+pub table-returns-in_err-token : goal.table-returns-in_err-token
+table-returns-in_err-token = Rattle.cycle.proofs.+reading.Answers.Table.table-returns-in_err-token
 
-pub tail-loop-look-init : goal.tail-loop-look-init
-tail-loop-look-init = Rattle.cycle.proofs.+reading.Answers.Tail.tail-loop-look-init
+pub tail-loop-token-init : goal.tail-loop-token-init
+tail-loop-token-init = Rattle.cycle.proofs.+reading.Answers.Tail.tail-loop-token-init
 
 pub tail-look-requires : goal.tail-look-requires
 tail-look-requires = Rattle.cycle.proofs.+reading.Answers.Tail.tail-look-requires
@@ -938,8 +938,8 @@ tail-look-requires = Rattle.cycle.proofs.+reading.Answers.Tail.tail-look-require
 pub tail-tuple_end-requires : goal.tail-tuple_end-requires
 tail-tuple_end-requires = Rattle.cycle.proofs.+reading.Answers.Tail.tail-tuple_end-requires
 
-pub tail-returns-then-look-ne-COMMA : goal.tail-returns-then-look-ne-COMMA
-tail-returns-then-look-ne-COMMA = Rattle.cycle.proofs.+reading.Answers.Tail.tail-returns-then-look-ne-COMMA
+pub tail-returns-then-token-ne-COMMA : goal.tail-returns-then-token-ne-COMMA
+tail-returns-then-token-ne-COMMA = Rattle.cycle.proofs.+reading.Answers.Tail.tail-returns-then-token-ne-COMMA
 
 pub tail-overflow_add-p : goal.tail-overflow_add-p
 tail-overflow_add-p = Rattle.cycle.proofs.+reading.Answers.Tail.tail-overflow_add-p
@@ -968,17 +968,17 @@ tail-returns-in_err-end = Rattle.cycle.proofs.+reading.Answers.Tail.tail-returns
 pub tail-overflow_add-n : goal.tail-overflow_add-n
 tail-overflow_add-n = Rattle.cycle.proofs.+reading.Answers.Tail.tail-overflow_add-n
 
-pub tail-loop-look-smaller : goal.tail-loop-look-smaller
-tail-loop-look-smaller = Rattle.cycle.proofs.+reading.Answers.Tail.tail-loop-look-smaller
+pub tail-loop-token-smaller : goal.tail-loop-token-smaller
+tail-loop-token-smaller = Rattle.cycle.proofs.+reading.Answers.Tail.tail-loop-token-smaller
 
-pub tail-loop-look-preserved : goal.tail-loop-look-preserved
-tail-loop-look-preserved = Rattle.cycle.proofs.+reading.Answers.Tail.tail-loop-look-preserved
+pub tail-loop-token-preserved : goal.tail-loop-token-preserved
+tail-loop-token-preserved = Rattle.cycle.proofs.+reading.Answers.Tail.tail-loop-token-preserved
 
-pub tail-returns-in_err-look-look : goal.tail-returns-in_err-look-look
-tail-returns-in_err-look-look = Rattle.cycle.proofs.+reading.Answers.Tail.tail-returns-in_err-look-look
+pub tail-returns-in_err-token-look : goal.tail-returns-in_err-token-look
+tail-returns-in_err-token-look = Rattle.cycle.proofs.+reading.Answers.Tail.tail-returns-in_err-token-look
 
-pub tail-returns-in_err-look : goal.tail-returns-in_err-look
-tail-returns-in_err-look = Rattle.cycle.proofs.+reading.Answers.Tail.tail-returns-in_err-look
+pub tail-returns-in_err-token : goal.tail-returns-in_err-token
+tail-returns-in_err-token = Rattle.cycle.proofs.+reading.Answers.Tail.tail-returns-in_err-token
 
 pub term-overflow_add-result : goal.term-overflow_add-result
 term-overflow_add-result = Rattle.cycle.proofs.+reading.Answers.Term.term-overflow_add-result
@@ -1055,14 +1055,14 @@ tuple-look-requires = Rattle.cycle.proofs.+reading.Answers.Tuple.tuple-look-requ
 pub tuple-tail-requires : goal.tuple-tail-requires
 tuple-tail-requires = Rattle.cycle.proofs.+reading.Answers.Tuple.tuple-tail-requires
 
-pub tuple-returns-then-look-eq-COMMA : goal.tuple-returns-then-look-eq-COMMA
-tuple-returns-then-look-eq-COMMA = Rattle.cycle.proofs.+reading.Answers.Tuple.tuple-returns-then-look-eq-COMMA
+pub tuple-returns-then-token-eq-COMMA : goal.tuple-returns-then-token-eq-COMMA
+tuple-returns-then-token-eq-COMMA = Rattle.cycle.proofs.+reading.Answers.Tuple.tuple-returns-then-token-eq-COMMA
 
-pub tuple-returns-else-look-eq-COMMA : goal.tuple-returns-else-look-eq-COMMA
-tuple-returns-else-look-eq-COMMA = Rattle.cycle.proofs.+reading.Answers.Tuple.tuple-returns-else-look-eq-COMMA
+pub tuple-returns-else-token-eq-COMMA : goal.tuple-returns-else-token-eq-COMMA
+tuple-returns-else-token-eq-COMMA = Rattle.cycle.proofs.+reading.Answers.Tuple.tuple-returns-else-token-eq-COMMA
 
-pub tuple-returns-in_err-look : goal.tuple-returns-in_err-look
-tuple-returns-in_err-look = Rattle.cycle.proofs.+reading.Answers.Tuple.tuple-returns-in_err-look
+pub tuple-returns-in_err-token : goal.tuple-returns-in_err-token
+tuple-returns-in_err-token = Rattle.cycle.proofs.+reading.Answers.Tuple.tuple-returns-in_err-token
 
 pub turn-jump-c-requires : goal.turn-jump-c-requires
 turn-jump-c-requires = Rattle.cycle.proofs.+reading.Answers.Turn.turn-jump-c-requires
@@ -1127,8 +1127,8 @@ val-returns-then-ends_control = Rattle.cycle.proofs.+reading.Answers.Val.val-ret
 pub val-returns-else-ends_control : goal.val-returns-else-ends_control
 val-returns-else-ends_control = Rattle.cycle.proofs.+reading.Answers.Val.val-returns-else-ends_control
 
-pub val-returns-in_err-look : goal.val-returns-in_err-look
-val-returns-in_err-look = Rattle.cycle.proofs.+reading.Answers.Val.val-returns-in_err-look
+pub val-returns-in_err-token : goal.val-returns-in_err-token
+val-returns-in_err-token = Rattle.cycle.proofs.+reading.Answers.Val.val-returns-in_err-token
 
 pub whiles-returns-in_err-over : goal.whiles-returns-in_err-over
 whiles-returns-in_err-over = Rattle.cycle.proofs.+reading.Answers.Whiles.whiles-returns-in_err-over

@@ -154,13 +154,13 @@ pub record GoingBinop (T S₀ Q₀ : List ℕ) (depth l pos at : ℕ) (first : C
   pub kept : length S ≡ length S₀
 
 abbrev pub invariant-binop-loop-token : goal.invariant-binop-loop-token
-invariant-binop-loop-token l = GoingBinop l.tokens l.initial.store l.initial.queue l.depth l.level l.cursor.pos l.cursor.at l.initial.left l.store l.queue l.left
+invariant-binop-loop-token l = GoingBinop l.tokens l.initial.store l.initial.queue l.depth l.level l.fn.cursor.pos l.fn.cursor.at l.initial.left l.store l.queue l.left
 
 abbrev pub decreases-binop-loop-token : goal.decreases-binop-loop-token
 decreases-binop-loop-token l = length l.tokens - l.left.pos
 
 abbrev pub invariant-cond-loop-branch : goal.invariant-cond-loop-branch
-invariant-cond-loop-branch l = Going l.tokens l.initial.store l.initial.queue l.depth l.cursor.pos l.cursor.at l.store l.queue l.end.pos l.end.at l.n
+invariant-cond-loop-branch l = Going l.tokens l.initial.store l.initial.queue l.depth l.fn.cursor.pos l.fn.cursor.at l.store l.queue l.end.pos l.end.at l.n
 
 abbrev pub decreases-cond-loop-branch : goal.decreases-cond-loop-branch
 decreases-cond-loop-branch l = length l.tokens - l.end.pos
@@ -177,7 +177,7 @@ pub record GoingList (T S₀ Q₀ : List ℕ) (depth end pos at : ℕ) (S Q : Li
   pub kept : length S ≡ length S₀
 
 abbrev pub invariant-list-loop-token : goal.invariant-list-loop-token
-invariant-list-loop-token l = GoingList l.tokens l.initial.store l.initial.queue l.depth l.end l.cursor.pos l.cursor.at l.store l.queue l.suite
+invariant-list-loop-token l = GoingList l.tokens l.initial.store l.initial.queue l.depth l.end l.fn.cursor.pos l.fn.cursor.at l.store l.queue l.suite
 
 abbrev pub decreases-list-loop-token : goal.decreases-list-loop-token
 decreases-list-loop-token l = length l.tokens - l.suite.end.pos
@@ -193,7 +193,7 @@ pub record GoingPath (T S₀ Q₀ : List ℕ) (depth : ℕ) (calls : Bool) (pos 
   pub kept : length S ≡ length S₀
 
 abbrev pub invariant-path-loop-token : goal.invariant-path-loop-token
-invariant-path-loop-token l = GoingPath l.tokens l.initial.store l.initial.queue l.depth l.calls l.cursor.pos l.cursor.at l.store l.queue l.end.pos l.end.at l.n
+invariant-path-loop-token l = GoingPath l.tokens l.initial.store l.initial.queue l.depth l.calls l.fn.cursor.pos l.fn.cursor.at l.store l.queue l.end.pos l.end.at l.n
 
 abbrev pub decreases-path-loop-token : goal.decreases-path-loop-token
 decreases-path-loop-token l = length l.tokens - l.end.pos
@@ -208,11 +208,11 @@ pub record GoingSig (T S₀ Q₀ : List ℕ) (depth pos at : ℕ) (S Q : List �
   pub below : c.variadic ≤ name_bound
   pub kept : length S ≡ length S₀
 
-abbrev pub invariant-sig-loop-look : goal.invariant-sig-loop-look
-invariant-sig-loop-look l = GoingSig l.tokens l.initial.store l.initial.queue l.depth l.cursor.pos l.cursor.at l.store l.queue l.end.pos l.end.at l.counts
+abbrev pub invariant-sig-loop-token : goal.invariant-sig-loop-token
+invariant-sig-loop-token l = GoingSig l.tokens l.initial.store l.initial.queue l.depth l.fn.cursor.pos l.fn.cursor.at l.store l.queue l.end.pos l.end.at l.counts
 
-abbrev pub decreases-sig-loop-look : goal.decreases-sig-loop-look
-decreases-sig-loop-look l = length l.tokens - l.end.pos
+abbrev pub decreases-sig-loop-token : goal.decreases-sig-loop-token
+decreases-sig-loop-token l = length l.tokens - l.end.pos
 
 -- where the loop stands: the whole is what resynchronizing from here makes
 pub record GoingSync (T S₀ Q₀ : List ℕ) (depth pos at : ℕ) (inside : Bool) (S Q : List ℕ) (p : ℕ) : Type 0 where
@@ -224,7 +224,7 @@ pub record GoingSync (T S₀ Q₀ : List ℕ) (depth pos at : ℕ) (inside : Boo
   pub kept : length S ≡ length S₀
 
 abbrev pub invariant-sync-loop-token : goal.invariant-sync-loop-token
-invariant-sync-loop-token l = GoingSync l.tokens l.initial.store l.initial.queue l.depth l.cursor.pos l.cursor.at l.inside l.store l.queue l.pos
+invariant-sync-loop-token l = GoingSync l.tokens l.initial.store l.initial.queue l.depth l.fn.cursor.pos l.fn.cursor.at l.inside l.store l.queue l.pos
 
 abbrev pub decreases-sync-loop-token : goal.decreases-sync-loop-token
 decreases-sync-loop-token l = length l.tokens - l.pos
@@ -238,11 +238,11 @@ pub record GoingTable (T S₀ Q₀ : List ℕ) (depth pos at : ℕ) (S Q : List 
   pub short : 2 * n ≤ p
   pub kept : length S ≡ length S₀
 
-abbrev pub invariant-table-loop-look : goal.invariant-table-loop-look
-invariant-table-loop-look l = GoingTable l.tokens l.initial.store l.initial.queue l.depth l.cursor.pos l.cursor.at l.store l.queue l.end.pos l.end.at l.n
+abbrev pub invariant-table-loop-token : goal.invariant-table-loop-token
+invariant-table-loop-token l = GoingTable l.tokens l.initial.store l.initial.queue l.depth l.fn.cursor.pos l.fn.cursor.at l.store l.queue l.end.pos l.end.at l.n
 
-abbrev pub decreases-table-loop-look : goal.decreases-table-loop-look
-decreases-table-loop-look l = length l.tokens - l.end.pos
+abbrev pub decreases-table-loop-token : goal.decreases-table-loop-token
+decreases-table-loop-token l = length l.tokens - l.end.pos
 
 -- where the loop stands
 pub record GoingTail (T S₀ Q₀ : List ℕ) (depth pos at : ℕ) (S Q : List ℕ) (p a n : ℕ) : Type 0 where
@@ -253,8 +253,8 @@ pub record GoingTail (T S₀ Q₀ : List ℕ) (depth pos at : ℕ) (S Q : List �
   pub few : 2 * n ≤ p + 2
   pub kept : length S ≡ length S₀
 
-abbrev pub invariant-tail-loop-look : goal.invariant-tail-loop-look
-invariant-tail-loop-look l = GoingTail l.tokens l.initial.store l.initial.queue l.depth l.cursor.pos l.cursor.at l.store l.queue l.end.pos l.end.at l.n
+abbrev pub invariant-tail-loop-token : goal.invariant-tail-loop-token
+invariant-tail-loop-token l = GoingTail l.tokens l.initial.store l.initial.queue l.depth l.fn.cursor.pos l.fn.cursor.at l.store l.queue l.end.pos l.end.at l.n
 
-abbrev pub decreases-tail-loop-look : goal.decreases-tail-loop-look
-decreases-tail-loop-look l = length l.tokens - l.end.pos
+abbrev pub decreases-tail-loop-token : goal.decreases-tail-loop-token
+decreases-tail-loop-token l = length l.tokens - l.end.pos

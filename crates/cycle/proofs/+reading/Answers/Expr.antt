@@ -45,14 +45,14 @@ expr-returns-then-code-eq0 t c = let x = found c.in_ok-keyword.ensures in
     let s0 = told _ x (way _ (expr_step _ _ _)) in
     let w = done c.in_ok-left.ensures in
     let s1 = goes _ s0 w.same in
-    let tk = taken c.in_ok-look.ensures in
+    let tk = taken c.in_ok-token.ensures in
     either_way (eqb c.in_ok-keyword.keyword.number 0)
     (λ e. record { how = relabel w w.what refl (link s1 (way _ (expr_plain (at_depth c.args.depth) c.in_ok-keyword.keyword.number w.what _ tk c.assign_code-code.ensures.0 c.if-code-eq0.true (eqb-true _ _ e)))) (omega (arith, c.requires, w.moved, xo)) (omega (arith, c.requires, w.moved, w.room, xo)) })
     (λ e. record { how = record { how = record { same = link s1 (way _ (expr_alone (at_depth c.args.depth) c.in_ok-keyword.keyword.number w.what _ tk c.assign_code-code.ensures.0 c.if-code-eq0.true (eqb-false _ _ e))); moved = omega (arith, c.requires, w.moved, xo); far = omega (arith, c.requires, w.moved, xo); text = prefix w (omega (arith, c.requires)) } } })
     c.unassigned.ensures
 
 pub expr-overflow_add-p1 : goal.expr-overflow_add-p1
-expr-overflow_add-p1 t c = let tk = taken c.in_ok-look.ensures in
+expr-overflow_add-p1 t c = let tk = taken c.in_ok-token.ensures in
     omega arith
 
 pub expr-expect_pattern-target-requires : goal.expr-expect_pattern-target-requires
@@ -60,7 +60,7 @@ expr-expect_pattern-target-requires t c = let x = found c.in_ok-keyword.ensures 
     let xo = x.got.on in
     let xw = x.got.within in
     let w = done c.in_ok-left.ensures in
-    let tk = taken c.in_ok-look.ensures in
+    let tk = taken c.in_ok-token.ensures in
     let small = shape_small (given (tuple_shape _ _ _) w.same) in
     record { tree = w.what; whole = stands w small (omega (arith, c.requires)) (omega (arith, c.requires, w.moved, w.room, xo, xw, c.tuple-left.auto.store)) }
 
@@ -71,7 +71,7 @@ expr-returns-in_err-target t c = let x = found c.in_ok-keyword.ensures in
     let s0 = told _ x (way _ (expr_step _ _ _)) in
     let w = done c.in_ok-left.ensures in
     let s1 = goes _ s0 w.same in
-    let tk = taken c.in_ok-look.ensures in
+    let tk = taken c.in_ok-token.ensures in
     let small = shape_small (given (tuple_shape _ _ _) w.same) in
     let whole = stands w small (omega (arith, c.requires)) (omega (arith, c.requires, w.moved, w.room, xo, xw, c.tuple-left.auto.store)) in
     let q2 = link s1 (way _ (expr_assign (at_depth c.args.depth) c.in_ok-keyword.keyword.number w.what _ tk c.assign_code-code.ensures.0 c.if-code-eq0.false refl)) in
@@ -83,7 +83,7 @@ expr-rhs-right-requires t c = let x = found c.in_ok-keyword.ensures in
     let xo = x.got.on in
     let xw = x.got.within in
     let w = done c.in_ok-left.ensures in
-    let tk = taken c.in_ok-look.ensures in
+    let tk = taken c.in_ok-token.ensures in
     let small = shape_small (given (tuple_shape _ _ _) w.same) in
     let whole = stands w small (omega (arith, c.requires)) (omega (arith, c.requires, w.moved, w.room, xo, xw, c.tuple-left.auto.store)) in
     let pt = stored (c.in_ok-target.ensures w.what c.args.tokens.now whole tk.within) in
@@ -101,7 +101,7 @@ expr-returns-in_err-right t c = let x = found c.in_ok-keyword.ensures in
     let s0 = told _ x (way _ (expr_step _ _ _)) in
     let w = done c.in_ok-left.ensures in
     let s1 = goes _ s0 w.same in
-    let tk = taken c.in_ok-look.ensures in
+    let tk = taken c.in_ok-token.ensures in
     let small = shape_small (given (tuple_shape _ _ _) w.same) in
     let whole = stands w small (omega (arith, c.requires)) (omega (arith, c.requires, w.moved, w.room, xo, xw, c.tuple-left.auto.store)) in
     let pt = stored (c.in_ok-target.ensures w.what c.args.tokens.now whole tk.within) in
@@ -126,7 +126,7 @@ expr-emit-requires t c = let x = found c.in_ok-keyword.ensures in
     let xo = x.got.on in
     let xw = x.got.within in
     let w = done c.in_ok-left.ensures in
-    let tk = taken c.in_ok-look.ensures in
+    let tk = taken c.in_ok-token.ensures in
     let small = shape_small (given (tuple_shape _ _ _) w.same) in
     let whole = stands w small (omega (arith, c.requires)) (omega (arith, c.requires, w.moved, w.room, xo, xw, c.tuple-left.auto.store)) in
     let pt = stored (c.in_ok-target.ensures w.what c.args.tokens.now whole tk.within) in
@@ -147,7 +147,7 @@ expr-returns-in-Done-r t c =
     let s0 = told _ x (way _ (expr_step _ _ _)) in
     let w = done c.in_ok-left.ensures in
     let s1 = goes _ s0 w.same in
-    let tk = taken c.in_ok-look.ensures in
+    let tk = taken c.in_ok-token.ensures in
     let small = shape_small (given (tuple_shape _ _ _) w.same) in
     let whole = stands w small (omega (arith, c.requires)) (omega (arith, c.requires, w.moved, w.room, xo, xw, c.tuple-left.auto.store)) in
     let pt = stored (c.in_ok-target.ensures w.what c.args.tokens.now whole tk.within) in
@@ -169,7 +169,7 @@ expr-returns-in_err-keyword-look t c = let x = found c.in_ok-keyword.ensures in
     let s0 = told _ x (way _ (expr_step _ _ _)) in
     let w = done c.in_ok-left.ensures in
     let s1 = goes _ s0 w.same in
-    rw (handed c.from_residual-in_err-keyword-look.ensures.1) (did_not (fails_unseen s1 (record { go = _; is = refl }) c.in_err-look.ensures (prefix w (omega (arith, c.requires))) (omega (arith, c.requires, w.moved, xo))))
+    rw (handed c.from_residual-in_err-keyword-look.ensures.1) (did_not (fails_unseen s1 (record { go = _; is = refl }) c.in_err-token.ensures (prefix w (omega (arith, c.requires))) (omega (arith, c.requires, w.moved, xo))))
 
 pub expr-returns-in_err-keyword : goal.expr-returns-in_err-keyword
 expr-returns-in_err-keyword t c = rw (handed c.from_residual-in_err-keyword.ensures.1) (did_not (lacks _ (unfound c.in_err-keyword.ensures) (way _ (expr_step _ _ _)) refl (omega arith)))

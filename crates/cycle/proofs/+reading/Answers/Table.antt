@@ -10,9 +10,9 @@ use Rattle.nodes.proofs.Made.{put, count_snoc, joined}
 use Rattle.cycle.proofs.PathsPrimary.{items_looks, items_end, items_more, items_closed, items_again}
 use Rattle.cycle.proofs.+reading.Goals as goal
 
-pub table-loop-look-init : goal.table-loop-look-init
+pub table-loop-token-init : goal.table-loop-token-init
 unfolding records count
-table-loop-look-init t c = record {
+table-loop-token-init t c = record {
   fuel = length (drop c.args.cursor.pos c.args.tokens.now);
   enough = rw length-drop (omega arith);
   run = record { what = none; same = here; moved = omega arith; room = omega arith; text = sym (append-nil (take c.args.cursor.at c.args.store.now)) };
@@ -22,37 +22,37 @@ table-loop-look-init t c = record {
 }
 
 pub table-look-requires : goal.table-look-requires
-table-look-requires t c = c.loop-look.invariant.run.moved.within
+table-look-requires t c = c.loop-token.invariant.run.moved.within
 
 pub table-overflow_add-result : goal.table-overflow_add-result
-table-overflow_add-result t c = let tk = taken c.in_ok-look.ensures in
+table-overflow_add-result t c = let tk = taken c.in_ok-token.ensures in
     omega arith
 
 pub table-list_end-requires : goal.table-list_end-requires
-table-list_end-requires t c = let g = c.loop-look.invariant in
+table-list_end-requires t c = let g = c.loop-token.invariant in
     let gr = g.run in
-    let tk = taken c.in_ok-look.ensures in
+    let tk = taken c.in_ok-token.ensures in
     (omega (arith, c.requires, g.kept, gr.moved, gr.room, tk.within), omega (arith, c.requires, g.short, tk.within))
 
-pub table-returns-then-look-eq-CLOSE_BRACE : goal.table-returns-then-look-eq-CLOSE_BRACE
-table-returns-then-look-eq-CLOSE_BRACE t c = let g = c.loop-look.invariant in
+pub table-returns-then-token-eq-CLOSE_BRACE : goal.table-returns-then-token-eq-CLOSE_BRACE
+table-returns-then-token-eq-CLOSE_BRACE t c = let g = c.loop-token.invariant in
     let gr = g.run in
-    let tk = taken c.in_ok-look.ensures in
-    let out = link gr.same (way _ (items_end _ gr.what _ g.fuel _ g.enough tk c.if-look-eq-CLOSE_BRACE.true)) in
+    let tk = taken c.in_ok-token.ensures in
+    let out = link gr.same (way _ (items_end _ gr.what _ g.fuel _ g.enough tk c.if-token-eq-CLOSE_BRACE.true)) in
     let e = c.list_end.ensures in
     record { how = record { what = gr.what; same = out; moved = omega (arith, c.requires, gr.moved, tk.within); room = omega (arith, gr.room, e.next); text = put 1 gr.what (take c.args.cursor.at c.args.store.now) e gr.text (ap (λ (i : ℕ). 1 + 256 * i) (sym g.many)) } }
 
 pub table-item-one-requires : goal.table-item-one-requires
-table-item-one-requires t c = let g = c.loop-look.invariant in
+table-item-one-requires t c = let g = c.loop-token.invariant in
     let gr = g.run in
-    let tk = taken c.in_ok-look.ensures in
+    let tk = taken c.in_ok-token.ensures in
     omega (arith, c.requires, g.kept, gr.moved, gr.room, tk.within)
 
 pub table-returns-in_err-one : goal.table-returns-in_err-one
-table-returns-in_err-one t c = let g = c.loop-look.invariant in
+table-returns-in_err-one t c = let g = c.loop-token.invariant in
     let gr = g.run in
-    let tk = taken c.in_ok-look.ensures in
-    let on = link gr.same (way _ (items_more _ gr.what _ g.fuel _ g.enough tk c.if-look-eq-CLOSE_BRACE.false)) in
+    let tk = taken c.in_ok-token.ensures in
+    let on = link gr.same (way _ (items_more _ gr.what _ g.fuel _ g.enough tk c.if-token-eq-CLOSE_BRACE.false)) in
     rw (handed c.from_residual-in_err-one.ensures.1) (did_not (fails _ on (undone c.in_err-one.ensures) (prefix gr (omega (arith, c.requires))) (omega (arith, gr.moved, gr.room))))
 
 pub table-item_end-requires : goal.table-item_end-requires
@@ -60,23 +60,23 @@ table-item_end-requires t c = let w = done c.in_ok-one.ensures in
     w.moved.within
 
 pub table-overflow_add-n : goal.table-overflow_add-n
-table-overflow_add-n t c = let g = c.loop-look.invariant in
+table-overflow_add-n t c = let g = c.loop-token.invariant in
     let ie = found c.in_ok-closing.ensures in
     let w = done c.in_ok-one.ensures in
     omega (arith, c.requires, g.short, w.moved, ie.got.on, ie.got.within)
 
 pub table-list_end-requires-then-closed-eq1 : goal.table-list_end-requires-then-closed-eq1
-table-list_end-requires-then-closed-eq1 t c = let g = c.loop-look.invariant in
+table-list_end-requires-then-closed-eq1 t c = let g = c.loop-token.invariant in
     let gr = g.run in
     let w = done c.in_ok-one.ensures in
     let ie = found c.in_ok-closing.ensures in
     (omega (arith, c.requires, g.kept, gr.moved, gr.room, w.moved, w.room, ie.got.on, ie.got.within, c.item-one.auto.store), omega (arith, c.requires, g.short, w.moved, ie.got.on, ie.got.within))
 
 pub table-returns-then-closed-eq1 : goal.table-returns-then-closed-eq1
-table-returns-then-closed-eq1 t c = let g = c.loop-look.invariant in
+table-returns-then-closed-eq1 t c = let g = c.loop-token.invariant in
     let gr = g.run in
-    let tk = taken c.in_ok-look.ensures in
-    let on = link gr.same (way _ (items_more _ gr.what _ g.fuel _ g.enough tk c.if-look-eq-CLOSE_BRACE.false)) in
+    let tk = taken c.in_ok-token.ensures in
+    let on = link gr.same (way _ (items_more _ gr.what _ g.fuel _ g.enough tk c.if-token-eq-CLOSE_BRACE.false)) in
     let w = done c.in_ok-one.ensures in
     let next = goes _ on w.same in
     let ie = found c.in_ok-closing.ensures in
@@ -94,21 +94,21 @@ table-returns-then-closed-eq1 t c = let g = c.loop-look.invariant in
     }
 
 pub table-overflow_add-n-in-At : goal.table-overflow_add-n-in-At
-table-overflow_add-n-in-At t c = let g = c.loop-look.invariant in
+table-overflow_add-n-in-At t c = let g = c.loop-token.invariant in
     let ie = found c.in_ok-closing.ensures in
     let w = done c.in_ok-one.ensures in
     omega (arith, c.requires, g.short, w.moved, ie.got.on, ie.got.within)
 
-pub table-loop-look-smaller : goal.table-loop-look-smaller
-table-loop-look-smaller t c = let w = done c.in_ok-one.ensures in
+pub table-loop-token-smaller : goal.table-loop-token-smaller
+table-loop-token-smaller t c = let w = done c.in_ok-one.ensures in
     let ie = found c.in_ok-closing.ensures in
     omega (arith, w.moved, ie.got.on, ie.got.within)
 
-pub table-loop-look-preserved : goal.table-loop-look-preserved
-table-loop-look-preserved t c = let g = c.loop-look.invariant in
+pub table-loop-token-preserved : goal.table-loop-token-preserved
+table-loop-token-preserved t c = let g = c.loop-token.invariant in
     let gr = g.run in
-    let tk = taken c.in_ok-look.ensures in
-    let on = link gr.same (way _ (items_more _ gr.what _ g.fuel _ g.enough tk c.if-look-eq-CLOSE_BRACE.false)) in
+    let tk = taken c.in_ok-token.ensures in
+    let on = link gr.same (way _ (items_more _ gr.what _ g.fuel _ g.enough tk c.if-token-eq-CLOSE_BRACE.false)) in
     let w = done c.in_ok-one.ensures in
     let next = goes _ on w.same in
     let ie = found c.in_ok-closing.ensures in
@@ -122,16 +122,16 @@ table-loop-look-preserved t c = let g = c.loop-look.invariant in
       kept = omega (arith, g.kept, c.item-one.auto.store);
     }
 
-pub table-returns-in_err-look-item_end : goal.table-returns-in_err-look-item_end
-table-returns-in_err-look-item_end t c = let g = c.loop-look.invariant in
+pub table-returns-in_err-token-item_end : goal.table-returns-in_err-token-item_end
+table-returns-in_err-token-item_end t c = let g = c.loop-token.invariant in
     let gr = g.run in
-    let tk = taken c.in_ok-look.ensures in
-    let on = link gr.same (way _ (items_more _ gr.what _ g.fuel _ g.enough tk c.if-look-eq-CLOSE_BRACE.false)) in
+    let tk = taken c.in_ok-token.ensures in
+    let on = link gr.same (way _ (items_more _ gr.what _ g.fuel _ g.enough tk c.if-token-eq-CLOSE_BRACE.false)) in
     let w = done c.in_ok-one.ensures in
     let next = goes _ on w.same in
-    rw (handed c.from_residual-in_err-look-item_end.ensures.1) (did_not (lacks _ (unfound c.in-Not-item_end.is c.item_end.ensures) next (shorter _ _ _ _ gr.room.up (prefix w (omega (arith, c.requires, g.kept, gr.moved, gr.room))) ∙ prefix gr (omega (arith, c.requires))) (omega (arith, gr.moved, w.moved))))
+    rw (handed c.from_residual-in_err-token-item_end.ensures.1) (did_not (lacks _ (unfound c.in-Not-item_end.is c.item_end.ensures) next (shorter _ _ _ _ gr.room.up (prefix w (omega (arith, c.requires, g.kept, gr.moved, gr.room))) ∙ prefix gr (omega (arith, c.requires))) (omega (arith, gr.moved, w.moved))))
 
-pub table-returns-in_err-look : goal.table-returns-in_err-look
-table-returns-in_err-look t c = let g = c.loop-look.invariant in
+pub table-returns-in_err-token : goal.table-returns-in_err-token
+table-returns-in_err-token t c = let g = c.loop-token.invariant in
     let gr = g.run in
-    rw (handed c.from_residual-in_err-look.ensures.1) (did_not (fails_unseen gr.same (items_looks _ gr.what _ _ g.fuel _ g.enough) c.in_err-look.ensures (prefix gr (omega (arith, c.requires))) (omega (arith, gr.moved))))
+    rw (handed c.from_residual-in_err-token.ensures.1) (did_not (fails_unseen gr.same (items_looks _ gr.what _ _ g.fuel _ g.enough) c.in_err-token.ensures (prefix gr (omega (arith, c.requires))) (omega (arith, gr.moved))))

@@ -10,9 +10,9 @@ use Rattle.nodes.proofs.Made.{count_snoc, joined, remade}
 use Rattle.cycle.proofs.PathsExpr.{tail_looks, tail_end, tail_comma, tail_last, tail_more}
 use Rattle.cycle.proofs.+reading.Goals as goal
 
-pub tail-loop-look-init : goal.tail-loop-look-init
+pub tail-loop-token-init : goal.tail-loop-token-init
 unfolding records count
-tail-loop-look-init t c = record {
+tail-loop-token-init t c = record {
   fuel = length (drop c.args.cursor.pos c.args.tokens.now);
   enough = rw length-drop (omega arith);
   run = record { what = none; same = here; moved = omega arith; room = omega arith; text = sym (append-nil (take c.args.cursor.at c.args.store.now)) };
@@ -22,99 +22,99 @@ tail-loop-look-init t c = record {
 }
 
 pub tail-look-requires : goal.tail-look-requires
-tail-look-requires t c = let i = c.loop-look.invariant in
+tail-look-requires t c = let i = c.loop-token.invariant in
     let g = i.run in
     g.moved.within
 
 pub tail-tuple_end-requires : goal.tail-tuple_end-requires
-tail-tuple_end-requires t c = let i = c.loop-look.invariant in
+tail-tuple_end-requires t c = let i = c.loop-token.invariant in
     let g = i.run in
-    let tk = taken c.in_ok-look.ensures in
+    let tk = taken c.in_ok-token.ensures in
     omega (arith, c.requires)
 
-pub tail-returns-then-look-ne-COMMA : goal.tail-returns-then-look-ne-COMMA
-tail-returns-then-look-ne-COMMA t c = let i = c.loop-look.invariant in
+pub tail-returns-then-token-ne-COMMA : goal.tail-returns-then-token-ne-COMMA
+tail-returns-then-token-ne-COMMA t c = let i = c.loop-token.invariant in
     let g = i.run in
-    let tk = taken c.in_ok-look.ensures in
+    let tk = taken c.in_ok-token.ensures in
     let e = c.tuple_end.ensures in
-    record { how = remade g e i.many (link g.same (way _ (tail_end _ g.what _ i.fuel _ i.enough tk c.if-look-ne-COMMA.true))) g.moved (omega (arith, c.requires, g.moved, g.room, e.up, e.far)) }
+    record { how = remade g e i.many (link g.same (way _ (tail_end _ g.what _ i.fuel _ i.enough tk c.if-token-ne-COMMA.true))) g.moved (omega (arith, c.requires, g.moved, g.room, e.up, e.far)) }
 
 pub tail-overflow_add-p : goal.tail-overflow_add-p
-tail-overflow_add-p t c = let tk = taken c.in_ok-look.ensures in
+tail-overflow_add-p t c = let tk = taken c.in_ok-token.ensures in
     omega arith
 
 pub tail-look-requires-in-Token : goal.tail-look-requires-in-Token
-tail-look-requires-in-Token t c = let tk = taken c.in_ok-look.ensures in
+tail-look-requires-in-Token t c = let tk = taken c.in_ok-token.ensures in
     tk.within
 
 pub tail-overflow_add-result : goal.tail-overflow_add-result
-tail-overflow_add-result t c = let tk = taken c.in_ok-look.ensures in
+tail-overflow_add-result t c = let tk = taken c.in_ok-token.ensures in
     omega arith
 
 pub tail-tuple_end-requires-then-next-eq-CLOSE_PAREN : goal.tail-tuple_end-requires-then-next-eq-CLOSE_PAREN
-tail-tuple_end-requires-then-next-eq-CLOSE_PAREN t c = let i = c.loop-look.invariant in
+tail-tuple_end-requires-then-next-eq-CLOSE_PAREN t c = let i = c.loop-token.invariant in
     let g = i.run in
-    let tk = taken c.in_ok-look.ensures in
+    let tk = taken c.in_ok-token.ensures in
     omega (arith, c.requires)
 
 pub tail-returns-then-next-eq-CLOSE_PAREN : goal.tail-returns-then-next-eq-CLOSE_PAREN
-tail-returns-then-next-eq-CLOSE_PAREN t c = let i = c.loop-look.invariant in
+tail-returns-then-next-eq-CLOSE_PAREN t c = let i = c.loop-token.invariant in
     let g = i.run in
-    let tk = taken c.in_ok-look.ensures in
+    let tk = taken c.in_ok-token.ensures in
     let tn = taken c.in-Token-look.is c.look-in-Token.ensures in
     let e = c.tuple_end-then-next-eq-CLOSE_PAREN.ensures in
-    record { how = remade g e i.many (link g.same (way _ (tail_last _ g.what _ i.fuel _ i.enough tk c.if-look-ne-COMMA.false tn c.if-next-eq-CLOSE_PAREN.true))) (omega (arith, c.requires, g.moved, tk.within)) (omega (arith, c.requires, g.moved, g.room, e.up, e.far)) }
+    record { how = remade g e i.many (link g.same (way _ (tail_last _ g.what _ i.fuel _ i.enough tk c.if-token-ne-COMMA.false tn c.if-next-eq-CLOSE_PAREN.true))) (omega (arith, c.requires, g.moved, tk.within)) (omega (arith, c.requires, g.moved, g.room, e.up, e.far)) }
 
 pub tail-overflow_add-p-in-Token-look : goal.tail-overflow_add-p-in-Token-look
-tail-overflow_add-p-in-Token-look t c = let tk = taken c.in_ok-look.ensures in
+tail-overflow_add-p-in-Token-look t c = let tk = taken c.in_ok-token.ensures in
     omega arith
 
 pub tail-binop-end-requires : goal.tail-binop-end-requires
-tail-binop-end-requires t c = let i = c.loop-look.invariant in
+tail-binop-end-requires t c = let i = c.loop-token.invariant in
     let g = i.run in
-    let tk = taken c.in_ok-look.ensures in
+    let tk = taken c.in_ok-token.ensures in
     omega (arith, c.requires)
 
 pub tail-returns-in_err-end : goal.tail-returns-in_err-end
-tail-returns-in_err-end t c = let i = c.loop-look.invariant in
+tail-returns-in_err-end t c = let i = c.loop-token.invariant in
     let g = i.run in
-    let tk = taken c.in_ok-look.ensures in
+    let tk = taken c.in_ok-token.ensures in
     let tn = taken c.in-Token-look.is c.look-in-Token.ensures in
-    rw (handed c.from_residual-in_err-end.ensures.1) (did_not (fails _ (link g.same (way _ (tail_more _ g.what _ i.fuel _ i.enough tk c.if-look-ne-COMMA.false tn c.if-next-eq-CLOSE_PAREN.false))) (undone c.in_err-end.ensures) (prefix g (omega (arith, c.requires))) (omega (arith, c.requires, g.moved, g.room, tk.within))))
+    rw (handed c.from_residual-in_err-end.ensures.1) (did_not (fails _ (link g.same (way _ (tail_more _ g.what _ i.fuel _ i.enough tk c.if-token-ne-COMMA.false tn c.if-next-eq-CLOSE_PAREN.false))) (undone c.in_err-end.ensures) (prefix g (omega (arith, c.requires))) (omega (arith, c.requires, g.moved, g.room, tk.within))))
 
 pub tail-overflow_add-n : goal.tail-overflow_add-n
-tail-overflow_add-n t c = let i = c.loop-look.invariant in
+tail-overflow_add-n t c = let i = c.loop-token.invariant in
     let g = i.run in
-    let tk = taken c.in_ok-look.ensures in
+    let tk = taken c.in_ok-token.ensures in
     omega (arith, c.requires)
 
-pub tail-loop-look-smaller : goal.tail-loop-look-smaller
-tail-loop-look-smaller t c = let tk = taken c.in_ok-look.ensures in
+pub tail-loop-token-smaller : goal.tail-loop-token-smaller
+tail-loop-token-smaller t c = let tk = taken c.in_ok-token.ensures in
     let w = done c.in_ok-end.ensures in
     omega arith
 
-pub tail-loop-look-preserved : goal.tail-loop-look-preserved
-tail-loop-look-preserved t c = let i = c.loop-look.invariant in
+pub tail-loop-token-preserved : goal.tail-loop-token-preserved
+tail-loop-token-preserved t c = let i = c.loop-token.invariant in
     let g = i.run in
-    let tk = taken c.in_ok-look.ensures in
+    let tk = taken c.in_ok-token.ensures in
     let tn = taken c.in-Token-look.is c.look-in-Token.ensures in
     let w = done c.in_ok-end.ensures in
     record {
       fuel = i.fuel - 1;
       enough = omega arith;
-      run = record { what = snoc g.what w.what; same = goes _ (link g.same (way _ (tail_more _ g.what _ i.fuel _ i.enough tk c.if-look-ne-COMMA.false tn c.if-next-eq-CLOSE_PAREN.false))) w.same; moved = omega arith; room = omega arith; text = joined g.what w.what (take c.args.cursor.at c.args.store.now) w.text g.text };
+      run = record { what = snoc g.what w.what; same = goes _ (link g.same (way _ (tail_more _ g.what _ i.fuel _ i.enough tk c.if-token-ne-COMMA.false tn c.if-next-eq-CLOSE_PAREN.false))) w.same; moved = omega arith; room = omega arith; text = joined g.what w.what (take c.args.cursor.at c.args.store.now) w.text g.text };
       many = omega (arith, count_snoc g.what w.what, i.many);
       few = omega arith;
       kept = omega arith;
     }
 
-pub tail-returns-in_err-look-look : goal.tail-returns-in_err-look-look
-tail-returns-in_err-look-look t c = let i = c.loop-look.invariant in
+pub tail-returns-in_err-token-look : goal.tail-returns-in_err-token-look
+tail-returns-in_err-token-look t c = let i = c.loop-token.invariant in
     let g = i.run in
-    let tk = taken c.in_ok-look.ensures in
-    rw (handed c.from_residual-in_err-look-look.ensures.1) (did_not (fails_unseen (link g.same (way _ (tail_comma _ g.what _ i.fuel _ i.enough tk c.if-look-ne-COMMA.false))) (record { go = _; is = refl }) c.in_err-look.ensures (prefix g (omega arith)) (omega arith)))
+    let tk = taken c.in_ok-token.ensures in
+    rw (handed c.from_residual-in_err-token-look.ensures.1) (did_not (fails_unseen (link g.same (way _ (tail_comma _ g.what _ i.fuel _ i.enough tk c.if-token-ne-COMMA.false))) (record { go = _; is = refl }) c.in_err-token.ensures (prefix g (omega arith)) (omega arith)))
 
-pub tail-returns-in_err-look : goal.tail-returns-in_err-look
-tail-returns-in_err-look t c = let i = c.loop-look.invariant in
+pub tail-returns-in_err-token : goal.tail-returns-in_err-token
+tail-returns-in_err-token t c = let i = c.loop-token.invariant in
     let g = i.run in
-    rw (handed c.from_residual-in_err-look.ensures.1) (did_not (fails_unseen g.same (tail_looks _ g.what _ _ i.fuel _ i.enough) c.in_err-look.ensures (prefix g (omega arith)) (omega arith)))
+    rw (handed c.from_residual-in_err-token.ensures.1) (did_not (fails_unseen g.same (tail_looks _ g.what _ _ i.fuel _ i.enough) c.in_err-token.ensures (prefix g (omega arith)) (omega arith)))

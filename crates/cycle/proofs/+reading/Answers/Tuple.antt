@@ -16,22 +16,22 @@ tuple-look-requires t c = let w = done c.in_ok-first.ensures in
 
 pub tuple-tail-requires : goal.tuple-tail-requires
 tuple-tail-requires t c = let w = done c.in_ok-first.ensures in
-    let tk = taken c.in_ok-look.ensures in
+    let tk = taken c.in_ok-token.ensures in
     omega arith
 
-pub tuple-returns-then-look-eq-COMMA : goal.tuple-returns-then-look-eq-COMMA
-tuple-returns-then-look-eq-COMMA t c = let w = done c.in_ok-first.ensures in
+pub tuple-returns-then-token-eq-COMMA : goal.tuple-returns-then-token-eq-COMMA
+tuple-returns-then-token-eq-COMMA t c = let w = done c.in_ok-first.ensures in
     let on = goes _ (way _ (tuple_step _ _ _)) w.same in
-    let tk = taken c.in_ok-look.ensures in
-    continued _ (records w.what) c.tail.ensures (link on (way _ (tuple_more _ _ _ tk c.if-look-eq-COMMA.true))) w.text (tuple_text w.what) (prefix w (omega (arith, c.requires))) (omega (arith, c.requires, w.moved, w.room))
+    let tk = taken c.in_ok-token.ensures in
+    continued _ (records w.what) c.tail.ensures (link on (way _ (tuple_more _ _ _ tk c.if-token-eq-COMMA.true))) w.text (tuple_text w.what) (prefix w (omega (arith, c.requires))) (omega (arith, c.requires, w.moved, w.room))
 
-pub tuple-returns-else-look-eq-COMMA : goal.tuple-returns-else-look-eq-COMMA
-tuple-returns-else-look-eq-COMMA t c = let w = done c.in_ok-first.ensures in
+pub tuple-returns-else-token-eq-COMMA : goal.tuple-returns-else-token-eq-COMMA
+tuple-returns-else-token-eq-COMMA t c = let w = done c.in_ok-first.ensures in
     let on = goes _ (way _ (tuple_step _ _ _)) w.same in
-    let tk = taken c.in_ok-look.ensures in
-    record { how = relabel w w.what refl (link on (way _ (tuple_one _ _ _ tk c.if-look-eq-COMMA.false))) w.moved (omega (arith, w.room)) }
+    let tk = taken c.in_ok-token.ensures in
+    record { how = relabel w w.what refl (link on (way _ (tuple_one _ _ _ tk c.if-token-eq-COMMA.false))) w.moved (omega (arith, w.room)) }
 
-pub tuple-returns-in_err-look : goal.tuple-returns-in_err-look
-tuple-returns-in_err-look t c = let w = done c.in_ok-first.ensures in
+pub tuple-returns-in_err-token : goal.tuple-returns-in_err-token
+tuple-returns-in_err-token t c = let w = done c.in_ok-first.ensures in
     let on = goes _ (way _ (tuple_step _ _ _)) w.same in
-    rw (handed c.from_residual-in_err-look.ensures.1) (did_not (fails_unseen on (tuple_looks _ _ _ _) c.in_err-look.ensures (prefix w (omega arith)) (omega arith)))
+    rw (handed c.from_residual-in_err-token.ensures.1) (did_not (fails_unseen on (tuple_looks _ _ _ _) c.in_err-token.ensures (prefix w (omega arith)) (omega arith)))

@@ -7,16 +7,16 @@ use Rattle.cycle.proofs.PathsControl.{value_looks, value_none, value_some}
 use Rattle.cycle.proofs.+reading.Goals as goal
 
 pub val-emit-requires : goal.val-emit-requires
-val-emit-requires t c = let tk = taken c.in_ok-look.ensures in
+val-emit-requires t c = let tk = taken c.in_ok-token.ensures in
     omega (arith, c.requires, tk)
 
 pub val-returns-then-ends_control : goal.val-returns-then-ends_control
-val-returns-then-ends_control t c = let tk = taken c.in_ok-look.ensures in
+val-returns-then-ends_control t c = let tk = taken c.in_ok-token.ensures in
     record { how = made_none 0 c.emit.ensures (way _ (value_none _ _ tk (sym c.ends_control.ensures ∙ c.if-ends_control.true))) (omega arith) (omega arith) refl }
 
 pub val-returns-else-ends_control : goal.val-returns-else-ends_control
-val-returns-else-ends_control t c = let tk = taken c.in_ok-look.ensures in
+val-returns-else-ends_control t c = let tk = taken c.in_ok-token.ensures in
     later (value_some _ _ tk (sym c.ends_control.ensures ∙ c.if-ends_control.false)) c.expr.ensures (omega arith) (omega arith) (omega arith)
 
-pub val-returns-in_err-look : goal.val-returns-in_err-look
-val-returns-in_err-look t c = rw (handed c.from_residual-in_err-look.ensures.1) (did_not (fails_unseen here (value_looks _ _ _) c.in_err-look.ensures refl (omega arith)))
+pub val-returns-in_err-token : goal.val-returns-in_err-token
+val-returns-in_err-token t c = rw (handed c.from_residual-in_err-token.ensures.1) (did_not (fails_unseen here (value_looks _ _ _) c.in_err-token.ensures refl (omega arith)))
