@@ -21,7 +21,7 @@ use Rattle.grammar.specs.declared.Answer.TheVariants.{Tree as ATree, Error as AE
 use Rattle.grammar.specs.declared.Reader.{Reader}
 use Rattle.grammar.specs.declared.Stepped.{Stepped}
 use Rattle.scan.specs.declared.Failure.{Failure}
-use Rattle.scan.specs.Post.{won, lost, halt, out, As, clean, Lost, Wrote}
+use Rattle.scan.specs.Post.{Out, won, lost, halt, out, As, clean, Lost, Wrote}
 use Rattle.scan.proofs.Laws.{kept_won, kept_lost}
 use Rattle.scan.proofs.Waiting.{chosen, other}
 
@@ -182,28 +182,34 @@ even_next T i = next_keeps Even (λ w v r h. omega arith) depth_limit [] T i
 place : (T : List ℕ) (x p : ℕ) → Even T → Even (drop p T) → p ≤ length T → x + length T / 2 - length (drop p T) / 2 ≡ x + p / 2
 place T x p h g l = let k = length-drop p T in omega arith
 
-module _ (T : List ℕ) (x m : ℕ) (even : Even T) where
+module _ (T : List ℕ) (x m : ℕ) (even : Even T) {Q : List ℕ} (empty : Q ≡ []) where
   abbrev comes : Called
   comes = called (x + length T / 2) m x (next depth_limit [] T)
 
-  pub halt_out : {k : ℕ} {s : Stepped} (S S' : List ℕ) → As [] (next depth_limit [] T) [] (stop k) → S' ≡ take 0 S ++ replicate (length S - 0) 0 → length S ≡ m → s ≡ (halted 0 x k).step → leaves s S' ≡ comes
-  halt_out S S' a e l i = bare_out S S' m e l i (called_halt (x + length T / 2) m x (next depth_limit [] T) a.is)
+  -- as it was told from a queue that is empty
+  from_empty : {o : Out Tree} → out Q (next depth_limit [] T) ≡ o → out [] (next depth_limit [] T) ≡ o
+  from_empty e = rw (← empty) e
 
-  pub lost_out : {f : Failure} {S Q S₁ Q₁ : List ℕ} {a : Answer} {s : Stepped} (S' : List ℕ) → Lost (next depth_limit [] T) T 0 0 0 S Q f S₁ Q₁ → S' ≡ take 0 S₁ ++ replicate (length S₁ - 0) 0 → length S₁ ≡ m → a ≡ error_answer f.error → s ≡ stands a (x + f.pos / 2) Q₁ → leaves s S' ≡ comes
+  pub halt_out : {k : ℕ} {s : Stepped} (S S' : List ℕ) → As Q (next depth_limit [] T) [] (stop k) → S' ≡ take 0 S ++ replicate (length S - 0) 0 → length S ≡ m → s ≡ (halted 0 x k).step → leaves s S' ≡ comes
+  halt_out S S' a e l i = bare_out S S' m e l i (called_halt (x + length T / 2) m x (next depth_limit [] T) (from_empty a.is))
+
+  pub lost_out : {f : Failure} {S S₁ Q₁ : List ℕ} {a : Answer} {s : Stepped} (S' : List ℕ) → Lost (next depth_limit [] T) T 0 0 0 S Q f S₁ Q₁ → S' ≡ take 0 S₁ ++ replicate (length S₁ - 0) 0 → length S₁ ≡ m → a ≡ error_answer f.error → s ≡ stands a (x + f.pos / 2) Q₁ → leaves s S' ≡ comes
   lost_out {f} {S₁ = S₁} {Q₁ = Q₁} {a = a} S' l c k n i =
       let d = next depth_limit [] T in
+      let o = from_empty l.same.is in
       let y : comes ≡ bare m (error_answer f.error) (reader_at (x + f.pos / 2) Q₁) =
-      called_lost (x + length T / 2) m x d l.same.is ∙ ap (λ (j : ℕ). bare m (error_answer f.error) (reader_at j Q₁)) (place T x f.pos even (kept_lost [] (even_next T even) l.same.is) l.moved.within) in
+      called_lost (x + length T / 2) m x d o ∙ ap (λ (j : ℕ). bare m (error_answer f.error) (reader_at j Q₁)) (place T x f.pos even (kept_lost [] (even_next T even) o) l.moved.within) in
       bare_out S₁ S' m c k (i ∙ ap (λ (b : Answer). stands b (x + f.pos / 2) Q₁) n) y
 
-  pub tree_out : {p a : ℕ} {S Q S₁ Q₁ : List ℕ} {s : Stepped} (S' : List ℕ) → (g : Wrote records (next depth_limit [] T) clean T 0 0 8 0 S Q p a S₁ Q₁) → S' ≡ take a S₁ ++ replicate (length S₁ - a) 0 → length S₁ ≡ m → a ≤ m → s ≡ stands (ATree (a / 2)) (x + p / 2) Q₁ → leaves s S' ≡ comes
+  pub tree_out : {p a : ℕ} {S S₁ Q₁ : List ℕ} {s : Stepped} (S' : List ℕ) → (g : Wrote records (next depth_limit [] T) clean T 0 0 8 0 S Q p a S₁ Q₁) → S' ≡ take a S₁ ++ replicate (length S₁ - a) 0 → length S₁ ≡ m → a ≤ m → s ≡ stands (ATree (a / 2)) (x + p / 2) Q₁ → leaves s S' ≡ comes
   tree_out {p} {a} {S₁ = S₁} {Q₁ = Q₁} {s = s} S' g c k h i =
       let d = next depth_limit [] T in
+      let o = from_empty g.same.is in
       let t : List ℕ = records g.what in
       let b : take a S₁ ≡ t = g.text in
       let long : a ≡ length t = sym (length-take-le a S₁ (omega arith)) ∙ ap length b in
       let y : comes ≡ leaves (stands (ATree (length t / 2)) (x + p / 2) Q₁) (t ++ replicate (m - length t) 0) =
-      called_won (x + length T / 2) m x d g.same.is ∙ ap (λ (j : ℕ). tree_called m j t Q₁) (place T x p even (kept_won [] (even_next T even) g.same.is) g.moved.within) in
+      called_won (x + length T / 2) m x d o ∙ ap (λ (j : ℕ). tree_called m j t Q₁) (place T x p even (kept_won [] (even_next T even) o) g.moved.within) in
       ap (λ (l : List ℕ). leaves s l) (c ∙ ap (λ (l : List ℕ). l ++ replicate (length S₁ - a) 0) b ∙ ap (λ (j : ℕ). t ++ replicate (j - a) 0) k)
       ∙ ap (λ (r : Stepped). leaves r (t ++ replicate (m - a) 0)) i
       ∙ ap (λ (j : ℕ). leaves (stands (ATree (j / 2)) (x + p / 2) Q₁) (t ++ replicate (m - j) 0)) long

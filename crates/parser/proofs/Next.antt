@@ -15,8 +15,9 @@ use Rattle.grammar.specs.Reading.Next.{start, front, failed, next}
 use Rattle.scan.specs.Post.{As, Agrees}
 use Rattle.std.proofs.Common.{Ok, Err}
 use Rattle.scan.specs.declared.Cursor.{Cursor}
+use Rattle.scan.specs.declared.Halt.{Halt}
 use Rattle.scan.specs.declared.Halt.TheVariants.{Stop}
-use Rattle.scan.proofs.Laws.{way, link, wins, halts, lose_as}
+use Rattle.scan.proofs.Laws.{way, link, wins, undone, did_not, stops, lose_as}
 use Rattle.scan.proofs.Waiting.{push_full, pushes}
 
 -- what follows the separators
@@ -27,17 +28,21 @@ pub next_step : (d : ℕ) (q : List Error) (ts : List ℕ) → next d q ts ≡ t
 unfolding next
 next_step d q ts = refl
 
+-- what waits is none
+pub opens : (d : ℕ) (T : List ℕ) {Q : List ℕ} → Q ≡ [] → As Q (next d [] T) Q (then Q (start (length T) Q T) (next_go d))
+opens d T e = rw e (way [] (next_step d [] T))
+
 -- a statement that was read, or a stop
-module _ {D d : Res Tree} (or : ℕ → List Error → List ℕ → Res Tree) {T : List ℕ} {p : ℕ} {S Q S' Q' : List ℕ} (x : As [] D [] (either [] d (λ t q s. ok t s) or)) where
-  pub ended : {c : Cursor} → Q ≡ [] → Agrees records d T p (p + 2) 14 0 S Q S' Q' (Ok c) → Agrees records D T 0 0 8 0 S Q S' Q' (Ok c)
-  ended e h =
+module _ {D d : Res Tree} (or : ℕ → List Error → List ℕ → Res Tree) {T : List ℕ} {p : ℕ} {S Q S' Q' : List ℕ} (x : As Q D Q (either Q d (λ t q s. ok t s) or)) where
+  pub ended : {c : Cursor} → Agrees records d T p (p + 2) 14 0 S Q S' Q' (Ok c) → Agrees records D T 0 0 8 0 S Q S' Q' (Ok c)
+  ended h =
       let u = h.how in
       let m = u.moved in
       let k = u.room in
-      record { how = record { what = u.what; same = rw e (wins _ or x (rw e at u.same)); moved = omega arith; room = omega arith; text = u.text } }
+      record { how = record { what = u.what; same = wins _ or x u.same; moved = omega arith; room = omega arith; text = u.text } }
 
-  pub halted : {n : ℕ} → Q ≡ [] → Agrees records d T p (p + 2) 14 0 S Q S' Q' (Err (Stop n)) → Agrees records D T 0 0 8 0 S Q S' Q' (Err (Stop n))
-  halted e h = record { how = record { how = rw e (halts _ or x (rw e at h.how.how)) } }
+  pub halted : {n : ℕ} {h : Halt} → h ≡ Stop n → Agrees records d T p (p + 2) 14 0 S Q S' Q' (Err h) → Agrees records D T 0 0 8 0 S Q S' Q' (Err (Stop n))
+  halted e f = did_not (stops _ or e x (undone f))
 
 pub failed_full : (d e : ℕ) (Q ts : List ℕ) → eqb (length Q) queue_limit ≡ true → failed d e Q ts ≡ stop queue_full
 unfolding failed

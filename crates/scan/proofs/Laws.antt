@@ -158,10 +158,13 @@ module _ {A : Type 0} {d : Res A} {T : List ℕ} {pos least at : ℕ} {S Q S' Q'
   pub missed : {f : Failure} {h : Halt} → h ≡ Fail f → Failed d T pos least at S Q S' Q' h → Lost d T pos least at S Q f S' Q'
   missed e g = rw e at g.how
 
+  pub halted_at : {n : ℕ} {h : Halt} → h ≡ Stop n → Failed d T pos least at S Q S' Q' h → As Q d [] (stop n)
+  halted_at e g = rw e at g.how
+
 module _ {A B : Type 0} {D : Res B} {d : Res A} {T : List ℕ} {pos least at : ℕ} {S Q : List ℕ} {pos₁ least₁ at₁ : ℕ} {S₁ Q₁ S' Q' : List ℕ} (go : A → List Error → List ℕ → Res B) (or : ℕ → List Error → List ℕ → Res B) where
   -- D goes on from d, by `go` or `or`, and d stopped
-  pub stops : {n : ℕ} → As Q D Q₁ (either Q₁ d go or) → Failed d T pos₁ least₁ at₁ S₁ Q₁ S' Q' (Stop n) → Failed D T pos least at S Q S' Q' (Stop n)
-  stops a f = record { how = halts go or a f.how }
+  pub stops : {n : ℕ} {h : Halt} → h ≡ Stop n → As Q D Q₁ (either Q₁ d go or) → Failed d T pos₁ least₁ at₁ S₁ Q₁ S' Q' h → Failed D T pos least at S Q S' Q' (Stop n)
+  stops e a f = record { how = halts go or a (halted_at e f) }
 
 -- what has no store fails with any
 pub elsewhere : {A : Type 0} {d : Res A} {T : List ℕ} {pos least at : ℕ} {Q Q' : List ℕ} {h : Halt} (S : List ℕ) → Failed d T pos least 0 [] Q [] Q' h → Failed d T pos least at S Q S Q' h

@@ -37,8 +37,8 @@ unfolding pop
 pops q r x = rw x
 
 -- one more waits after a push, one fewer after the front was taken
-pub longer : (q : List ℕ) (e : ℕ) {q' : List ℕ} → q' ≡ q ++ e ∷ [] → length q ≤ length q'
-longer q e x = rw (x, length-append) (omega arith)
+pub longer : (q : List ℕ) (e : ℕ) {q' : List ℕ} → q' ≡ q ++ e ∷ [] → length q' ≡ length q + 1
+longer q e x = rw (x, length-append)
 
 pub fewer : {e : ℕ} {q q' : List ℕ} → q ≡ e ∷ q' → length q' + 1 ≡ length q
 fewer x = rw x (omega arith)

@@ -3,7 +3,7 @@ use mathlib.Core.Path.{refl, sym, ◌∙◌}
 use native.Mathlib.Omega.{arith}
 use borrow.Author.Tests.{eqb-false}
 use lib.ListN.{drop}
-use Rattle.scan.proofs.Laws.{ends, goes, fails}
+use Rattle.scan.proofs.Laws.{ends, goes, fails, prefix}
 use Rattle.scan.proofs.Waiting.{longer, fewer}
 use Rattle.grammar.specs.Reading.Limit.{depth_limit}
 use Rattle.parser.proofs.Next.{failed_full, failed_step}
@@ -19,16 +19,19 @@ push-requires c =
     omega arith
 
 pub pop-error-requires : goal.pop-error-requires
-pop-error-requires c = let more = longer _ _ c.push.ensures in ?
+pop-error-requires c = let more = longer _ _ c.push.ensures in omega arith
 
 pub returns-in-Ok : goal.returns-in-Ok
 returns-in-Ok c =
     let more = longer _ _ c.push.ensures in
+    let less = fewer c.pop-error.ensures in
     let path = failed_step depth_limit c.args.f.error c.args.queue.now (drop c.args.f.pos c.args.tokens.now) (sym c.is_full.ensures.full ∙ c.if-is_full.false) c.push.ensures c.pop-error.ensures in
     let y1 = c.in-Ok.ensures.how in
-    record { how = record { same = goes _ path y1.same; moved = omega (arith, y1.moved, more); far = omega (arith, y1.moved); text = ? } }
+    record { how = record { same = goes _ path y1.same; moved = omega (arith, y1.moved, more, less); far = omega (arith, y1.moved); text = refl } }
 
 pub returns-in-Err : goal.returns-in-Err
 returns-in-Err c =
+    let more = longer _ _ c.push.ensures in
+    let less = fewer c.pop-error.ensures in
     let path = failed_step depth_limit c.args.f.error c.args.queue.now (drop c.args.f.pos c.args.tokens.now) (sym c.is_full.ensures.full ∙ c.if-is_full.false) c.push.ensures c.pop-error.ensures in
-    fails _ path c.in-Err.ensures.how refl ?
+    fails _ path c.in-Err.ensures.how refl (omega (arith, more, less))

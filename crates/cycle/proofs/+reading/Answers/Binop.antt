@@ -13,12 +13,12 @@ pub binop-returns-then-level-eq-PRECEDENCE_END : goal.binop-returns-then-level-e
 binop-returns-then-level-eq-PRECEDENCE_END t c = as_agrees (binop_unary _ _ _ _ c.if-level-eq-PRECEDENCE_END.true) c.unop.ensures
 
 pub binop-returns-in_err-left : goal.binop-returns-in_err-left
-binop-returns-in_err-left t c = rw (handed c.from_residual-in_err-left.ensures.1) (did_not (fails _ (way _ (binop_step _ _ _ _ c.if-level-eq-PRECEDENCE_END.false)) (undone c.in_err-left.ensures) refl (omega arith)))
+binop-returns-in_err-left t c = rw (handed c.from_residual.ensures.1) (did_not (fails _ (way _ (binop_step _ _ _ _ c.if-level-eq-PRECEDENCE_END.false)) (undone c.in_err-left.ensures) refl (omega arith)))
 
 pub binop-loop-token-init : goal.binop-loop-token-init
 binop-loop-token-init t c = let f = done c.in_ok-left.ensures in
     record {
-      fuel = length (drop c.in-Done.p0 c.args.tokens.now);
+      fuel = length (drop c.in_ok-left.left.pos c.args.tokens.now);
       enough = rw length-drop (omega arith);
       run = λ t x. record { what = t; same = here; moved = omega arith; room = f.room; text = x };
       kept = refl;
@@ -46,16 +46,8 @@ binop-returns-then-level-l t c = let f = done c.in_ok-left.ensures in
     let tk = taken c.in_ok-token.ensures in
     record { how = home path (prefix f (omega arith)) f.moved.more (relabel g g.what refl (link g.same (way _ (climb_ends _ _ g.what _ i.fuel _ i.enough tk c.op_level-l.ensures (λ h. c.if-level-l.true)))) g.moved g.room) }
 
-pub binop-overflow_sub-l : goal.binop-overflow_sub-l
-binop-overflow_sub-l t c = let n = c.if-l-eq0.false in
-    omega arith
-
-pub binop-overflow_add-p : goal.binop-overflow_add-p
-binop-overflow_add-p t c = let tk = taken c.in_ok-token.ensures in
-    omega arith
-
-pub binop-binop-right-requires : goal.binop-binop-right-requires
-binop-binop-right-requires t c = let f = done c.in_ok-left.ensures in
+pub binop-binop-requires : goal.binop-binop-requires
+binop-binop-requires t c = let f = done c.in_ok-left.ensures in
     let i = c.loop-token.invariant in
     let g = i.run f.what (rebased f (omega (arith, c.requires))) in
     let tk = taken c.in_ok-token.ensures in
@@ -63,25 +55,20 @@ binop-binop-right-requires t c = let f = done c.in_ok-left.ensures in
     let m = c.if-level-l.false in
     omega (arith, c.requires)
 
-pub binop-emit-a-requires : goal.binop-emit-a-requires
-binop-emit-a-requires t c = let f = done c.in_ok-left.ensures in
+pub binop-emit-requires : goal.binop-emit-requires
+binop-emit-requires t c = let f = done c.in_ok-left.ensures in
     let i = c.loop-token.invariant in
     let g = i.run f.what (rebased f (omega (arith, c.requires))) in
     let tk = taken c.in_ok-token.ensures in
     let w = done c.in_ok-right.ensures in
-    omega (arith, c.requires, c.unop-left.auto.store, f.moved, f.room, g.moved, g.room, i.kept, tk.within, w.moved, w.room, c.binop-right.auto.store)
-
-pub binop-loop-token-smaller : goal.binop-loop-token-smaller
-binop-loop-token-smaller t c = let tk = taken c.in_ok-token.ensures in
-    let w = done c.in_ok-right.ensures in
-    omega arith
+    omega (arith, c.requires, c.unop-2.auto.store, f.moved, f.room, g.moved, g.room, i.kept, tk.within, w.moved, w.room, c.binop.auto.store)
 
 pub binop-loop-token-preserved : goal.binop-loop-token-preserved
 binop-loop-token-preserved t c = let f = done c.in_ok-left.ensures in
     let i = c.loop-token.invariant in
     let tk = taken c.in_ok-token.ensures in
     let w = done c.in_ok-right.ensures in
-    let e = c.emit-a.ensures in
+    let e = c.emit.ensures in
     record {
       fuel = i.fuel - 1;
       enough = omega arith;
@@ -96,7 +83,7 @@ binop-returns-in_err-right t c = let f = done c.in_ok-left.ensures in
     let g = i.run f.what (rebased f (omega (arith, c.requires))) in
     let tk = taken c.in_ok-token.ensures in
     let on = link g.same (way _ (climb_takes _ _ g.what _ i.fuel _ i.enough tk c.op_level-l.ensures c.if-l-eq0.false c.if-level-l.false (refl))) in
-    rw (handed c.from_residual-in_err-right.ensures.1) (did_not (fails _ (link path on) (undone c.in_err-right.ensures) (prefix g (omega (arith, c.requires, c.unop-left.auto.store, f.moved, f.room, g.moved, g.room, tk.within)) ∙ prefix f (omega (arith, c.requires, c.unop-left.auto.store, f.moved, f.room, g.moved, g.room, tk.within))) (omega (arith, c.requires, c.unop-left.auto.store, f.moved, f.room, g.moved, g.room, tk.within))))
+    rw (handed c.from_residual-in_err-right.ensures.1) (did_not (fails _ (link path on) (undone c.in_err-right.ensures) (prefix g (omega (arith, c.requires, c.unop-2.auto.store, f.moved, f.room, g.moved, g.room, tk.within)) ∙ prefix f (omega (arith, c.requires, c.unop-2.auto.store, f.moved, f.room, g.moved, g.room, tk.within))) (omega (arith, c.requires, c.unop-2.auto.store, f.moved, f.room, g.moved, g.room, tk.within))))
 
 pub binop-returns-in_err-token : goal.binop-returns-in_err-token
 binop-returns-in_err-token t c = let f = done c.in_ok-left.ensures in

@@ -1,10 +1,11 @@
 -- What is left to show of `cycle::body` in its cycle of calls. Assumes nothing.
 use native.Mathlib.Omega.{arith}
-use Rattle.cycle.proofs.PathsBody.{within_of, passes_lists}
+use Rattle.scan.proofs.Laws.{handed}
+use Rattle.cycle.proofs.PathsBody.{within_of, passes_lists, no_list}
 use Rattle.cycle.proofs.+reading.Goals as goal
 
-pub body-past-requires : goal.body-past-requires
-body-past-requires t c = within_of _ c.list-statements.ensures
+pub body-returns-in_err-statements : goal.body-returns-in_err-statements
+body-returns-in_err-statements t c = rw (handed c.from_residual.ensures.1) (no_list _ (omega arith) c.in_err-statements.ensures)
 
 pub body-returns : goal.body-returns
-body-returns t c = passes_lists _ (omega arith) _ _ c.list-statements.ensures c.past.ensures
+body-returns t c = passes_lists _ (omega arith) _ _ c.in_ok-statements.ensures c.past.ensures

@@ -10,14 +10,6 @@ use Rattle.cycle.proofs.Shapes.{given, expr_shape}
 use Rattle.cycle.proofs.Writing.{taller, made_added}
 use Rattle.cycle.proofs.+reading.Goals as goal
 
-pub call-overflow_add-result : goal.call-overflow_add-result
-call-overflow_add-result t c = let tk = taken c.in_ok-token.ensures in
-    omega arith
-
-pub call-bare_call-requires : goal.call-bare_call-requires
-call-bare_call-requires t c = let tk = taken c.in_ok-token.ensures in
-    omega arith
-
 pub call-returns-then-token-eq-CLOSE_PAREN : goal.call-returns-then-token-eq-CLOSE_PAREN
 call-returns-then-token-eq-CLOSE_PAREN t c = let tk = taken c.in_ok-token.ensures in
     let e = c.bare_call.ensures in
@@ -27,10 +19,6 @@ pub call-returns-in_err-inner : goal.call-returns-in_err-inner
 call-returns-in_err-inner t c = let tk = taken c.in_ok-token.ensures in
     let path = way _ (call_more _ _ tk c.if-token-eq-CLOSE_PAREN.false) in
     rw (handed c.from_residual-in_err-inner.ensures.1) (did_not (fails _ path (undone c.in_err-inner.ensures) refl (omega arith)))
-
-pub call-expect-pos-requires : goal.call-expect-pos-requires
-call-expect-pos-requires t c = let w = done c.in_ok-inner.ensures in
-    w.moved.within
 
 pub call-returns-in_err-pos : goal.call-returns-in_err-pos
 call-returns-in_err-pos t c = let tk = taken c.in_ok-token.ensures in
@@ -46,10 +34,10 @@ call-call_end-requires t c = let tk = taken c.in_ok-token.ensures in
     let yo = y.on in
     let yw = y.within in
     let h = taller w (omega (arith, c.requires)) in
-    omega (arith, c.requires, h, w.moved, w.room, yo, yw, c.expr-inner.auto.store)
+    omega (arith, c.requires, h, w.moved, w.room, yo, yw, c.expr.auto.store)
 
-pub call-returns-in-Done-s : goal.call-returns-in-Done-s
-call-returns-in-Done-s t c = let tk = taken c.in_ok-token.ensures in
+pub call-returns : goal.call-returns
+call-returns t c = let tk = taken c.in_ok-token.ensures in
     let path = way _ (call_more _ _ tk c.if-token-eq-CLOSE_PAREN.false) in
     let w = done c.in_ok-inner.ensures in
     let s1 = goes _ path w.same in
@@ -60,4 +48,4 @@ call-returns-in-Done-s t c = let tk = taken c.in_ok-token.ensures in
     record { how = remade w e (given (expr_shape _ _ _) w.same) (gets _ y s1) (omega (arith, c.requires, w.moved, yo, yw)) (omega (arith, c.requires, w.moved, w.room, yo, yw, e.up, e.far)) }
 
 pub call-returns-in_err-token : goal.call-returns-in_err-token
-call-returns-in_err-token t c = rw (handed c.from_residual-in_err-token.ensures.1) (did_not (fails_unseen here (call_looks _ _ _) c.in_err-token.ensures refl (omega arith)))
+call-returns-in_err-token t c = rw (handed c.from_residual.ensures.1) (did_not (fails_unseen here (call_looks _ _ _) c.in_err-token.ensures refl (omega arith)))

@@ -9,11 +9,7 @@ use Rattle.cycle.proofs.+reading.Goals as goal
 
 pub dest-returns-in_err-receiver : goal.dest-returns-in_err-receiver
 dest-returns-in_err-receiver t c = let path = way _ (target_step _ _ _) in
-    rw (handed c.from_residual-in_err-receiver.ensures.1) (did_not (fails _ path (undone c.in_err-receiver.ensures) refl (omega (arith, c.requires))))
-
-pub dest-path-target-requires : goal.dest-path-target-requires
-dest-path-target-requires t c = let g = done c.in_ok-receiver.ensures in
-    omega arith
+    rw (handed c.from_residual.ensures.1) (did_not (fails _ path (undone c.in_err-receiver.ensures) refl (omega (arith, c.requires))))
 
 pub dest-returns-in_err-target : goal.dest-returns-in_err-target
 dest-returns-in_err-target t c = let g = done c.in_ok-receiver.ensures in

@@ -10,14 +10,6 @@ use Rattle.cycle.proofs.Writing.{written, taller}
 use Rattle.grammar.proofs.Laws.Levels.Nonterminals.{depth_levels, primary_leveled}
 use Rattle.cycle.proofs.+reading.Goals as goal
 
-pub dots-overflow_add-result : goal.dots-overflow_add-result
-dots-overflow_add-result t c = let tk = taken c.in_ok-token.ensures in
-    omega arith
-
-pub dots-lone_unpack-requires : goal.dots-lone_unpack-requires
-dots-lone_unpack-requires t c = let tk = taken c.in_ok-token.ensures in
-    omega arith
-
 pub dots-returns-then-token-eq-ELLIPSIS : goal.dots-returns-then-token-eq-ELLIPSIS
 dots-returns-then-token-eq-ELLIPSIS t c = let tk = taken c.in_ok-token.ensures in
     let e = c.lone_unpack.ensures in
@@ -28,42 +20,34 @@ dots-returns-in_err-operand t c = let tk = taken c.in_ok-token.ensures in
     let path = way _ (unpack_some _ _ tk c.if-token-eq-ELLIPSIS.false) in
     rw (handed c.from_residual-in_err-operand.ensures.1) (did_not (fails _ path (undone c.in_err-operand.ensures) refl (omega arith)))
 
-pub dots-look-requires-in-Token : goal.dots-look-requires-in-Token
-dots-look-requires-in-Token t c = let w = done c.in_ok-operand.ensures in
-    w.moved.within
-
-pub dots-overflow_add-p : goal.dots-overflow_add-p
-dots-overflow_add-p t c = let tk2 = taken c.in-Token-look.is c.look-in-Token.ensures in
-    omega arith
-
 pub dots-unpack_end-requires : goal.dots-unpack_end-requires
 dots-unpack_end-requires t c = let w = done c.in_ok-operand.ensures in
-    let tk2 = taken c.in-Token-look.is c.look-in-Token.ensures in
+    let tk2 = taken c.in_ok-other.ensures in
     let l = taller w (omega (arith, c.requires)) in
-    (omega arith, omega (arith, c.requires, w.moved, w.room, tk2.within, c.prim-operand.auto.store))
+    (omega arith, omega (arith, c.requires, w.moved, w.room, tk2.within, c.prim.auto.store))
 
-pub dots-returns-then-next-eq-ELLIPSIS : goal.dots-returns-then-next-eq-ELLIPSIS
-dots-returns-then-next-eq-ELLIPSIS t c = let tk = taken c.in_ok-token.ensures in
+pub dots-returns-then-other-eq-ELLIPSIS : goal.dots-returns-then-other-eq-ELLIPSIS
+dots-returns-then-other-eq-ELLIPSIS t c = let tk = taken c.in_ok-token.ensures in
     let path = way _ (unpack_some _ _ tk c.if-token-eq-ELLIPSIS.false) in
     let w = done c.in_ok-operand.ensures in
     let on = goes _ path w.same in
-    let tk2 = taken c.in-Token-look.is c.look-in-Token.ensures in
-    written (c.unpack_end.ensures (take c.args.cursor.at c.args.store.now) w.what c.args.tokens.now (given (primary_leveled _ (depth_levels c.args.depth) _ _) w.same).leveled.small w.text tk2.within) refl (link on (way _ (dots_more _ _ tk2 c.if-next-eq-ELLIPSIS.true))) (prefix w (omega (arith, c.requires))) (omega (arith, c.requires, w.moved, w.room, tk2.within))
+    let tk2 = taken c.in_ok-other.ensures in
+    written (c.unpack_end.ensures (take c.args.cursor.at c.args.store.now) w.what c.args.tokens.now (given (primary_leveled _ (depth_levels c.args.depth) _ _) w.same).leveled.small w.text tk2.within) refl (link on (way _ (dots_more _ _ tk2 c.if-other-eq-ELLIPSIS.true))) (prefix w (omega (arith, c.requires))) (omega (arith, c.requires, w.moved, w.room, tk2.within))
 
-pub dots-returns-else-next-eq-ELLIPSIS : goal.dots-returns-else-next-eq-ELLIPSIS
-dots-returns-else-next-eq-ELLIPSIS t c = let tk = taken c.in_ok-token.ensures in
+pub dots-returns : goal.dots-returns
+dots-returns t c = let tk = taken c.in_ok-token.ensures in
     let path = way _ (unpack_some _ _ tk c.if-token-eq-ELLIPSIS.false) in
     let w = done c.in_ok-operand.ensures in
     let on = goes _ path w.same in
-    let tk2 = taken c.in-Token-look.is c.look-in-Token.ensures in
-    record { how = relabel w w.what refl (link on (way _ (dots_none _ _ tk2 c.if-next-eq-ELLIPSIS.false))) w.moved w.room }
+    let tk2 = taken c.in_ok-other.ensures in
+    record { how = relabel w w.what refl (link on (way _ (dots_none _ _ tk2 c.if-other-eq-ELLIPSIS.false))) w.moved w.room }
 
-pub dots-returns-in_err-token-look : goal.dots-returns-in_err-token-look
-dots-returns-in_err-token-look t c = let tk = taken c.in_ok-token.ensures in
+pub dots-returns-in_err-other : goal.dots-returns-in_err-other
+dots-returns-in_err-other t c = let tk = taken c.in_ok-token.ensures in
     let path = way _ (unpack_some _ _ tk c.if-token-eq-ELLIPSIS.false) in
     let w = done c.in_ok-operand.ensures in
     let on = goes _ path w.same in
-    rw (handed c.from_residual-in_err-token-look.ensures.1) (did_not (fails_unseen on (dots_looks w.what _ _) c.in_err-token.ensures (prefix w (omega arith)) (omega arith)))
+    rw (handed c.from_residual-in_err-other.ensures.1) (did_not (fails_unseen on (dots_looks w.what _ _) c.in_err-other.ensures (prefix w (omega arith)) (omega arith)))
 
 pub dots-returns-in_err-token : goal.dots-returns-in_err-token
-dots-returns-in_err-token t c = rw (handed c.from_residual-in_err-token.ensures.1) (did_not (fails_unseen here (unpack_looks _ _ _) c.in_err-token.ensures refl (omega arith)))
+dots-returns-in_err-token t c = rw (handed c.from_residual.ensures.1) (did_not (fails_unseen here (unpack_looks _ _ _) c.in_err-token.ensures refl (omega arith)))

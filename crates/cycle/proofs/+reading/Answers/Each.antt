@@ -11,25 +11,13 @@ use Rattle.cycle.proofs.+reading.Goals as goal
 
 pub each-returns-in_err-left : goal.each-returns-in_err-left
 each-returns-in_err-left t c = let path = way _ (for_step _ _ _ _) in
-    rw (handed c.from_residual-in_err-left.ensures.1) (did_not (fails _ path (undone c.in_err-left.ensures) refl (omega arith)))
-
-pub each-expect-pos-requires : goal.each-expect-pos-requires
-each-expect-pos-requires t c = let w = done c.in_ok-left.ensures in
-    w.moved.within
+    rw (handed c.from_residual.ensures.1) (did_not (fails _ path (undone c.in_err-left.ensures) refl (omega arith)))
 
 pub each-returns-in_err-pos : goal.each-returns-in_err-pos
 each-returns-in_err-pos t c = let w = done c.in_ok-left.ensures in
     let path = way _ (for_step _ _ _ _) in
     let on = goes _ path w.same in
     rw (handed c.from_residual-in_err-pos.ensures.1) (did_not (lacks _ (unpassed c.in_err-pos.ensures) on (prefix w (omega arith)) (omega arith)))
-
-pub each-whiles-requires : goal.each-whiles-requires
-each-whiles-requires t c = let w = done c.in_ok-left.ensures in
-    let ps = passed c.in_ok-pos.ensures in
-    let g = ps in
-    let gon = g.on in
-    let gwithin = g.within in
-    omega arith
 
 pub each-returns : goal.each-returns
 each-returns t c =

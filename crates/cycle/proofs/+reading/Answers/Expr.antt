@@ -9,7 +9,7 @@ use lib.ListN.{take}
 use Rattle.tree.specs.Tree.{two, count, records}
 use Rattle.grammar.specs.Reading.Look.{action}
 use Rattle.grammar.specs.Reading.Depth.{at_depth}
-use Rattle.scan.specs.Parts.{unassigned_step}
+use Rattle.scan.specs.Parts.{unassigned_result}
 use Rattle.scan.proofs.Laws.{handed, way, link, goes, done, undone, did_not, taken, fails, lacks, fails_unseen, found, unfound, gets, prefix, relabel}
 use Rattle.cycle.proofs.PathsExpr.{expr_step, expr_plain, expr_alone, expr_assign}
 use Rattle.cycle.proofs.Shapes.{given, shape_small, tuple_shape}
@@ -20,12 +20,6 @@ action_le : (m : ℕ) → action m ≤ m
 action_le zero = omega arith
 action_le (suc m) = omega arith
 
-pub expr-tuple-left-requires : goal.expr-tuple-left-requires
-expr-tuple-left-requires t c = let x = found c.in_ok-keyword.ensures in
-    let xo = x.got.on in
-    let xw = x.got.within in
-    omega arith
-
 pub expr-returns-in_err-left : goal.expr-returns-in_err-left
 expr-returns-in_err-left t c = let x = found c.in_ok-keyword.ensures in
     let xo = x.got.on in
@@ -33,12 +27,8 @@ expr-returns-in_err-left t c = let x = found c.in_ok-keyword.ensures in
     let s0 = told _ x (way _ (expr_step _ _ _)) in
     rw (handed c.from_residual-in_err-left.ensures.1) (did_not (fails _ s0 (undone c.in_err-left.ensures) refl (omega arith)))
 
-pub expr-look-requires : goal.expr-look-requires
-expr-look-requires t c = let w = done c.in_ok-left.ensures in
-    w.moved.within
-
 pub expr-returns-then-code-eq0 : goal.expr-returns-then-code-eq0
-unfolding unassigned_step
+unfolding unassigned_result
 expr-returns-then-code-eq0 t c = let x = found c.in_ok-keyword.ensures in
     let xo = x.got.on in
     let xw = x.got.within in
@@ -51,18 +41,14 @@ expr-returns-then-code-eq0 t c = let x = found c.in_ok-keyword.ensures in
     (λ e. record { how = record { how = record { same = link s1 (way _ (expr_alone (at_depth c.args.depth) c.in_ok-keyword.keyword.number w.what _ tk c.assign_code-code.ensures.0 c.if-code-eq0.true (eqb-false _ _ e))); moved = omega (arith, c.requires, w.moved, xo); far = omega (arith, c.requires, w.moved, xo); text = prefix w (omega (arith, c.requires)) } } })
     c.unassigned.ensures
 
-pub expr-overflow_add-p1 : goal.expr-overflow_add-p1
-expr-overflow_add-p1 t c = let tk = taken c.in_ok-token.ensures in
-    omega arith
-
-pub expr-expect_pattern-target-requires : goal.expr-expect_pattern-target-requires
-expr-expect_pattern-target-requires t c = let x = found c.in_ok-keyword.ensures in
+pub expr-expect_pattern-requires : goal.expr-expect_pattern-requires
+expr-expect_pattern-requires t c = let x = found c.in_ok-keyword.ensures in
     let xo = x.got.on in
     let xw = x.got.within in
     let w = done c.in_ok-left.ensures in
     let tk = taken c.in_ok-token.ensures in
     let small = shape_small (given (tuple_shape _ _ _) w.same) in
-    record { tree = w.what; whole = stands w small (omega (arith, c.requires)) (omega (arith, c.requires, w.moved, w.room, xo, xw, c.tuple-left.auto.store)) }
+    record { tree = w.what; whole = stands w small (omega (arith, c.requires)) (omega (arith, c.requires, w.moved, w.room, xo, xw, c.tuple.auto.store)) }
 
 pub expr-returns-in_err-target : goal.expr-returns-in_err-target
 expr-returns-in_err-target t c = let x = found c.in_ok-keyword.ensures in
@@ -73,26 +59,23 @@ expr-returns-in_err-target t c = let x = found c.in_ok-keyword.ensures in
     let s1 = goes _ s0 w.same in
     let tk = taken c.in_ok-token.ensures in
     let small = shape_small (given (tuple_shape _ _ _) w.same) in
-    let whole = stands w small (omega (arith, c.requires)) (omega (arith, c.requires, w.moved, w.room, xo, xw, c.tuple-left.auto.store)) in
+    let whole = stands w small (omega (arith, c.requires)) (omega (arith, c.requires, w.moved, w.room, xo, xw, c.tuple.auto.store)) in
     let q2 = link s1 (way _ (expr_assign (at_depth c.args.depth) c.in_ok-keyword.keyword.number w.what _ tk c.assign_code-code.ensures.0 c.if-code-eq0.false refl)) in
     let kept = prefix w (omega (arith, c.requires)) in
     rw (handed c.from_residual-in_err-target.ensures.1) (did_not (unstored_fails _ (unstored (c.in_err-target.ensures w.what c.args.tokens.now whole tk.within)) q2 kept (omega (arith, c.requires, w.moved, xo))))
 
-pub expr-rhs-right-requires : goal.expr-rhs-right-requires
-expr-rhs-right-requires t c = let x = found c.in_ok-keyword.ensures in
+pub expr-rhs-requires : goal.expr-rhs-requires
+expr-rhs-requires t c = let x = found c.in_ok-keyword.ensures in
     let xo = x.got.on in
     let xw = x.got.within in
     let w = done c.in_ok-left.ensures in
     let tk = taken c.in_ok-token.ensures in
     let small = shape_small (given (tuple_shape _ _ _) w.same) in
-    let whole = stands w small (omega (arith, c.requires)) (omega (arith, c.requires, w.moved, w.room, xo, xw, c.tuple-left.auto.store)) in
+    let whole = stands w small (omega (arith, c.requires)) (omega (arith, c.requires, w.moved, w.room, xo, xw, c.tuple.auto.store)) in
     let pt = stored (c.in_ok-target.ensures w.what c.args.tokens.now whole tk.within) in
     let po = pt.got.on in
     let pw = pt.got.within in
-    omega (arith, c.requires, w.moved, w.room, xo, xw, po, pw, pt.far, c.tuple-left.auto.store, c.expect_pattern-target.auto.store)
-
-pub expr-shape_of-store-in_default-r : goal.expr-shape_of-store-in_default-r
-expr-shape_of-store-in_default-r t c = c.rhs-right.auto.store ∙ c.expect_pattern-target.auto.store ∙ c.tuple-left.auto.store
+    omega (arith, c.requires, w.moved, w.room, xo, xw, po, pw, pt.far, c.tuple.auto.store, c.expect_pattern.auto.store)
 
 pub expr-returns-in_err-right : goal.expr-returns-in_err-right
 expr-returns-in_err-right t c = let x = found c.in_ok-keyword.ensures in
@@ -103,23 +86,16 @@ expr-returns-in_err-right t c = let x = found c.in_ok-keyword.ensures in
     let s1 = goes _ s0 w.same in
     let tk = taken c.in_ok-token.ensures in
     let small = shape_small (given (tuple_shape _ _ _) w.same) in
-    let whole = stands w small (omega (arith, c.requires)) (omega (arith, c.requires, w.moved, w.room, xo, xw, c.tuple-left.auto.store)) in
+    let whole = stands w small (omega (arith, c.requires)) (omega (arith, c.requires, w.moved, w.room, xo, xw, c.tuple.auto.store)) in
     let pt = stored (c.in_ok-target.ensures w.what c.args.tokens.now whole tk.within) in
     let po = pt.got.on in
     let pw = pt.got.within in
     let q2 = link s1 (way _ (expr_assign (at_depth c.args.depth) c.in_ok-keyword.keyword.number w.what _ tk c.assign_code-code.ensures.0 c.if-code-eq0.false refl)) in
     let s3 = gets _ pt.got q2 in
     let kept = prefix w (omega (arith, c.requires)) in
-    let stays = stored_prefix c.args.cursor.at c.tuple-left.new.store pt (omega (arith, c.requires, c.tuple-left.auto.store)) ∙ kept in
-    let up = stored_up c.args.cursor.at c.tuple-left.new.store pt (omega (arith, c.requires, c.tuple-left.auto.store)) in
+    let stays = stored_prefix c.args.cursor.at c.tuple.new.store pt (omega (arith, c.requires, c.tuple.auto.store)) ∙ kept in
+    let up = stored_up c.args.cursor.at c.tuple.new.store pt (omega (arith, c.requires, c.tuple.auto.store)) in
     rw (handed c.from_residual-in_err-right.ensures.1) (did_not (fails _ s3 (undone c.in_err-right.ensures) stays (omega (arith, c.requires, w.moved, w.room, xo, xw, po, pw, up))))
-
-pub expr-overflow_add-action : goal.expr-overflow_add-action
-expr-overflow_add-action t c = let x = found c.in_ok-keyword.ensures in
-    let m = x.below in
-    let a = action_le c.in_ok-keyword.keyword.number in
-    let e = c.action.ensures in
-    omega (arith, m, a, e, c.assign_code-code.ensures.1)
 
 pub expr-emit-requires : goal.expr-emit-requires
 expr-emit-requires t c = let x = found c.in_ok-keyword.ensures in
@@ -128,19 +104,16 @@ expr-emit-requires t c = let x = found c.in_ok-keyword.ensures in
     let w = done c.in_ok-left.ensures in
     let tk = taken c.in_ok-token.ensures in
     let small = shape_small (given (tuple_shape _ _ _) w.same) in
-    let whole = stands w small (omega (arith, c.requires)) (omega (arith, c.requires, w.moved, w.room, xo, xw, c.tuple-left.auto.store)) in
+    let whole = stands w small (omega (arith, c.requires)) (omega (arith, c.requires, w.moved, w.room, xo, xw, c.tuple.auto.store)) in
     let pt = stored (c.in_ok-target.ensures w.what c.args.tokens.now whole tk.within) in
     let po = pt.got.on in
     let pw = pt.got.within in
     let u = done c.in_ok-right.ensures in
-    omega (arith, c.requires, w.moved, w.room, xo, xw, po, pw, pt.far, u.moved, u.room, c.tuple-left.auto.store, c.expect_pattern-target.auto.store, c.rhs-right.auto.store)
+    omega (arith, c.requires, w.moved, w.room, xo, xw, po, pw, pt.far, u.moved, u.room, c.tuple.auto.store, c.expect_pattern.auto.store, c.rhs.auto.store)
 
-pub expr-shape_of-store-in-Done-r : goal.expr-shape_of-store-in-Done-r
-expr-shape_of-store-in-Done-r t c = c.emit.auto.store ∙ c.rhs-right.auto.store ∙ c.expect_pattern-target.auto.store ∙ c.tuple-left.auto.store
-
-pub expr-returns-in-Done-r : goal.expr-returns-in-Done-r
+pub expr-returns : goal.expr-returns
 unfolding count
-expr-returns-in-Done-r t c =
+expr-returns t c =
     let x = found c.in_ok-keyword.ensures in
     let xo = x.got.on in
     let xw = x.got.within in
@@ -149,12 +122,12 @@ expr-returns-in-Done-r t c =
     let s1 = goes _ s0 w.same in
     let tk = taken c.in_ok-token.ensures in
     let small = shape_small (given (tuple_shape _ _ _) w.same) in
-    let whole = stands w small (omega (arith, c.requires)) (omega (arith, c.requires, w.moved, w.room, xo, xw, c.tuple-left.auto.store)) in
+    let whole = stands w small (omega (arith, c.requires)) (omega (arith, c.requires, w.moved, w.room, xo, xw, c.tuple.auto.store)) in
     let pt = stored (c.in_ok-target.ensures w.what c.args.tokens.now whole tk.within) in
     let po = pt.got.on in
     let pw = pt.got.within in
     let kept = prefix w (omega (arith, c.requires)) in
-    let up = stored_up c.args.cursor.at c.tuple-left.new.store pt (omega (arith, c.requires, c.tuple-left.auto.store)) in
+    let up = stored_up c.args.cursor.at c.tuple.new.store pt (omega (arith, c.requires, c.tuple.auto.store)) in
     let u = done c.in_ok-right.ensures in
     let q4 = link s1 (way _ (expr_assign (at_depth c.args.depth) c.in_ok-keyword.keyword.number w.what _ tk c.assign_code-code.ensures.0 c.if-code-eq0.false c.action.ensures)) in
     let e = c.emit.ensures in
@@ -162,14 +135,14 @@ expr-returns-in-Done-r t c =
     let text = pt.text ∙ ap (λ (l : List ℕ). l ++ records pt.got.what) kept in
     record { how = made_over 14 (two pt.got.what u.what) e (kids_two (take c.args.cursor.at c.args.store.now) pt.got.what u.what text u.text) (goes _ (gets _ pt.got q4) u.same) (omega (arith, c.requires, w.moved, xo, po, u.moved)) (omega (arith, c.requires, w.moved, w.room, xo, xw, po, pw, pt.far, up, u.moved, u.room, en)) refl }
 
-pub expr-returns-in_err-keyword-look : goal.expr-returns-in_err-keyword-look
-expr-returns-in_err-keyword-look t c = let x = found c.in_ok-keyword.ensures in
+pub expr-returns-in_err-token : goal.expr-returns-in_err-token
+expr-returns-in_err-token t c = let x = found c.in_ok-keyword.ensures in
     let xo = x.got.on in
     let xw = x.got.within in
     let s0 = told _ x (way _ (expr_step _ _ _)) in
     let w = done c.in_ok-left.ensures in
     let s1 = goes _ s0 w.same in
-    rw (handed c.from_residual-in_err-keyword-look.ensures.1) (did_not (fails_unseen s1 (record { go = _; is = refl }) c.in_err-token.ensures (prefix w (omega (arith, c.requires))) (omega (arith, c.requires, w.moved, xo))))
+    rw (handed c.from_residual-in_err-token.ensures.1) (did_not (fails_unseen s1 (record { go = _; is = refl }) c.in_err-token.ensures (prefix w (omega (arith, c.requires))) (omega (arith, c.requires, w.moved, xo))))
 
 pub expr-returns-in_err-keyword : goal.expr-returns-in_err-keyword
-expr-returns-in_err-keyword t c = rw (handed c.from_residual-in_err-keyword.ensures.1) (did_not (lacks _ (unfound c.in_err-keyword.ensures) (way _ (expr_step _ _ _)) refl (omega arith)))
+expr-returns-in_err-keyword t c = rw (handed c.from_residual.ensures.1) (did_not (lacks _ (unfound c.in_err-keyword.ensures) (way _ (expr_step _ _ _)) refl (omega arith)))

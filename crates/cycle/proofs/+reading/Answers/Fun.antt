@@ -27,11 +27,7 @@ fun-target_name-name-requires t c = let tk = taken c.in_ok-token.ensures in
     let small = (given (target_leveled _ (depth_levels c.args.depth) _ _) g.same).small in
     let names = given (target_named _ _ tk c.if-token-eq-OPEN_PAREN.false) g.same in
     let l = taller g (omega (arith, c.requires)) in
-    (omega (arith, l), omega (arith, c.requires, g.moved, g.room, c.dest-target.auto.store), λ e. name_small tk.fits (names (sym (kind_read c.dest-target.new.store (take c.args.cursor.at c.args.store.now) c.in-Done.a1 g.what small g.text (omega (arith, c.requires, g.moved, g.room, c.dest-target.auto.store))) ∙ e)).0)
-
-pub fun-def-function-requires : goal.fun-def-function-requires
-fun-def-function-requires t c = let g = done c.in_ok-target.ensures in
-    omega (arith, c.requires)
+    (omega (arith, l), omega (arith, c.requires, g.moved, g.room, c.dest.auto.store), λ e. name_small tk.fits (names (sym (kind_read c.dest.new.store (take c.args.cursor.at c.args.store.now) c.in_ok-target.target.at g.what small g.text (omega (arith, c.requires, g.moved, g.room, c.dest.auto.store))) ∙ e)).0)
 
 pub fun-returns-in_err-function : goal.fun-returns-in_err-function
 fun-returns-in_err-function t c = let tk = taken c.in_ok-token.ensures in
@@ -44,13 +40,8 @@ fun-returns-in_err-function t c = let tk = taken c.in_ok-token.ensures in
     let last = link on (way _ (decl_name _ g.what name _ _)) in
     rw (handed c.from_residual-in_err-function.ensures.1) (did_not (fails _ last (undone c.in_err-function.ensures) (prefix g (omega (arith, c.requires))) (omega (arith, c.requires, g.moved, g.room))))
 
-pub fun-emit-requires : goal.fun-emit-requires
-fun-emit-requires t c = let g = done c.in_ok-target.ensures in
-    let h = done c.in_ok-function.ensures in
-    omega (arith, c.requires)
-
-pub fun-returns-in-Done-r : goal.fun-returns-in-Done-r
-fun-returns-in-Done-r t c = let tk = taken c.in_ok-token.ensures in
+pub fun-returns : goal.fun-returns
+fun-returns t c = let tk = taken c.in_ok-token.ensures in
     let g = done c.in_ok-target.ensures in
     let h = done c.in_ok-function.ensures in
     let path = way _ (decl_target _ _ tk c.if-token-eq-OPEN_PAREN.false) in
@@ -63,4 +54,4 @@ fun-returns-in-Done-r t c = let tk = taken c.in_ok-token.ensures in
     record { how = made_two 14 g h e (goes _ last h.same) (omega (arith, c.requires, g.moved, h.moved)) (omega (arith, c.requires, g.moved, g.room, h.moved, h.room, e.next)) refl }
 
 pub fun-returns-in_err-token : goal.fun-returns-in_err-token
-fun-returns-in_err-token t c = rw (handed c.from_residual-in_err-token.ensures.1) (did_not (fails_unseen here (decl_looks _ _ _) c.in_err-token.ensures refl (omega arith)))
+fun-returns-in_err-token t c = rw (handed c.from_residual.ensures.1) (did_not (fails_unseen here (decl_looks _ _ _) c.in_err-token.ensures refl (omega arith)))

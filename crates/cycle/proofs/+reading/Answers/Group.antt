@@ -8,23 +8,9 @@ use Rattle.cycle.proofs.Shapes.{given, shape_small, expr_shape}
 use Rattle.cycle.proofs.Writing.{told, taller}
 use Rattle.cycle.proofs.+reading.Goals as goal
 
-pub group-overflow_add-result : goal.group-overflow_add-result
-group-overflow_add-result t c = let tk = taken c.in_ok-token.ensures in
-    omega arith
-
-pub group-emit-requires : goal.group-emit-requires
-group-emit-requires t c = let tk = taken c.in_ok-token.ensures in
-    omega arith
-
 pub group-returns-then-token-eq-CLOSE_PAREN : goal.group-returns-then-token-eq-CLOSE_PAREN
 group-returns-then-token-eq-CLOSE_PAREN t c = let tk = taken c.in_ok-token.ensures in
     record { how = made_none 30 c.emit.ensures (way _ (group_empty _ _ tk c.if-token-eq-CLOSE_PAREN.true)) (omega arith) (omega arith) refl }
-
-pub group-expr-inner-requires : goal.group-expr-inner-requires
-group-expr-inner-requires t c = let x = found c.in_ok-modifier.ensures in
-    let xo = x.got.on in
-    let xw = x.got.within in
-    omega arith
 
 pub group-returns-in_err-inner : goal.group-returns-in_err-inner
 group-returns-in_err-inner t c = let tk = taken c.in_ok-token.ensures in
@@ -34,10 +20,6 @@ group-returns-in_err-inner t c = let tk = taken c.in_ok-token.ensures in
     let path = way _ (group_more _ _ tk c.if-token-eq-CLOSE_PAREN.false) in
     let s0 = told _ x path in
     rw (handed c.from_residual-in_err-inner.ensures.1) (did_not (fails _ s0 (undone c.in_err-inner.ensures) refl (omega arith)))
-
-pub group-expect-pos-requires : goal.group-expect-pos-requires
-group-expect-pos-requires t c = let w = done c.in_ok-inner.ensures in
-    w.moved.within
 
 pub group-returns-in_err-pos : goal.group-returns-in_err-pos
 group-returns-in_err-pos t c = let tk = taken c.in_ok-token.ensures in
@@ -60,10 +42,10 @@ group-group_end-requires t c = let tk = taken c.in_ok-token.ensures in
     let yo = y.on in
     let yw = y.within in
     let h = taller w (omega (arith, c.requires)) in
-    omega (arith, c.requires, h, w.moved, w.room, xo, yo, yw, x.below, c.expr-inner.auto.store)
+    omega (arith, c.requires, h, w.moved, w.room, xo, yo, yw, x.below, c.expr.auto.store)
 
-pub group-returns-in-Done-s : goal.group-returns-in-Done-s
-group-returns-in-Done-s t c = let tk = taken c.in_ok-token.ensures in
+pub group-returns : goal.group-returns
+group-returns t c = let tk = taken c.in_ok-token.ensures in
     let x = found c.in_ok-modifier.ensures in
     let xo = x.got.on in
     let xw = x.got.within in
@@ -77,10 +59,10 @@ group-returns-in-Done-s t c = let tk = taken c.in_ok-token.ensures in
     let e = c.group_end.ensures in
     record { how = remade w e (shape_small (given (expr_shape _ _ _) w.same)) (gets _ y s1) (omega (arith, c.requires, w.moved, xo, yo, yw)) (omega (arith, c.requires, w.moved, w.room, xo, yo, yw, e.up, e.far)) }
 
-pub group-returns-in_err-token-assign_keyword : goal.group-returns-in_err-token-assign_keyword
-group-returns-in_err-token-assign_keyword t c = let tk = taken c.in_ok-token.ensures in
+pub group-returns-in_err-modifier : goal.group-returns-in_err-modifier
+group-returns-in_err-modifier t c = let tk = taken c.in_ok-token.ensures in
     let path = way _ (group_more _ _ tk c.if-token-eq-CLOSE_PAREN.false) in
-    rw (handed c.from_residual-in_err-token-assign_keyword.ensures.1) (did_not (lacks _ (unfound c.in-Not-assign_keyword.is c.assign_keyword.ensures) path refl (omega arith)))
+    rw (handed c.from_residual-in_err-modifier.ensures.1) (did_not (lacks _ (unfound c.in_err-modifier.ensures) path refl (omega arith)))
 
 pub group-returns-in_err-token : goal.group-returns-in_err-token
-group-returns-in_err-token t c = rw (handed c.from_residual-in_err-token.ensures.1) (did_not (fails_unseen here (group_looks _ _ _) c.in_err-token.ensures refl (omega arith)))
+group-returns-in_err-token t c = rw (handed c.from_residual.ensures.1) (did_not (fails_unseen here (group_looks _ _ _) c.in_err-token.ensures refl (omega arith)))

@@ -7,21 +7,12 @@ use Rattle.cycle.proofs.PathsPrimary.{item_step}
 use Rattle.cycle.proofs.+reading.Goals as goal
 
 pub item-returns-in_err-field : goal.item-returns-in_err-field
-item-returns-in_err-field t c = rw (handed c.from_residual-in_err-field.ensures.1) (did_not (fails _ (way _ (item_step _ _ _)) (undone c.in_err-field.ensures) refl (omega arith)))
-
-pub item-expect-pos-requires : goal.item-expect-pos-requires
-item-expect-pos-requires t c = let f = done c.in_ok-field.ensures in
-    f.moved.within
+item-returns-in_err-field t c = rw (handed c.from_residual.ensures.1) (did_not (fails _ (way _ (item_step _ _ _)) (undone c.in_err-field.ensures) refl (omega arith)))
 
 pub item-returns-in_err-pos : goal.item-returns-in_err-pos
 item-returns-in_err-pos t c = let f = done c.in_ok-field.ensures in
     let on = goes _ (way _ (item_step _ _ _)) f.same in
     rw (handed c.from_residual-in_err-pos.ensures.1) (did_not (lacks _ (unpassed c.in_err-pos.ensures) on (prefix f (omega (arith, c.requires))) (omega (arith, f.moved))))
-
-pub item-binop-value-requires : goal.item-binop-value-requires
-item-binop-value-requires t c = let f = done c.in_ok-field.ensures in
-    let s = passed c.in_ok-pos.ensures in
-    (omega (arith, c.requires, f.moved, f.room, s.on, s.within, c.key-field.auto.store), omega arith)
 
 pub item-returns-in_err-value : goal.item-returns-in_err-value
 item-returns-in_err-value t c = let f = done c.in_ok-field.ensures in
@@ -29,12 +20,6 @@ item-returns-in_err-value t c = let f = done c.in_ok-field.ensures in
     let s = passed c.in_ok-pos.ensures in
     let path = gets _ s on in
     rw (handed c.from_residual-in_err-value.ensures.1) (did_not (fails _ path (undone c.in_err-value.ensures) (prefix f (omega (arith, c.requires))) (omega (arith, f.moved, f.room, s.on))))
-
-pub item-emit-requires : goal.item-emit-requires
-item-emit-requires t c = let f = done c.in_ok-field.ensures in
-    let s = passed c.in_ok-pos.ensures in
-    let w = done c.in_ok-value.ensures in
-    omega (arith, c.requires, f.moved, f.room, s.on, w.moved, w.room, c.key-field.auto.store, c.binop-value.auto.store)
 
 pub item-returns : goal.item-returns
 item-returns t c = let f = done c.in_ok-field.ensures in

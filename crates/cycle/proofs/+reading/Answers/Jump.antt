@@ -8,21 +8,12 @@ use Rattle.cycle.proofs.+reading.Goals as goal
 
 pub jump-returns-in_err-value : goal.jump-returns-in_err-value
 jump-returns-in_err-value t c = let ret = way _ (control_return _ _ _ _ c.if-k-eq-RETURN.true) in
-    rw (handed c.from_residual-in_err-value.ensures.1) (did_not (fails _ ret (undone c.in_err-value.ensures) refl (omega arith)))
-
-pub jump-emit-requires : goal.jump-emit-requires
-jump-emit-requires t c = let w1 = done c.in_ok-value.ensures in
-    omega arith
+    rw (handed c.from_residual.ensures.1) (did_not (fails _ ret (undone c.in_err-value.ensures) refl (omega arith)))
 
 pub jump-returns-then-k-eq-RETURN : goal.jump-returns-then-k-eq-RETURN
 jump-returns-then-k-eq-RETURN t c = let w1 = done c.in_ok-value.ensures in
     let ret = way _ (control_return _ _ _ _ c.if-k-eq-RETURN.true) in
     record { how = made_one 10 w1 c.emit.ensures (goes _ ret w1.same) (omega arith) (omega arith) refl }
-
-pub jump-emit-requires-then-k-eq-CONTINUE : goal.jump-emit-requires-then-k-eq-CONTINUE
-jump-emit-requires-then-k-eq-CONTINUE t c = let lab = found c.in_ok-label.ensures in
-    let got = lab.got in
-    omega arith
 
 pub jump-returns-then-k-eq-CONTINUE : goal.jump-returns-then-k-eq-CONTINUE
 jump-returns-then-k-eq-CONTINUE t c = let lab = found c.in_ok-label.ensures in
@@ -31,34 +22,23 @@ jump-returns-then-k-eq-CONTINUE t c = let lab = found c.in_ok-label.ensures in
     let on = gets _ got path in
     record { how = made_none 8 c.emit-then-k-eq-CONTINUE.ensures (link on (way _ (label_continue _ _ _ _ c.if-k-eq-CONTINUE.true lab.is))) (omega arith) (omega arith) refl }
 
-pub jump-val-value-requires-in-At : goal.jump-val-value-requires-in-At
-jump-val-value-requires-in-At t c = let lab = found c.in_ok-label.ensures in
-    let got = lab.got in
-    omega arith
-
-pub jump-returns-in_err-value : goal.jump-returns-in_err-value
-jump-returns-in_err-value t c = let lab = found c.in_ok-label.ensures in
+pub jump-returns-in_err-value-2 : goal.jump-returns-in_err-value-2
+jump-returns-in_err-value-2 t c = let lab = found c.in_ok-label.ensures in
     let got = lab.got in
     let path = way _ (control_label _ _ _ _ c.if-k-eq-RETURN.false c.requires.2) in
     let on = gets _ got path in
     let brk = link on (way _ (label_break _ _ _ _ c.if-k-eq-CONTINUE.false lab.is)) in
-    rw (handed c.from_residual-in_err-value.ensures.1) (did_not (fails _ brk (undone c.in_err-value.ensures) refl (omega arith)))
+    rw (handed c.from_residual-in_err-value-2.ensures.1) (did_not (fails _ brk (undone c.in_err-value-2.ensures) refl (omega arith)))
 
-pub jump-emit-requires-in-At : goal.jump-emit-requires-in-At
-jump-emit-requires-in-At t c = let lab = found c.in_ok-label.ensures in
-    let got = lab.got in
-    let w2 = done c.in_ok-value.ensures in
-    omega arith
-
-pub jump-returns-in-Done-r : goal.jump-returns-in-Done-r
-jump-returns-in-Done-r t c =
+pub jump-returns : goal.jump-returns
+jump-returns t c =
     let lab = found c.in_ok-label.ensures in
     let got = lab.got in
     let path = way _ (control_label _ _ _ _ c.if-k-eq-RETURN.false c.requires.2) in
     let on = gets _ got path in
     let brk = link on (way _ (label_break _ _ _ _ c.if-k-eq-CONTINUE.false lab.is)) in
-    let w2 = done c.in_ok-value.ensures in
-    record { how = made_one 9 w2 c.emit-in-At.ensures (goes _ brk w2.same) (omega (arith, c.requires, got.on, got.within, w2.moved, w2.room, c.emit-in-At.ensures.next)) (omega (arith, c.requires, got.on, got.within, w2.moved, w2.room, c.emit-in-At.ensures.next)) refl }
+    let w2 = done c.in_ok-value-2.ensures in
+    record { how = made_one 9 w2 c.emit-2.ensures (goes _ brk w2.same) (omega (arith, c.requires, got.on, got.within, w2.moved, w2.room, c.emit-2.ensures.next)) (omega (arith, c.requires, got.on, got.within, w2.moved, w2.room, c.emit-2.ensures.next)) refl }
 
 pub jump-returns-in_err-label : goal.jump-returns-in_err-label
 jump-returns-in_err-label t c = let path = way _ (control_label _ _ _ _ c.if-k-eq-RETURN.false c.requires.2) in

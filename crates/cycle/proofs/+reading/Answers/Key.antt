@@ -8,41 +8,20 @@ use Rattle.cycle.proofs.PathsPrimary.{field_looks, field_square, field_named}
 use Rattle.cycle.proofs.Writing.{written}
 use Rattle.cycle.proofs.+reading.Goals as goal
 
-pub key-overflow_add-pos : goal.key-overflow_add-pos
-key-overflow_add-pos t c = let tk = taken c.in_ok-token.ensures in
-    omega arith
-
-pub key-named_field-requires : goal.key-named_field-requires
-key-named_field-requires t c = let tk = taken c.in_ok-token.ensures in
-    (omega arith, omega arith, λ e. name_small tk.fits e)
-
 pub key-returns-then-token-ne-OPEN_SQUARE : goal.key-returns-then-token-ne-OPEN_SQUARE
 key-returns-then-token-ne-OPEN_SQUARE t c = let tk = taken c.in_ok-token.ensures in
     written c.named_field.ensures refl (way _ (field_named _ _ tk c.if-token-ne-OPEN_SQUARE.true)) refl (omega (arith, c.requires, tk.within))
-
-pub key-overflow_add-pos-in-Token : goal.key-overflow_add-pos-in-Token
-key-overflow_add-pos-in-Token t c = let tk = taken c.in_ok-token.ensures in
-    omega arith
-
-pub key-index-place-requires : goal.key-index-place-requires
-key-index-place-requires t c = let tk = taken c.in_ok-token.ensures in
-    omega arith
 
 pub key-returns-in_err-place : goal.key-returns-in_err-place
 key-returns-in_err-place t c = let tk = taken c.in_ok-token.ensures in
     let path = way _ (field_square _ _ tk c.if-token-ne-OPEN_SQUARE.false) in
     rw (handed c.from_residual-in_err-place.ensures.1) (did_not (fails _ path (undone c.in_err-place.ensures) refl (omega arith)))
 
-pub key-emit-requires : goal.key-emit-requires
-key-emit-requires t c = let tk = taken c.in_ok-token.ensures in
-    let w = done c.in_ok-place.ensures in
-    omega (arith, c.requires, tk.within, w.moved, w.room, c.index-place.auto.store)
-
-pub key-returns-in-Done : goal.key-returns-in-Done
-key-returns-in-Done t c = let tk = taken c.in_ok-token.ensures in
+pub key-returns : goal.key-returns
+key-returns t c = let tk = taken c.in_ok-token.ensures in
     let path = way _ (field_square _ _ tk c.if-token-ne-OPEN_SQUARE.false) in
     let w = done c.in_ok-place.ensures in
     record { how = made_one 28 w c.emit.ensures (goes _ path w.same) (omega (arith, c.requires, tk.within, w.moved)) (omega (arith, w.room, c.emit.ensures.next)) refl }
 
 pub key-returns-in_err-token : goal.key-returns-in_err-token
-key-returns-in_err-token t c = rw (handed c.from_residual-in_err-token.ensures.1) (did_not (fails_unseen here (field_looks _ _ _) c.in_err-token.ensures refl (omega arith)))
+key-returns-in_err-token t c = rw (handed c.from_residual.ensures.1) (did_not (fails_unseen here (field_looks _ _ _) c.in_err-token.ensures refl (omega arith)))

@@ -10,30 +10,6 @@ use Rattle.cycle.proofs.Writing.{fails_with}
 use Rattle.grammar.specs.Reading.Stmt.{stmt_list_of}
 use Rattle.cycle.proofs.+reading.Goals as goal
 
-pub label-overflow_add-pos : goal.label-overflow_add-pos
-label-overflow_add-pos t c = let tk = taken c.in_ok-token.ensures in
-    omega arith
-
-pub label-loops-requires : goal.label-loops-requires
-label-loops-requires t c = let tk = taken c.in_ok-token.ensures in
-    omega arith
-
-pub label-overflow_add-pos-in-58 : goal.label-overflow_add-pos-in-58
-label-overflow_add-pos-in-58 t c = let tk = taken c.in_ok-token.ensures in
-    omega arith
-
-pub label-whiles-requires : goal.label-whiles-requires
-label-whiles-requires t c = let tk = taken c.in_ok-token.ensures in
-    omega arith
-
-pub label-overflow_add-pos-in-59 : goal.label-overflow_add-pos-in-59
-label-overflow_add-pos-in-59 t c = let tk = taken c.in_ok-token.ensures in
-    omega arith
-
-pub label-each-requires : goal.label-each-requires
-label-each-requires t c = let tk = taken c.in_ok-token.ensures in
-    omega arith
-
 pub label-returns-in-57 : goal.label-returns-in-57
 label-returns-in-57 t c = let tk = taken c.in_ok-token.ensures in
     later (label_loop _ _ tk _ c.in-57.is) c.loops.ensures (omega arith) (omega arith) (omega arith)
@@ -46,9 +22,9 @@ pub label-returns-in-59 : goal.label-returns-in-59
 label-returns-in-59 t c = let tk = taken c.in_ok-token.ensures in
     later (label_for _ _ tk _ c.in-59.is) c.each.ensures (omega arith) (omega arith) (omega arith)
 
-pub label-returns-in_err-None : goal.label-returns-in_err-None
-label-returns-in_err-None t c = let tk = taken c.in_ok-token.ensures in
+pub label-returns-in_default : goal.label-returns-in_default
+label-returns-in_default t c = let tk = taken c.in_ok-token.ensures in
     fails_with (label_alone _ _ tk _ (search) (search) (search)) (omega arith) (omega arith)
 
 pub label-returns-in_err-token : goal.label-returns-in_err-token
-label-returns-in_err-token t c = rw (handed c.from_residual-in_err-token.ensures.1) (did_not (fails_unseen here (stmt_label_looks _ _ _ _) c.in_err-token.ensures refl (omega arith)))
+label-returns-in_err-token t c = rw (handed c.from_residual.ensures.1) (did_not (fails_unseen here (stmt_label_looks _ _ _ _) c.in_err-token.ensures refl (omega arith)))

@@ -10,13 +10,6 @@ use Rattle.grammar.specs.Reading.Pattern.{modified}
 use Rattle.grammar.proofs.Laws.Levels.Nonterminals.{tuple_leveled, depth_levels}
 use Rattle.cycle.proofs.+reading.Goals as goal
 
-pub lhs-tuple-left-requires : goal.lhs-tuple-left-requires
-lhs-tuple-left-requires t c = let f = found c.in_ok-keyword.ensures in
-    let g = f.got in
-    let gon = g.on in
-    let gwithin = g.within in
-    omega arith
-
 pub lhs-returns-in_err-left : goal.lhs-returns-in_err-left
 lhs-returns-in_err-left t c = let f = found c.in_ok-keyword.ensures in
     let g = f.got in
@@ -26,14 +19,14 @@ lhs-returns-in_err-left t c = let f = found c.in_ok-keyword.ensures in
     let on = gets _ g path in
     rw (handed c.from_residual-in_err-left.ensures.1) (did_not (fails _ on (undone c.in_err-left.ensures) refl (omega arith)))
 
-pub lhs-expect_pattern-target-requires : goal.lhs-expect_pattern-target-requires
-lhs-expect_pattern-target-requires t c = let f = found c.in_ok-keyword.ensures in
+pub lhs-expect_pattern-requires : goal.lhs-expect_pattern-requires
+lhs-expect_pattern-requires t c = let f = found c.in_ok-keyword.ensures in
     let g = f.got in
     let gon = g.on in
     let gwithin = g.within in
     let w = done c.in_ok-left.ensures in
     let small = (given (tuple_leveled _ (depth_levels _) _ _) w.same).small in
-    record { tree = w.what; whole = stands w small (omega (arith, c.requires, gon, gwithin)) (omega (arith, c.requires, gon, gwithin, w.moved, w.room, c.tuple-left.auto.store)) }
+    record { tree = w.what; whole = stands w small (omega (arith, c.requires, gon, gwithin)) (omega (arith, c.requires, gon, gwithin, w.moved, w.room, c.tuple.auto.store)) }
 
 pub lhs-returns-in_err-target : goal.lhs-returns-in_err-target
 lhs-returns-in_err-target t c = let f = found c.in_ok-keyword.ensures in
@@ -45,9 +38,9 @@ lhs-returns-in_err-target t c = let f = found c.in_ok-keyword.ensures in
     let w = done c.in_ok-left.ensures in
     let on2 = goes _ on w.same in
     let small = (given (tuple_leveled _ (depth_levels _) _ _) w.same).small in
-    let inside = stands w small (omega (arith, c.requires, gon, gwithin)) (omega (arith, c.requires, gon, gwithin, w.moved, w.room, c.tuple-left.auto.store)) in
-    let ep = c.expect_pattern-target.ensures w.what c.args.tokens.now inside w.moved.within in
-    let u = unstored (not_done c.in_default-t.not-Done) ep in
+    let inside = stands w small (omega (arith, c.requires, gon, gwithin)) (omega (arith, c.requires, gon, gwithin, w.moved, w.room, c.tuple.auto.store)) in
+    let ep = c.in_err-target.ensures w.what c.args.tokens.now inside w.moved.within in
+    let u = unstored ep in
     rw (handed c.from_residual-in_err-target.ensures.1) (did_not (lacks _ u.unread on2 (ap (take c.args.cursor.at) u.text ∙ prefix w (omega (arith, c.requires, gon, gwithin))) (omega (arith, c.requires, gon, gwithin, w.moved))))
 
 pub lhs-modified-requires : goal.lhs-modified-requires
@@ -57,14 +50,14 @@ lhs-modified-requires t c = let f = found c.in_ok-keyword.ensures in
     let gwithin = g.within in
     let w = done c.in_ok-left.ensures in
     let small = (given (tuple_leveled _ (depth_levels _) _ _) w.same).small in
-    let inside = stands w small (omega (arith, c.requires, gon, gwithin)) (omega (arith, c.requires, gon, gwithin, w.moved, w.room, c.tuple-left.auto.store)) in
-    let ep = c.expect_pattern-target.ensures w.what c.args.tokens.now inside w.moved.within in
-    let st = stored c.in-Done-t.is ep in
+    let inside = stands w small (omega (arith, c.requires, gon, gwithin)) (omega (arith, c.requires, gon, gwithin, w.moved, w.room, c.tuple.auto.store)) in
+    let ep = c.in_ok-target.ensures w.what c.args.tokens.now inside w.moved.within in
+    let st = stored ep in
     let below = f.below in
-    (omega (arith, c.requires, gon, gwithin, w.moved, w.room, st.far, c.tuple-left.auto.store, c.expect_pattern-target.auto.store), omega (arith, below))
+    (omega (arith, c.requires, gon, gwithin, w.moved, w.room, st.far, c.tuple.auto.store, c.expect_pattern.auto.store), omega (arith, below))
 
-pub lhs-returns-in-Done-t : goal.lhs-returns-in-Done-t
-lhs-returns-in-Done-t t c = let f = found c.in_ok-keyword.ensures in
+pub lhs-returns : goal.lhs-returns
+lhs-returns t c = let f = found c.in_ok-keyword.ensures in
     let g = f.got in
     let gon = g.on in
     let gwithin = g.within in
@@ -73,15 +66,15 @@ lhs-returns-in-Done-t t c = let f = found c.in_ok-keyword.ensures in
     let w = done c.in_ok-left.ensures in
     let on2 = goes _ on w.same in
     let small = (given (tuple_leveled _ (depth_levels _) _ _) w.same).small in
-    let inside = stands w small (omega (arith, c.requires, gon, gwithin)) (omega (arith, c.requires, gon, gwithin, w.moved, w.room, c.tuple-left.auto.store)) in
-    let ep = c.expect_pattern-target.ensures w.what c.args.tokens.now inside w.moved.within in
-    let st = stored c.in-Done-t.is ep in
+    let inside = stands w small (omega (arith, c.requires, gon, gwithin)) (omega (arith, c.requires, gon, gwithin, w.moved, w.room, c.tuple.auto.store)) in
+    let ep = c.in_ok-target.ensures w.what c.args.tokens.now inside w.moved.within in
+    let st = stored ep in
     let md = c.modified.ensures in
-    let up = stored_up c.args.cursor.at c.tuple-left.new.store st (omega (arith, c.requires, gon, gwithin, c.tuple-left.auto.store)) in
+    let up = stored_up c.args.cursor.at c.tuple.new.store st (omega (arith, c.requires, gon, gwithin, c.tuple.auto.store)) in
     let on3 = st.got.on in
     let in3 = st.got.within in
     record { how = record { what = modified g.what st.got.what; same = gets _ st.got on2; moved = omega (arith, c.requires, gon, gwithin, w.moved, on3, in3); room = omega (arith, c.requires, gon, gwithin, w.moved, w.room, st.far, md.up, md.far, up, on3, in3); text = modified_text st.got.what (ended_text md st) (prefix w (omega (arith, c.requires, gon, gwithin))) f.is } }
 
 pub lhs-returns-in_err-keyword : goal.lhs-returns-in_err-keyword
 lhs-returns-in_err-keyword t c = let path = way _ (lvalue_step _ _ _) in
-    rw (handed c.from_residual-in_err-keyword.ensures.1) (did_not (lacks _ (unfound c.in_err-keyword.ensures) path refl (omega arith)))
+    rw (handed c.from_residual.ensures.1) (did_not (lacks _ (unfound c.in_err-keyword.ensures) path refl (omega arith)))

@@ -22,18 +22,6 @@ pub list-loop-token-init : goal.list-loop-token-init
 unfolding records count
 list-loop-token-init t c = record { fuel = length (drop c.args.cursor.pos c.args.tokens.now); enough = rw length-drop (omega arith); run = record { what = none; same = way _ (list_step _ _ _ _ c.if-depth-eq0.false); moved = omega arith; room = omega arith; text = sym (append-nil (take c.args.cursor.at c.args.store.now)) }; many = refl; short = omega arith; back = omega arith; ending = keeps split_none refl; kept = refl }
 
-pub list-look-requires : goal.list-look-requires
-list-look-requires t c = c.loop-token.invariant.run.moved.within
-
-pub list-overflow_add-p : goal.list-overflow_add-p
-list-overflow_add-p t c = let tk = taken c.in_ok-token.ensures in
-    omega arith
-
-pub list-loop-token-smaller-then-token-eq-SEMICOLON : goal.list-loop-token-smaller-then-token-eq-SEMICOLON
-list-loop-token-smaller-then-token-eq-SEMICOLON t c = let g = c.loop-token.invariant in
-    let tk = taken c.in_ok-token.ensures in
-    omega arith
-
 pub list-loop-token-preserved-then-token-eq-SEMICOLON : goal.list-loop-token-preserved-then-token-eq-SEMICOLON
 list-loop-token-preserved-then-token-eq-SEMICOLON t c = let g = c.loop-token.invariant in
     let gr = g.run in
@@ -64,40 +52,21 @@ list-returns-then-ends t c = let g = c.loop-token.invariant in
       };
     }
 
-pub list-turn-requires : goal.list-turn-requires
-list-turn-requires t c = let g = c.loop-token.invariant in
+pub list-mark-requires : goal.list-mark-requires
+list-mark-requires t c = let g = c.loop-token.invariant in
     let gr = g.run in
     let tk = taken c.in_ok-token.ensures in
-    omega (arith, c.requires, c.if-depth-eq0.false, g.short, g.kept, gr.moved, gr.room, tk.within)
-
-pub list-mark-last-requires : goal.list-mark-last-requires
-list-mark-last-requires t c = let g = c.loop-token.invariant in
-    let gr = g.run in
-    let tk = taken c.in_ok-token.ensures in
-    let w1 = was_stmt c.in-Stmt.is c.turn.ensures in
+    let w1 = was_stmt c.in-Stmt.is c.in_ok-next.ensures in
     let l = taller w1 (omega (arith, c.requires, g.kept, gr.moved, gr.room)) in
     (omega arith, omega (arith, c.requires, g.kept, gr.moved, gr.room, w1.moved, w1.room))
-
-pub list-overflow_add-n : goal.list-overflow_add-n
-list-overflow_add-n t c = let g = c.loop-token.invariant in
-    let gr = g.run in
-    let tk = taken c.in_ok-token.ensures in
-    let w1 = was_stmt c.in-Stmt.is c.turn.ensures in
-    omega (arith, c.requires, g.short, gr.moved)
-
-pub list-loop-token-smaller-in-Stmt : goal.list-loop-token-smaller-in-Stmt
-list-loop-token-smaller-in-Stmt t c = let g = c.loop-token.invariant in
-    let tk = taken c.in_ok-token.ensures in
-    let w1 = was_stmt c.in-Stmt.is c.turn.ensures in
-    omega (arith, w1.moved, tk.within)
 
 pub list-loop-token-preserved-in-Stmt : goal.list-loop-token-preserved-in-Stmt
 list-loop-token-preserved-in-Stmt t c = let g = c.loop-token.invariant in
     let gr = g.run in
     let tk = taken c.in_ok-token.ensures in
     let try = link gr.same (way _ (stmts_turn _ _ gr.what _ g.fuel _ g.enough tk c.if-token-eq-SEMICOLON.false (sym c.ends.ensures ∙ c.if-ends.false))) in
-    let w1 = was_stmt c.in-Stmt.is c.turn.ensures in
-    let mk = c.mark-last.ensures (take c.loop-token.a c.loop-token.store) w1.what (place_small _ _ _ _ _ _ w1.same) w1.text in
+    let w1 = was_stmt c.in-Stmt.is c.in_ok-next.ensures in
+    let mk = c.mark.ensures (take c.loop-token.suite.end.at c.loop-token.store) w1.what (place_small _ _ _ _ _ _ w1.same) w1.text in
     let room = w1.room in
     let old = gr.room in
     let moved = w1.moved in
@@ -117,7 +86,7 @@ list-returns-in-Control t c = let g = c.loop-token.invariant in
     let gr = g.run in
     let tk = taken c.in_ok-token.ensures in
     let try = link gr.same (way _ (stmts_turn _ _ gr.what _ g.fuel _ g.enough tk c.if-token-eq-SEMICOLON.false (sym c.ends.ensures ∙ c.if-ends.false))) in
-    let k1 = was_control c.in-Control.is c.turn.ensures in
+    let k1 = was_control c.in-Control.is c.in_ok-next.ensures in
     let kr = k1.run in
     record {
       how = record {
@@ -126,18 +95,12 @@ list-returns-in-Control t c = let g = c.loop-token.invariant in
       };
     }
 
-pub list-loop-token-smaller : goal.list-loop-token-smaller
-list-loop-token-smaller t c = let g = c.loop-token.invariant in
-    let tk = taken c.in_ok-token.ensures in
-    let v = was_caught c.in-Caught.is c.turn.ensures in
-    omega (arith, v.moved, tk.within)
-
 pub list-loop-token-preserved : goal.list-loop-token-preserved
 list-loop-token-preserved t c = let g = c.loop-token.invariant in
     let gr = g.run in
     let tk = taken c.in_ok-token.ensures in
     let try = link gr.same (way _ (stmts_turn _ _ gr.what _ g.fuel _ g.enough tk c.if-token-eq-SEMICOLON.false (sym c.ends.ensures ∙ c.if-ends.false))) in
-    let v = was_caught c.in-Caught.is c.turn.ensures in
+    let v = was_caught c.in-Caught.is c.in_ok-next.ensures in
     record {
       fuel = g.fuel - 1;
       enough = omega (arith, g.enough, v.moved, tk.within);
@@ -149,14 +112,14 @@ list-loop-token-preserved t c = let g = c.loop-token.invariant in
       kept = omega (arith, g.kept);
     }
 
-pub list-returns-in_err-token-turn : goal.list-returns-in_err-token-turn
-list-returns-in_err-token-turn t c = let g = c.loop-token.invariant in
+pub list-returns-in_err-next : goal.list-returns-in_err-next
+list-returns-in_err-next t c = let g = c.loop-token.invariant in
     let gr = g.run in
     let tk = taken c.in_ok-token.ensures in
     let try = link gr.same (way _ (stmts_turn _ _ gr.what _ g.fuel _ g.enough tk c.if-token-eq-SEMICOLON.false (sym c.ends.ensures ∙ c.if-ends.false))) in
-    rw (handed c.from_residual-in_err-token-turn.ensures.1) (record { how = fails _ try (was_not c.in-Not-turn.is c.turn.ensures) (prefix gr (omega (arith, c.requires))) (omega (arith, gr.moved, gr.room)) })
+    rw (handed c.from_residual-in_err-next.ensures.1) (record { how = fails _ try (was_not c.in_err-next.ensures) (prefix gr (omega (arith, c.requires))) (omega (arith, gr.moved, gr.room)) })
 
 pub list-returns-in_err-token : goal.list-returns-in_err-token
 list-returns-in_err-token t c = let g = c.loop-token.invariant in
     let gr = g.run in
-    rw (handed c.from_residual-in_err-token.ensures.1) (record { how = fails_unseen gr.same (stmts_looks _ _ gr.what _ _ g.fuel _ g.enough) c.in_err-token.ensures (prefix gr (omega (arith, c.requires))) (omega arith) })
+    rw (handed c.from_residual.ensures.1) (record { how = fails_unseen gr.same (stmts_looks _ _ gr.what _ _ g.fuel _ g.enough) c.in_err-token.ensures (prefix gr (omega (arith, c.requires))) (omega arith) })

@@ -1,43 +1,34 @@
 -- What is left to show of `cycle::part` in its cycle of calls. Assumes nothing.
 use mathlib.Core.Path.{refl}
 use native.Mathlib.Omega.{arith}
+use lib.ListN.{drop}
+use Rattle.grammar.specs.Reading.Depth.{at_depth}
 use Rattle.scan.proofs.Laws.{handed, way, goes, done, undone, did_not, fails, later}
 use Rattle.nodes.proofs.Made.{made_one}
 use Rattle.cycle.proofs.PathsPrimary.{part_member, part_index, part_call, part_table}
 use Rattle.cycle.proofs.Writing.{written, made_list}
 use Rattle.cycle.proofs.+reading.Goals as goal
 
-pub part-member-requires : goal.part-member-requires
-part-member-requires t c = (omega (arith, c.requires.0), omega (arith, c.requires.1))
+pub part-returns-in_err-place-in-4 : goal.part-returns-in_err-place-in-4
+part-returns-in_err-place-in-4 t c = let path = way _ (part_index _ _ _ c.in-4.is) in
+    rw (handed c.from_residual.ensures.1) (did_not (fails _ path (undone c.in_err-place-in-4.ensures) refl (omega arith)))
 
-pub part-returns-in_err-items : goal.part-returns-in_err-items
-part-returns-in_err-items t c = let path = way _ (part_index _ _ _ c.in-4.is) in
-    rw (handed c.from_residual-in_err-items.ensures.1) (did_not (fails _ path (undone c.in_err-place.ensures) refl (omega arith)))
-
-pub part-emit-requires : goal.part-emit-requires
-part-emit-requires t c = let w = done c.in_ok-place.ensures in
-    omega (arith, c.requires.0, c.requires.1, w.moved, w.room, c.index-place.auto.store)
-
-pub part-returns-in_err-items-2 : goal.part-returns-in_err-items-2
-part-returns-in_err-items-2 t c = let path2 = way _ (part_table _ _ _ (search) (search) (search)) in
-    rw (handed c.from_residual-in_err-items-2.ensures.1) (did_not (fails _ path2 (undone (not_done c.in_default-r-2.not-Done) c.table-items.ensures) refl (omega arith)))
-
-pub part-emit-requires-in_default : goal.part-emit-requires-in_default
-part-emit-requires-in_default t c = let w2 = done c.in_ok-items.ensures in
-    omega (arith, c.requires.0, c.requires.1, w2.moved, w2.room, c.table-items.auto.store)
+pub part-returns-in_err-items-in_default : goal.part-returns-in_err-items-in_default
+part-returns-in_err-items-in_default t c = let path2 = way _ (part_table (at_depth c.args.depth) _ (drop c.args.cursor.pos c.args.tokens.now) (search) (search) (search)) in
+    rw (handed c.from_residual-in_err-items-in_default.ensures.1) (did_not (fails _ path2 (undone c.in_err-items-in_default.ensures) refl (omega arith)))
 
 pub part-returns-in-40 : goal.part-returns-in-40
 part-returns-in-40 t c = written c.member.ensures refl (way _ (part_member _ _ _ c.in-40.is)) refl (omega (arith, c.requires.0, c.requires.1))
 
-pub part-returns-in-Done : goal.part-returns-in-Done
-part-returns-in-Done t c = let path = way _ (part_index _ _ _ c.in-4.is) in
-    let w = done c.in_ok-place.ensures in
+pub part-returns-in_ok-place-in-4 : goal.part-returns-in_ok-place-in-4
+part-returns-in_ok-place-in-4 t c = let path = way _ (part_index _ _ _ c.in-4.is) in
+    let w = done c.in_ok-place-in-4.ensures in
     record { how = made_one 38 w c.emit.ensures (goes _ path w.same) w.moved (omega (arith, w.room, c.emit.ensures.next)) refl }
 
 pub part-returns-in-0 : goal.part-returns-in-0
 part-returns-in-0 t c = later (part_call _ _ _ c.in-0.is) c.call.ensures (omega arith) (omega arith) (omega arith)
 
-pub part-returns-in-Done-r : goal.part-returns-in-Done-r
-part-returns-in-Done-r t c = let path2 = way _ (part_table _ _ _ (search) (search) (search)) in
-    let w2 = done c.in_ok-items.ensures in
+pub part-returns-in_ok-items-in_default : goal.part-returns-in_ok-items-in_default
+part-returns-in_ok-items-in_default t c = let path2 = way _ (part_table (at_depth c.args.depth) _ (drop c.args.cursor.pos c.args.tokens.now) (search) (search) (search)) in
+    let w2 = done c.in_ok-items-in_default.ensures in
     record { how = made_list 40 w2 c.emit-in_default.ensures (goes _ path2 w2.same) w2.moved (omega (arith, w2.room, c.emit-in_default.ensures.next)) refl }

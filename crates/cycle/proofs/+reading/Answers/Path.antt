@@ -22,15 +22,6 @@ path-loop-token-init t c = record {
   kept = refl;
 }
 
-pub path-look-requires : goal.path-look-requires
-path-look-requires t c = c.loop-token.invariant.run.moved.within
-
-pub path-path_end-requires : goal.path-path_end-requires
-path-path_end-requires t c = let g = c.loop-token.invariant in
-    let gr = g.run in
-    let tk = taken c.in_ok-token.ensures in
-    (omega (arith, c.requires, g.kept, gr.moved, gr.room, tk.within), omega (arith, c.requires, g.short, tk.within))
-
 pub path-returns-then-not-continues : goal.path-returns-then-not-continues
 path-returns-then-not-continues t c = let g = c.loop-token.invariant in
     let gr = g.run in
@@ -41,27 +32,6 @@ path-returns-then-not-continues t c = let g = c.loop-token.invariant in
     let x = e.text Z gr.what g.many gr.text in
     let far = path_far gr.what _ _ Z _ _ gr.text x (omega (arith, c.requires, g.kept, gr.moved, gr.room, tk.within)) (omega (arith, c.requires, g.kept, gr.moved, gr.room, tk.within, e.far, c.path_end.auto.store)) e.far in
     record { how = record { what = gr.what; same = out; moved = gr.moved; room = omega (arith, g.spare, g.many, gr.room, e.up, far); text = x } }
-
-pub path-overflow_add-p : goal.path-overflow_add-p
-path-overflow_add-p t c = let tk = taken c.in_ok-token.ensures in
-    omega arith
-
-pub path-part-end-requires : goal.path-part-end-requires
-path-part-end-requires t c = let g = c.loop-token.invariant in
-    let gr = g.run in
-    let tk = taken c.in_ok-token.ensures in
-    (omega (arith, c.requires, g.kept, gr.moved, gr.room, tk.within), omega (arith, c.requires, g.kept, gr.moved, gr.room, tk.within))
-
-pub path-overflow_add-n : goal.path-overflow_add-n
-path-overflow_add-n t c = let g = c.loop-token.invariant in
-    let tk = taken c.in_ok-token.ensures in
-    let w = done c.in_ok-end.ensures in
-    omega (arith, c.requires, g.short, w.moved)
-
-pub path-loop-token-smaller : goal.path-loop-token-smaller
-path-loop-token-smaller t c = let tk = taken c.in_ok-token.ensures in
-    let w = done c.in_ok-end.ensures in
-    omega (arith, tk.within, w.moved)
 
 pub path-loop-token-preserved : goal.path-loop-token-preserved
 path-loop-token-preserved t c = let g = c.loop-token.invariant in
@@ -76,17 +46,17 @@ path-loop-token-preserved t c = let g = c.loop-token.invariant in
       many = count_snoc gr.what w.what ∙ ap (λ (i : ℕ). i + 1) g.many;
       short = omega (arith, g.short, w.moved);
       spare = omega (arith, g.spare, w.room);
-      kept = omega (arith, g.kept, c.part-end.auto.store);
+      kept = omega (arith, g.kept, c.part.auto.store);
     }
 
-pub path-returns-in_err-None : goal.path-returns-in_err-None
-path-returns-in_err-None t c = let g = c.loop-token.invariant in
+pub path-returns-in_err-end : goal.path-returns-in_err-end
+path-returns-in_err-end t c = let g = c.loop-token.invariant in
     let gr = g.run in
     let tk = taken c.in_ok-token.ensures in
     let on = link gr.same (way _ (path_more _ _ gr.what _ g.fuel _ g.enough tk (sym c.continues.ensures ∙ c.if-not-continues.false))) in
-    rw (handed c.from_residual-in_err-None.ensures.1) (did_not (fails _ on (undone c.in_err-end.ensures) (prefix gr (omega (arith, c.requires))) (omega (arith, gr.moved, gr.room))))
+    rw (handed c.from_residual-in_err-end.ensures.1) (did_not (fails _ on (undone c.in_err-end.ensures) (prefix gr (omega (arith, c.requires))) (omega (arith, gr.moved, gr.room))))
 
 pub path-returns-in_err-token : goal.path-returns-in_err-token
 path-returns-in_err-token t c = let g = c.loop-token.invariant in
     let gr = g.run in
-    rw (handed c.from_residual-in_err-token.ensures.1) (did_not (fails_unseen gr.same (path_looks _ _ gr.what _ _ g.fuel _ g.enough) c.in_err-token.ensures (prefix gr (omega (arith, c.requires))) (omega (arith, gr.moved))))
+    rw (handed c.from_residual.ensures.1) (did_not (fails_unseen gr.same (path_looks _ _ gr.what _ _ g.fuel _ g.enough) c.in_err-token.ensures (prefix gr (omega (arith, c.requires))) (omega (arith, gr.moved))))

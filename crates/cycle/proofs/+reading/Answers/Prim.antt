@@ -9,11 +9,7 @@ use Rattle.grammar.specs.Reading.Primary.{with_path}
 use Rattle.cycle.proofs.+reading.Goals as goal
 
 pub prim-returns-in_err-receiver : goal.prim-returns-in_err-receiver
-prim-returns-in_err-receiver t c = rw (handed c.from_residual-in_err-receiver.ensures.1) (did_not (fails _ (way _ (primary_step _ _ _)) (undone c.in_err-receiver.ensures) refl (omega arith)))
-
-pub prim-path-requires : goal.prim-path-requires
-prim-path-requires t c = let f = done c.in_ok-receiver.ensures in
-    omega arith
+prim-returns-in_err-receiver t c = rw (handed c.from_residual.ensures.1) (did_not (fails _ (way _ (primary_step _ _ _)) (undone c.in_err-receiver.ensures) refl (omega arith)))
 
 pub prim-returns : goal.prim-returns
 prim-returns t c = let f = done c.in_ok-receiver.ensures in

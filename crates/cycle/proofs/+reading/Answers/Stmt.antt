@@ -13,77 +13,24 @@ use Rattle.cycle.proofs.Writing.{written, fails_with}
 use Rattle.grammar.specs.Reading.Stmt.{stmt_list_of}
 use Rattle.cycle.proofs.+reading.Goals as goal
 
-pub stmt-overflow_add-pos : goal.stmt-overflow_add-pos
-stmt-overflow_add-pos t c = let tk = taken c.in_ok-token.ensures in
-    omega arith
-
-pub stmt-loops-requires : goal.stmt-loops-requires
-stmt-loops-requires t c = let tk = taken c.in_ok-token.ensures in
-    omega arith
-
-pub stmt-overflow_add-pos-in-58 : goal.stmt-overflow_add-pos-in-58
-stmt-overflow_add-pos-in-58 t c = let tk = taken c.in_ok-token.ensures in
-    omega arith
-
-pub stmt-whiles-requires : goal.stmt-whiles-requires
-stmt-whiles-requires t c = let tk = taken c.in_ok-token.ensures in
-    omega arith
-
-pub stmt-overflow_add-pos-in-59 : goal.stmt-overflow_add-pos-in-59
-stmt-overflow_add-pos-in-59 t c = let tk = taken c.in_ok-token.ensures in
-    omega arith
-
-pub stmt-each-requires : goal.stmt-each-requires
-stmt-each-requires t c = let tk = taken c.in_ok-token.ensures in
-    omega arith
-
-pub stmt-overflow_add-value : goal.stmt-overflow_add-value
-stmt-overflow_add-value t c = let tk = taken c.in_ok-token.ensures in
-    omega (arith, taken_label tk c.in-73.is)
-
-pub stmt-overflow_add-pos-in-73 : goal.stmt-overflow_add-pos-in-73
-stmt-overflow_add-pos-in-73 t c = let tk = taken c.in_ok-token.ensures in
-    omega arith
-
-pub stmt-label-requires : goal.stmt-label-requires
-stmt-label-requires t c = let tk = taken c.in_ok-token.ensures in
-    omega arith
-
-pub stmt-overflow_add-pos-in-67 : goal.stmt-overflow_add-pos-in-67
-stmt-overflow_add-pos-in-67 t c = let tk = taken c.in_ok-token.ensures in
-    omega arith
-
-pub stmt-expr-expression-requires : goal.stmt-expr-expression-requires
-stmt-expr-expression-requires t c = let tk = taken c.in_ok-token.ensures in
-    omega arith
-
-pub stmt-returns-in_err-expression : goal.stmt-returns-in_err-expression
-stmt-returns-in_err-expression t c = let tk = taken c.in_ok-token.ensures in
+pub stmt-returns-in_err-condition-in-67 : goal.stmt-returns-in_err-condition-in-67
+stmt-returns-in_err-condition-in-67 t c = let tk = taken c.in_ok-token.ensures in
     let path = way _ (stmt_assert _ _ tk c.in-67.is) in
-    rw (handed c.from_residual-in_err-expression.ensures.1) (did_not (fails _ path (undone c.in_err-expression.ensures) refl (omega arith)))
-
-pub stmt-emit-requires : goal.stmt-emit-requires
-stmt-emit-requires t c = let tk = taken c.in_ok-token.ensures in
-    let w = done c.in_ok-expression.ensures in
-    omega arith
-
-pub stmt-overflow_add-result : goal.stmt-overflow_add-result
-stmt-overflow_add-result t c = let tk = taken c.in_ok-token.ensures in
-    omega arith
+    rw (handed c.from_residual-in_err-condition-in-67.ensures.1) (did_not (fails _ path (undone c.in_err-condition-in-67.ensures) refl (omega arith)))
 
 pub stmt-returns-then-is_control : goal.stmt-returns-then-is_control
 stmt-returns-then-is_control t c = let tk = taken c.in_ok-token.ensures in
     let na = c.not_allowed.ensures in
     fails_with (stmt_control _ _ tk (search) (search) (search) (search) (search) c.is_control.ensures c.if-is_control.true ∙ rw (← na)) (omega arith) (omega arith)
 
-pub stmt-returns-in_err-expression-2 : goal.stmt-returns-in_err-expression-2
-stmt-returns-in_err-expression-2 t c = let tk = taken c.in_ok-token.ensures in
+pub stmt-returns-in_err-expression-in_default : goal.stmt-returns-in_err-expression-in_default
+stmt-returns-in_err-expression-in_default t c = let tk = taken c.in_ok-token.ensures in
     let track = way _ (stmt_expr _ _ tk (search) (search) (search) (search) (search) c.is_control.ensures c.if-is_control.false) in
-    rw (handed c.from_residual-in_err-expression-2.ensures.1) (did_not (fails _ track (undone (not_done c.in_default-r-2.not-Done) c.expr-expression-in_default.ensures) refl (omega arith)))
+    rw (handed c.from_residual-in_err-expression-in_default.ensures.1) (did_not (fails _ track (undone c.in_err-expression-in_default.ensures) refl (omega arith)))
 
 pub stmt-expression_end-requires : goal.stmt-expression_end-requires
 stmt-expression_end-requires t c = let tk = taken c.in_ok-token.ensures in
-    let v = done c.in-Done-r.is c.expr-expression-in_default.ensures in
+    let v = done c.in_ok-expression-in_default.ensures in
     let sh = given (expr_shape _ _ _) v.same in
     (record { before = take c.args.cursor.at c.args.store.now; tree = v.what; shape = sh; text = v.text; within = omega arith }, omega arith)
 
@@ -103,18 +50,18 @@ pub stmt-returns-in-73 : goal.stmt-returns-in-73
 stmt-returns-in-73 t c = let tk = taken c.in_ok-token.ensures in
     later (stmt_labelled _ _ tk c.in-73.is) c.label.ensures (omega arith) (omega arith) (omega arith)
 
-pub stmt-returns-in-Done : goal.stmt-returns-in-Done
-stmt-returns-in-Done t c = let tk = taken c.in_ok-token.ensures in
-    let w = done c.in_ok-expression.ensures in
+pub stmt-returns-in_ok-condition-in-67 : goal.stmt-returns-in_ok-condition-in-67
+stmt-returns-in_ok-condition-in-67 t c = let tk = taken c.in_ok-token.ensures in
+    let w = done c.in_ok-condition-in-67.ensures in
     let path = way _ (stmt_assert _ _ tk c.in-67.is) in
     record { how = made_one 6 w c.emit.ensures (goes _ path w.same) (omega arith) (omega arith) refl }
 
-pub stmt-returns-in-Done-r : goal.stmt-returns-in-Done-r
-stmt-returns-in-Done-r t c = let tk = taken c.in_ok-token.ensures in
-    let v = done c.in-Done-r.is c.expr-expression-in_default.ensures in
+pub stmt-returns-in_ok-expression-in_default : goal.stmt-returns-in_ok-expression-in_default
+stmt-returns-in_ok-expression-in_default t c = let tk = taken c.in_ok-token.ensures in
+    let v = done c.in_ok-expression-in_default.ensures in
     let track = way _ (stmt_expr _ _ tk (search) (search) (search) (search) (search) c.is_control.ensures c.if-is_control.false) in
     let sh = given (expr_shape _ _ _) v.same in
     written (c.expression_end.ensures _ _ _ sh v.text v.moved.within) refl (goes _ track v.same) (prefix v (omega (arith, c.requires, v.moved, v.room))) (omega (arith, c.requires, v.moved, v.room, tk.within))
 
 pub stmt-returns-in_err-token : goal.stmt-returns-in_err-token
-stmt-returns-in_err-token t c = rw (handed c.from_residual-in_err-token.ensures.1) (did_not (fails_unseen here (stmt_looks _ _ _) c.in_err-token.ensures refl (omega arith)))
+stmt-returns-in_err-token t c = rw (handed c.from_residual.ensures.1) (did_not (fails_unseen here (stmt_looks _ _ _) c.in_err-token.ensures refl (omega arith)))

@@ -21,19 +21,6 @@ table-loop-token-init t c = record {
   kept = refl;
 }
 
-pub table-look-requires : goal.table-look-requires
-table-look-requires t c = c.loop-token.invariant.run.moved.within
-
-pub table-overflow_add-result : goal.table-overflow_add-result
-table-overflow_add-result t c = let tk = taken c.in_ok-token.ensures in
-    omega arith
-
-pub table-list_end-requires : goal.table-list_end-requires
-table-list_end-requires t c = let g = c.loop-token.invariant in
-    let gr = g.run in
-    let tk = taken c.in_ok-token.ensures in
-    (omega (arith, c.requires, g.kept, gr.moved, gr.room, tk.within), omega (arith, c.requires, g.short, tk.within))
-
 pub table-returns-then-token-eq-CLOSE_BRACE : goal.table-returns-then-token-eq-CLOSE_BRACE
 table-returns-then-token-eq-CLOSE_BRACE t c = let g = c.loop-token.invariant in
     let gr = g.run in
@@ -42,12 +29,6 @@ table-returns-then-token-eq-CLOSE_BRACE t c = let g = c.loop-token.invariant in
     let e = c.list_end.ensures in
     record { how = record { what = gr.what; same = out; moved = omega (arith, c.requires, gr.moved, tk.within); room = omega (arith, gr.room, e.next); text = put 1 gr.what (take c.args.cursor.at c.args.store.now) e gr.text (ap (λ (i : ℕ). 1 + 256 * i) (sym g.many)) } }
 
-pub table-item-one-requires : goal.table-item-one-requires
-table-item-one-requires t c = let g = c.loop-token.invariant in
-    let gr = g.run in
-    let tk = taken c.in_ok-token.ensures in
-    omega (arith, c.requires, g.kept, gr.moved, gr.room, tk.within)
-
 pub table-returns-in_err-one : goal.table-returns-in_err-one
 table-returns-in_err-one t c = let g = c.loop-token.invariant in
     let gr = g.run in
@@ -55,25 +36,8 @@ table-returns-in_err-one t c = let g = c.loop-token.invariant in
     let on = link gr.same (way _ (items_more _ gr.what _ g.fuel _ g.enough tk c.if-token-eq-CLOSE_BRACE.false)) in
     rw (handed c.from_residual-in_err-one.ensures.1) (did_not (fails _ on (undone c.in_err-one.ensures) (prefix gr (omega (arith, c.requires))) (omega (arith, gr.moved, gr.room))))
 
-pub table-item_end-requires : goal.table-item_end-requires
-table-item_end-requires t c = let w = done c.in_ok-one.ensures in
-    w.moved.within
-
-pub table-overflow_add-n : goal.table-overflow_add-n
-table-overflow_add-n t c = let g = c.loop-token.invariant in
-    let ie = found c.in_ok-closing.ensures in
-    let w = done c.in_ok-one.ensures in
-    omega (arith, c.requires, g.short, w.moved, ie.got.on, ie.got.within)
-
-pub table-list_end-requires-then-closed-eq1 : goal.table-list_end-requires-then-closed-eq1
-table-list_end-requires-then-closed-eq1 t c = let g = c.loop-token.invariant in
-    let gr = g.run in
-    let w = done c.in_ok-one.ensures in
-    let ie = found c.in_ok-closing.ensures in
-    (omega (arith, c.requires, g.kept, gr.moved, gr.room, w.moved, w.room, ie.got.on, ie.got.within, c.item-one.auto.store), omega (arith, c.requires, g.short, w.moved, ie.got.on, ie.got.within))
-
-pub table-returns-then-closed-eq1 : goal.table-returns-then-closed-eq1
-table-returns-then-closed-eq1 t c = let g = c.loop-token.invariant in
+pub table-returns-then-closing-eq1 : goal.table-returns-then-closing-eq1
+table-returns-then-closing-eq1 t c = let g = c.loop-token.invariant in
     let gr = g.run in
     let tk = taken c.in_ok-token.ensures in
     let on = link gr.same (way _ (items_more _ gr.what _ g.fuel _ g.enough tk c.if-token-eq-CLOSE_BRACE.false)) in
@@ -81,28 +45,17 @@ table-returns-then-closed-eq1 t c = let g = c.loop-token.invariant in
     let next = goes _ on w.same in
     let ie = found c.in_ok-closing.ensures in
     let got = gets _ ie.got next in
-    let e = c.list_end-then-closed-eq1.ensures in
+    let e = c.list_end-then-closing-eq1.ensures in
     let f = snoc gr.what w.what in
     record {
       how = record {
         what = f;
-        same = link got (way _ (items_closed _ _ _ _ _ (ie.is ∙ c.if-closed-eq1.true)));
+        same = link got (way _ (items_closed _ _ _ _ _ (ie.is ∙ c.if-closing-eq1.true)));
         moved = omega (arith, gr.moved, w.moved, ie.got.on, ie.got.within);
         room = omega (arith, gr.room, w.room, ie.got.on, e.next);
         text = put 1 f (take c.args.cursor.at c.args.store.now) e (joined gr.what w.what (take c.args.cursor.at c.args.store.now) w.text gr.text) (ap (λ (i : ℕ). 1 + 256 * i) (sym (count_snoc gr.what w.what ∙ ap (λ (i : ℕ). i + 1) g.many)));
       };
     }
-
-pub table-overflow_add-n-in-At : goal.table-overflow_add-n-in-At
-table-overflow_add-n-in-At t c = let g = c.loop-token.invariant in
-    let ie = found c.in_ok-closing.ensures in
-    let w = done c.in_ok-one.ensures in
-    omega (arith, c.requires, g.short, w.moved, ie.got.on, ie.got.within)
-
-pub table-loop-token-smaller : goal.table-loop-token-smaller
-table-loop-token-smaller t c = let w = done c.in_ok-one.ensures in
-    let ie = found c.in_ok-closing.ensures in
-    omega (arith, w.moved, ie.got.on, ie.got.within)
 
 pub table-loop-token-preserved : goal.table-loop-token-preserved
 table-loop-token-preserved t c = let g = c.loop-token.invariant in
@@ -116,22 +69,22 @@ table-loop-token-preserved t c = let g = c.loop-token.invariant in
     record {
       fuel = g.fuel - 1;
       enough = omega (arith, g.enough, w.moved, ie.got.on, tk.within);
-      run = record { what = snoc gr.what w.what; same = link got (way _ (items_again _ _ _ _ _ (λ i. c.if-closed-eq1.false (sym ie.is ∙ i)))); moved = omega (arith, gr.moved, w.moved, ie.got.on, ie.got.within); room = omega (arith, gr.room, w.room, ie.got.on); text = joined gr.what w.what (take c.args.cursor.at c.args.store.now) w.text gr.text };
+      run = record { what = snoc gr.what w.what; same = link got (way _ (items_again _ _ _ _ _ (λ i. c.if-closing-eq1.false (sym ie.is ∙ i)))); moved = omega (arith, gr.moved, w.moved, ie.got.on, ie.got.within); room = omega (arith, gr.room, w.room, ie.got.on); text = joined gr.what w.what (take c.args.cursor.at c.args.store.now) w.text gr.text };
       many = count_snoc gr.what w.what ∙ ap (λ (i : ℕ). i + 1) g.many;
       short = omega (arith, g.short, w.moved, ie.got.on);
-      kept = omega (arith, g.kept, c.item-one.auto.store);
+      kept = omega (arith, g.kept, c.item.auto.store);
     }
 
-pub table-returns-in_err-token-item_end : goal.table-returns-in_err-token-item_end
-table-returns-in_err-token-item_end t c = let g = c.loop-token.invariant in
+pub table-returns-in_err-closing : goal.table-returns-in_err-closing
+table-returns-in_err-closing t c = let g = c.loop-token.invariant in
     let gr = g.run in
     let tk = taken c.in_ok-token.ensures in
     let on = link gr.same (way _ (items_more _ gr.what _ g.fuel _ g.enough tk c.if-token-eq-CLOSE_BRACE.false)) in
     let w = done c.in_ok-one.ensures in
     let next = goes _ on w.same in
-    rw (handed c.from_residual-in_err-token-item_end.ensures.1) (did_not (lacks _ (unfound c.in-Not-item_end.is c.item_end.ensures) next (shorter _ _ _ _ gr.room.up (prefix w (omega (arith, c.requires, g.kept, gr.moved, gr.room))) ∙ prefix gr (omega (arith, c.requires))) (omega (arith, gr.moved, w.moved))))
+    rw (handed c.from_residual-in_err-closing.ensures.1) (did_not (lacks _ (unfound c.in_err-closing.ensures) next (shorter _ _ _ _ gr.room.up (prefix w (omega (arith, c.requires, g.kept, gr.moved, gr.room))) ∙ prefix gr (omega (arith, c.requires))) (omega (arith, gr.moved, w.moved))))
 
 pub table-returns-in_err-token : goal.table-returns-in_err-token
 table-returns-in_err-token t c = let g = c.loop-token.invariant in
     let gr = g.run in
-    rw (handed c.from_residual-in_err-token.ensures.1) (did_not (fails_unseen gr.same (items_looks _ gr.what _ _ g.fuel _ g.enough) c.in_err-token.ensures (prefix gr (omega (arith, c.requires))) (omega (arith, gr.moved))))
+    rw (handed c.from_residual.ensures.1) (did_not (fails_unseen gr.same (items_looks _ gr.what _ _ g.fuel _ g.enough) c.in_err-token.ensures (prefix gr (omega (arith, c.requires))) (omega (arith, gr.moved))))

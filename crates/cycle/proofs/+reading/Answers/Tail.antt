@@ -21,17 +21,6 @@ tail-loop-token-init t c = record {
   kept = refl;
 }
 
-pub tail-look-requires : goal.tail-look-requires
-tail-look-requires t c = let i = c.loop-token.invariant in
-    let g = i.run in
-    g.moved.within
-
-pub tail-tuple_end-requires : goal.tail-tuple_end-requires
-tail-tuple_end-requires t c = let i = c.loop-token.invariant in
-    let g = i.run in
-    let tk = taken c.in_ok-token.ensures in
-    omega (arith, c.requires)
-
 pub tail-returns-then-token-ne-COMMA : goal.tail-returns-then-token-ne-COMMA
 tail-returns-then-token-ne-COMMA t c = let i = c.loop-token.invariant in
     let g = i.run in
@@ -39,82 +28,43 @@ tail-returns-then-token-ne-COMMA t c = let i = c.loop-token.invariant in
     let e = c.tuple_end.ensures in
     record { how = remade g e i.many (link g.same (way _ (tail_end _ g.what _ i.fuel _ i.enough tk c.if-token-ne-COMMA.true))) g.moved (omega (arith, c.requires, g.moved, g.room, e.up, e.far)) }
 
-pub tail-overflow_add-p : goal.tail-overflow_add-p
-tail-overflow_add-p t c = let tk = taken c.in_ok-token.ensures in
-    omega arith
-
-pub tail-look-requires-in-Token : goal.tail-look-requires-in-Token
-tail-look-requires-in-Token t c = let tk = taken c.in_ok-token.ensures in
-    tk.within
-
-pub tail-overflow_add-result : goal.tail-overflow_add-result
-tail-overflow_add-result t c = let tk = taken c.in_ok-token.ensures in
-    omega arith
-
-pub tail-tuple_end-requires-then-next-eq-CLOSE_PAREN : goal.tail-tuple_end-requires-then-next-eq-CLOSE_PAREN
-tail-tuple_end-requires-then-next-eq-CLOSE_PAREN t c = let i = c.loop-token.invariant in
+pub tail-returns-then-other-eq-CLOSE_PAREN : goal.tail-returns-then-other-eq-CLOSE_PAREN
+tail-returns-then-other-eq-CLOSE_PAREN t c = let i = c.loop-token.invariant in
     let g = i.run in
     let tk = taken c.in_ok-token.ensures in
-    omega (arith, c.requires)
-
-pub tail-returns-then-next-eq-CLOSE_PAREN : goal.tail-returns-then-next-eq-CLOSE_PAREN
-tail-returns-then-next-eq-CLOSE_PAREN t c = let i = c.loop-token.invariant in
-    let g = i.run in
-    let tk = taken c.in_ok-token.ensures in
-    let tn = taken c.in-Token-look.is c.look-in-Token.ensures in
-    let e = c.tuple_end-then-next-eq-CLOSE_PAREN.ensures in
-    record { how = remade g e i.many (link g.same (way _ (tail_last _ g.what _ i.fuel _ i.enough tk c.if-token-ne-COMMA.false tn c.if-next-eq-CLOSE_PAREN.true))) (omega (arith, c.requires, g.moved, tk.within)) (omega (arith, c.requires, g.moved, g.room, e.up, e.far)) }
-
-pub tail-overflow_add-p-in-Token-look : goal.tail-overflow_add-p-in-Token-look
-tail-overflow_add-p-in-Token-look t c = let tk = taken c.in_ok-token.ensures in
-    omega arith
-
-pub tail-binop-end-requires : goal.tail-binop-end-requires
-tail-binop-end-requires t c = let i = c.loop-token.invariant in
-    let g = i.run in
-    let tk = taken c.in_ok-token.ensures in
-    omega (arith, c.requires)
+    let tn = taken c.in_ok-other.ensures in
+    let e = c.tuple_end-then-other-eq-CLOSE_PAREN.ensures in
+    record { how = remade g e i.many (link g.same (way _ (tail_last _ g.what _ i.fuel _ i.enough tk c.if-token-ne-COMMA.false tn c.if-other-eq-CLOSE_PAREN.true))) (omega (arith, c.requires, g.moved, tk.within)) (omega (arith, c.requires, g.moved, g.room, e.up, e.far)) }
 
 pub tail-returns-in_err-end : goal.tail-returns-in_err-end
 tail-returns-in_err-end t c = let i = c.loop-token.invariant in
     let g = i.run in
     let tk = taken c.in_ok-token.ensures in
-    let tn = taken c.in-Token-look.is c.look-in-Token.ensures in
-    rw (handed c.from_residual-in_err-end.ensures.1) (did_not (fails _ (link g.same (way _ (tail_more _ g.what _ i.fuel _ i.enough tk c.if-token-ne-COMMA.false tn c.if-next-eq-CLOSE_PAREN.false))) (undone c.in_err-end.ensures) (prefix g (omega (arith, c.requires))) (omega (arith, c.requires, g.moved, g.room, tk.within))))
-
-pub tail-overflow_add-n : goal.tail-overflow_add-n
-tail-overflow_add-n t c = let i = c.loop-token.invariant in
-    let g = i.run in
-    let tk = taken c.in_ok-token.ensures in
-    omega (arith, c.requires)
-
-pub tail-loop-token-smaller : goal.tail-loop-token-smaller
-tail-loop-token-smaller t c = let tk = taken c.in_ok-token.ensures in
-    let w = done c.in_ok-end.ensures in
-    omega arith
+    let tn = taken c.in_ok-other.ensures in
+    rw (handed c.from_residual-in_err-end.ensures.1) (did_not (fails _ (link g.same (way _ (tail_more _ g.what _ i.fuel _ i.enough tk c.if-token-ne-COMMA.false tn c.if-other-eq-CLOSE_PAREN.false))) (undone c.in_err-end.ensures) (prefix g (omega (arith, c.requires))) (omega (arith, c.requires, g.moved, g.room, tk.within))))
 
 pub tail-loop-token-preserved : goal.tail-loop-token-preserved
 tail-loop-token-preserved t c = let i = c.loop-token.invariant in
     let g = i.run in
     let tk = taken c.in_ok-token.ensures in
-    let tn = taken c.in-Token-look.is c.look-in-Token.ensures in
+    let tn = taken c.in_ok-other.ensures in
     let w = done c.in_ok-end.ensures in
     record {
       fuel = i.fuel - 1;
       enough = omega arith;
-      run = record { what = snoc g.what w.what; same = goes _ (link g.same (way _ (tail_more _ g.what _ i.fuel _ i.enough tk c.if-token-ne-COMMA.false tn c.if-next-eq-CLOSE_PAREN.false))) w.same; moved = omega arith; room = omega arith; text = joined g.what w.what (take c.args.cursor.at c.args.store.now) w.text g.text };
+      run = record { what = snoc g.what w.what; same = goes _ (link g.same (way _ (tail_more _ g.what _ i.fuel _ i.enough tk c.if-token-ne-COMMA.false tn c.if-other-eq-CLOSE_PAREN.false))) w.same; moved = omega arith; room = omega arith; text = joined g.what w.what (take c.args.cursor.at c.args.store.now) w.text g.text };
       many = omega (arith, count_snoc g.what w.what, i.many);
       few = omega arith;
       kept = omega arith;
     }
 
-pub tail-returns-in_err-token-look : goal.tail-returns-in_err-token-look
-tail-returns-in_err-token-look t c = let i = c.loop-token.invariant in
+pub tail-returns-in_err-other : goal.tail-returns-in_err-other
+tail-returns-in_err-other t c = let i = c.loop-token.invariant in
     let g = i.run in
     let tk = taken c.in_ok-token.ensures in
-    rw (handed c.from_residual-in_err-token-look.ensures.1) (did_not (fails_unseen (link g.same (way _ (tail_comma _ g.what _ i.fuel _ i.enough tk c.if-token-ne-COMMA.false))) (record { go = _; is = refl }) c.in_err-token.ensures (prefix g (omega arith)) (omega arith)))
+    rw (handed c.from_residual-in_err-other.ensures.1) (did_not (fails_unseen (link g.same (way _ (tail_comma _ g.what _ i.fuel _ i.enough tk c.if-token-ne-COMMA.false))) (record { go = _; is = refl }) c.in_err-other.ensures (prefix g (omega arith)) (omega arith)))
 
 pub tail-returns-in_err-token : goal.tail-returns-in_err-token
 tail-returns-in_err-token t c = let i = c.loop-token.invariant in
     let g = i.run in
-    rw (handed c.from_residual-in_err-token.ensures.1) (did_not (fails_unseen g.same (tail_looks _ g.what _ _ i.fuel _ i.enough) c.in_err-token.ensures (prefix g (omega arith)) (omega arith)))
+    rw (handed c.from_residual.ensures.1) (did_not (fails_unseen g.same (tail_looks _ g.what _ _ i.fuel _ i.enough) c.in_err-token.ensures (prefix g (omega arith)) (omega arith)))

@@ -7,65 +7,10 @@ use Rattle.cycle.proofs.PathsPrimary.{operand_looks, operand_class, operand_fun,
 use Rattle.cycle.proofs.Writing.{made_list}
 use Rattle.cycle.proofs.+reading.Goals as goal
 
-pub term-overflow_add-result : goal.term-overflow_add-result
-term-overflow_add-result t c = let tk = taken c.in_ok-token.ensures in
-    omega arith
-
-pub term-overflow_add-pos : goal.term-overflow_add-pos
-term-overflow_add-pos t c = let tk = taken c.in_ok-token.ensures in
-    omega arith
-
-pub term-fun-requires : goal.term-fun-requires
-term-fun-requires t c = let tk = taken c.in_ok-token.ensures in
-    omega arith
-
-pub term-overflow_add-pos-in-52 : goal.term-overflow_add-pos-in-52
-term-overflow_add-pos-in-52 t c = let tk = taken c.in_ok-token.ensures in
-    omega arith
-
-pub term-cond-requires : goal.term-cond-requires
-term-cond-requires t c = let tk = taken c.in_ok-token.ensures in
-    omega arith
-
-pub term-overflow_add-pos-in-56 : goal.term-overflow_add-pos-in-56
-term-overflow_add-pos-in-56 t c = let tk = taken c.in_ok-token.ensures in
-    omega arith
-
-pub term-block-requires : goal.term-block-requires
-term-block-requires t c = let tk = taken c.in_ok-token.ensures in
-    omega arith
-
-pub term-overflow_add-pos-in-2 : goal.term-overflow_add-pos-in-2
-term-overflow_add-pos-in-2 t c = let tk = taken c.in_ok-token.ensures in
-    omega arith
-
-pub term-table-items-requires : goal.term-table-items-requires
-term-table-items-requires t c = let tk = taken c.in_ok-token.ensures in
-    omega arith
-
-pub term-returns-in_err-items : goal.term-returns-in_err-items
-term-returns-in_err-items t c = let tk = taken c.in_ok-token.ensures in
+pub term-returns-in_err-items-in-2 : goal.term-returns-in_err-items-in-2
+term-returns-in_err-items-in-2 t c = let tk = taken c.in_ok-token.ensures in
     let path = way _ (operand_table _ _ tk c.in-2.is) in
-    rw (handed c.from_residual-in_err-items.ensures.1) (did_not (fails _ path (undone c.in_err-items.ensures) refl (omega arith)))
-
-pub term-emit-requires : goal.term-emit-requires
-term-emit-requires t c = let tk = taken c.in_ok-token.ensures in
-    let w = done c.in_ok-items.ensures in
-    omega (arith, c.requires, tk.within, w.moved, w.room, c.table-items.auto.store)
-
-pub term-overflow_add-value : goal.term-overflow_add-value
-term-overflow_add-value t c = let tk = taken c.in_ok-token.ensures in
-    let small = taken_label tk c.in-73.is in
-    omega arith
-
-pub term-overflow_add-pos-in-73 : goal.term-overflow_add-pos-in-73
-term-overflow_add-pos-in-73 t c = let tk = taken c.in_ok-token.ensures in
-    let small = taken_label tk c.in-73.is in
-    omega arith
-
-pub term-begin-requires : goal.term-begin-requires
-term-begin-requires t c = let tk = taken c.in_ok-token.ensures in
-    omega arith
+    rw (handed c.from_residual-in_err-items-in-2.ensures.1) (did_not (fails _ path (undone c.in_err-items-in-2.ensures) refl (omega arith)))
 
 pub term-returns-in-66 : goal.term-returns-in-66
 term-returns-in-66 t c = let tk = taken c.in_ok-token.ensures in
@@ -83,19 +28,19 @@ pub term-returns-in-56 : goal.term-returns-in-56
 term-returns-in-56 t c = let tk = taken c.in_ok-token.ensures in
     later (operand_begin _ _ tk c.in-56.is) c.block.ensures (omega arith) (omega arith) (omega arith)
 
-pub term-returns-in-Done : goal.term-returns-in-Done
-term-returns-in-Done t c = let tk = taken c.in_ok-token.ensures in
+pub term-returns-in_ok-items-in-2 : goal.term-returns-in_ok-items-in-2
+term-returns-in_ok-items-in-2 t c = let tk = taken c.in_ok-token.ensures in
     let path = way _ (operand_table _ _ tk c.in-2.is) in
-    let w = done c.in_ok-items.ensures in
+    let w = done c.in_ok-items-in-2.ensures in
     record { how = made_list 17 w c.emit.ensures (goes _ path w.same) (omega (arith, c.requires, tk.within, w.moved)) (omega (arith, w.room, c.emit.ensures.next)) refl }
 
 pub term-returns-in-73 : goal.term-returns-in-73
 term-returns-in-73 t c = let tk = taken c.in_ok-token.ensures in
     later (operand_label _ _ tk c.in-73.is refl) c.begin.ensures (omega arith) (omega arith) (omega arith)
 
-pub term-returns-in_err-items : goal.term-returns-in_err-items
-term-returns-in_err-items t c = let tk = taken c.in_ok-token.ensures in
+pub term-returns-in_default : goal.term-returns-in_default
+term-returns-in_default t c = let tk = taken c.in_ok-token.ensures in
     as_agrees (operand_other _ _ tk (search) (search) (search) (search) (search) (search)) c.dots.ensures
 
 pub term-returns-in_err-token : goal.term-returns-in_err-token
-term-returns-in_err-token t c = rw (handed c.from_residual-in_err-token.ensures.1) (did_not (fails_unseen here (operand_looks _ _ _) c.in_err-token.ensures refl (omega arith)))
+term-returns-in_err-token t c = rw (handed c.from_residual.ensures.1) (did_not (fails_unseen here (operand_looks _ _ _) c.in_err-token.ensures refl (omega arith)))

@@ -8,16 +8,7 @@ use Rattle.cycle.proofs.Trees.{tuple_text}
 use Rattle.cycle.proofs.+reading.Goals as goal
 
 pub tuple-returns-in_err-first : goal.tuple-returns-in_err-first
-tuple-returns-in_err-first t c = rw (handed c.from_residual-in_err-first.ensures.1) (did_not (fails _ (way _ (tuple_step _ _ _)) (undone c.in_err-first.ensures) refl (omega arith)))
-
-pub tuple-look-requires : goal.tuple-look-requires
-tuple-look-requires t c = let w = done c.in_ok-first.ensures in
-    w.moved.within
-
-pub tuple-tail-requires : goal.tuple-tail-requires
-tuple-tail-requires t c = let w = done c.in_ok-first.ensures in
-    let tk = taken c.in_ok-token.ensures in
-    omega arith
+tuple-returns-in_err-first t c = rw (handed c.from_residual.ensures.1) (did_not (fails _ (way _ (tuple_step _ _ _)) (undone c.in_err-first.ensures) refl (omega arith)))
 
 pub tuple-returns-then-token-eq-COMMA : goal.tuple-returns-then-token-eq-COMMA
 tuple-returns-then-token-eq-COMMA t c = let w = done c.in_ok-first.ensures in
@@ -25,8 +16,8 @@ tuple-returns-then-token-eq-COMMA t c = let w = done c.in_ok-first.ensures in
     let tk = taken c.in_ok-token.ensures in
     continued _ (records w.what) c.tail.ensures (link on (way _ (tuple_more _ _ _ tk c.if-token-eq-COMMA.true))) w.text (tuple_text w.what) (prefix w (omega (arith, c.requires))) (omega (arith, c.requires, w.moved, w.room))
 
-pub tuple-returns-else-token-eq-COMMA : goal.tuple-returns-else-token-eq-COMMA
-tuple-returns-else-token-eq-COMMA t c = let w = done c.in_ok-first.ensures in
+pub tuple-returns : goal.tuple-returns
+tuple-returns t c = let w = done c.in_ok-first.ensures in
     let on = goes _ (way _ (tuple_step _ _ _)) w.same in
     let tk = taken c.in_ok-token.ensures in
     record { how = relabel w w.what refl (link on (way _ (tuple_one _ _ _ tk c.if-token-eq-COMMA.false))) w.moved (omega (arith, w.room)) }

@@ -13,29 +13,16 @@ pub unop-returns-then-code-eq0 : goal.unop-returns-then-code-eq0
 unop-returns-then-code-eq0 t c = let tk = taken c.in_ok-token.ensures in
     as_agrees (unary_step _ _ _ c.if-depth-eq0.false ∙ unary_none _ _ tk c.unary_code-code.ensures.0 c.if-code-eq0.true) c.term.ensures
 
-pub unop-overflow_add-pos : goal.unop-overflow_add-pos
-unop-overflow_add-pos t c = let tk = taken c.in_ok-token.ensures in
-    omega arith
-
-pub unop-unop-operand-requires : goal.unop-unop-operand-requires
-unop-unop-operand-requires t c = let tk = taken c.in_ok-token.ensures in
-    omega arith
-
 pub unop-returns-in_err-operand : goal.unop-returns-in_err-operand
 unop-returns-in_err-operand t c = let tk = taken c.in_ok-token.ensures in
     let path = way _ (unary_step _ _ _ c.if-depth-eq0.false ∙ unary_some _ _ tk c.unary_code-code.ensures.0 c.if-code-eq0.false) in
     rw (handed c.from_residual-in_err-operand.ensures.1) (did_not (fails _ path (undone c.in_err-operand.ensures) refl (omega arith)))
 
-pub unop-emit-requires : goal.unop-emit-requires
-unop-emit-requires t c = let tk = taken c.in_ok-token.ensures in
-    let w = done c.in_ok-operand.ensures in
-    omega arith
-
-pub unop-returns-in-Done : goal.unop-returns-in-Done
-unop-returns-in-Done t c = let tk = taken c.in_ok-token.ensures in
+pub unop-returns : goal.unop-returns
+unop-returns t c = let tk = taken c.in_ok-token.ensures in
     let w = done c.in_ok-operand.ensures in
     let path = way _ (unary_step _ _ _ c.if-depth-eq0.false ∙ unary_some _ _ tk c.unary_code-code.ensures.0 c.if-code-eq0.false) in
     record { how = made_one 12 w c.emit.ensures (goes _ path w.same) (omega arith) (omega arith) refl }
 
 pub unop-returns-in_err-token : goal.unop-returns-in_err-token
-unop-returns-in_err-token t c = rw (handed c.from_residual-in_err-token.ensures.1) (did_not (fails_unseen (way _ (unary_step _ _ _ c.if-depth-eq0.false)) (unary_looks _ _ _) c.in_err-token.ensures refl (omega arith)))
+unop-returns-in_err-token t c = rw (handed c.from_residual.ensures.1) (did_not (fails_unseen (way _ (unary_step _ _ _ c.if-depth-eq0.false)) (unary_looks _ _ _) c.in_err-token.ensures refl (omega arith)))

@@ -6,17 +6,13 @@ use Rattle.nodes.proofs.Made.{made_none}
 use Rattle.cycle.proofs.PathsControl.{value_looks, value_none, value_some}
 use Rattle.cycle.proofs.+reading.Goals as goal
 
-pub val-emit-requires : goal.val-emit-requires
-val-emit-requires t c = let tk = taken c.in_ok-token.ensures in
-    omega (arith, c.requires, tk)
-
 pub val-returns-then-ends_control : goal.val-returns-then-ends_control
 val-returns-then-ends_control t c = let tk = taken c.in_ok-token.ensures in
     record { how = made_none 0 c.emit.ensures (way _ (value_none _ _ tk (sym c.ends_control.ensures ∙ c.if-ends_control.true))) (omega arith) (omega arith) refl }
 
-pub val-returns-else-ends_control : goal.val-returns-else-ends_control
-val-returns-else-ends_control t c = let tk = taken c.in_ok-token.ensures in
+pub val-returns : goal.val-returns
+val-returns t c = let tk = taken c.in_ok-token.ensures in
     later (value_some _ _ tk (sym c.ends_control.ensures ∙ c.if-ends_control.false)) c.expr.ensures (omega arith) (omega arith) (omega arith)
 
 pub val-returns-in_err-token : goal.val-returns-in_err-token
-val-returns-in_err-token t c = rw (handed c.from_residual-in_err-token.ensures.1) (did_not (fails_unseen here (value_looks _ _ _) c.in_err-token.ensures refl (omega arith)))
+val-returns-in_err-token t c = rw (handed c.from_residual.ensures.1) (did_not (fails_unseen here (value_looks _ _ _) c.in_err-token.ensures refl (omega arith)))

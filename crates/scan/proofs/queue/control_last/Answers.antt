@@ -35,4 +35,4 @@ unfolding control_last then
 returns c = let tk = taken c.in_ok-token.ensures in
     let u = c.push.ensures in
     let e = c.not_last.ensures in
-    record { how = record { what = tt; same = link (way _ (rw tk.same (other _ _ (sym c.ends.ensures ∙ c.if-ends.false)))) (pushes (not_last_def c.args.k) c.args.queue.now (λ q. ok tt (drop (c.args.pos + 2) c.args.tokens.now)) (sym c.is_full.ensures.full ∙ c.if-is_full.false) (rw e at u)); moved = record { on = omega arith; within = tk.within; more = longer _ _ u } } }
+    record { how = record { what = tt; same = link (way _ (rw tk.same (other _ _ (sym c.ends.ensures ∙ c.if-ends.false)))) (pushes (not_last_def c.args.k) c.args.queue.now (λ q. ok tt (drop (c.args.pos + 2) c.args.tokens.now)) (sym c.is_full.ensures.full ∙ c.if-is_full.false) (rw e at u)); moved = record { on = omega arith; within = tk.within; more = omega (arith, longer _ _ u) } } }
