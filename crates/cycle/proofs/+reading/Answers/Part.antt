@@ -1,8 +1,6 @@
 -- What is left to show of `cycle::part` in its cycle of calls. Assumes nothing.
 use mathlib.Core.Path.{refl}
 use native.Mathlib.Omega.{arith}
-use lib.ListN.{drop}
-use Rattle.grammar.specs.Reading.Depth.{at_depth}
 use Rattle.scan.proofs.Laws.{handed, way, goes, done, undone, did_not, fails, later}
 use Rattle.nodes.proofs.Made.{made_one}
 use Rattle.cycle.proofs.PathsPrimary.{part_member, part_index, part_call, part_table}
@@ -14,8 +12,7 @@ part-returns-in_err-place-in-4 t c = let path = way _ (part_index _ _ _ c.in-4.i
     rw (handed c.from_residual.ensures.1) (did_not (fails _ path (undone c.in_err-place-in-4.ensures) refl (omega arith)))
 
 pub part-returns-in_err-items-in_default : goal.part-returns-in_err-items-in_default
-part-returns-in_err-items-in_default t c = let path2 = way _ (part_table (at_depth c.args.depth) _ (drop c.args.cursor.pos c.args.tokens.now) (search) (search) (search)) in
-    rw (handed c.from_residual-in_err-items-in_default.ensures.1) (did_not (fails _ path2 (undone c.in_err-items-in_default.ensures) refl (omega arith)))
+part-returns-in_err-items-in_default t c = rw (handed c.from_residual-in_err-items-in_default.ensures.1) (did_not (fails _ (way _ (part_table _ _ _ (search) (search) (search))) (undone c.in_err-items-in_default.ensures) refl (omega arith)))
 
 pub part-returns-in-40 : goal.part-returns-in-40
 part-returns-in-40 t c = written c.member.ensures refl (way _ (part_member _ _ _ c.in-40.is)) refl (omega (arith, c.requires.0, c.requires.1))
@@ -29,6 +26,6 @@ pub part-returns-in-0 : goal.part-returns-in-0
 part-returns-in-0 t c = later (part_call _ _ _ c.in-0.is) c.call.ensures (omega arith) (omega arith) (omega arith)
 
 pub part-returns-in_ok-items-in_default : goal.part-returns-in_ok-items-in_default
-part-returns-in_ok-items-in_default t c = let path2 = way _ (part_table (at_depth c.args.depth) _ (drop c.args.cursor.pos c.args.tokens.now) (search) (search) (search)) in
-    let w2 = done c.in_ok-items-in_default.ensures in
-    record { how = made_list 40 w2 c.emit-in_default.ensures (goes _ path2 w2.same) w2.moved (omega (arith, w2.room, c.emit-in_default.ensures.next)) refl }
+part-returns-in_ok-items-in_default t c = let path = way _ (part_table _ _ _ (search) (search) (search)) in
+    let w = done c.in_ok-items-in_default.ensures in
+    record { how = made_list 40 w c.emit-in_default.ensures (goes _ path w.same) w.moved (omega (arith, w.room, c.emit-in_default.ensures.next)) refl }
