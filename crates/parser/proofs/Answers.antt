@@ -188,7 +188,7 @@ module _ (T : List ℕ) (x m : ℕ) (even : Even T) {Q : List ℕ} (empty : Q �
 
   -- as it was told from a queue that is empty
   from_empty : {o : Out Tree} → out Q (next depth_limit [] T) ≡ o → out [] (next depth_limit [] T) ≡ o
-  from_empty e = rw (← empty) e
+  from_empty e = ap (λ (q : List ℕ). out q (next depth_limit [] T)) (sym empty) ∙ e
 
   pub halt_out : {k : ℕ} {s : Stepped} (S S' : List ℕ) → As Q (next depth_limit [] T) [] (stop k) → S' ≡ take 0 S ++ replicate (length S - 0) 0 → length S ≡ m → s ≡ (halted 0 x k).step → leaves s S' ≡ comes
   halt_out S S' a e l i = bare_out S S' m e l i (called_halt (x + length T / 2) m x (next depth_limit [] T) (from_empty a.is))

@@ -19,16 +19,18 @@ pub fn leatherlava_next_stmt(
     ensures { Exports (reader_of position.old waiting.old errors.old stopped.old) tokens.now store.old
         result (reader_of position.new waiting.new errors.new stopped.new) store.new }
 {
+    let given = *errors;
     let reader = Reader {
         position: *position,
         waiting: *waiting,
-        errors: *errors,
+        errors: given,
         stopped: *stopped,
     };
     let Stepped { answer, reader } = next_stmt(reader, tokens, store);
+    let left = reader.errors;
     *position = reader.position;
     *waiting = reader.waiting;
-    *errors = reader.errors;
+    *errors = left;
     *stopped = reader.stopped;
     Flat::from(answer)
 }

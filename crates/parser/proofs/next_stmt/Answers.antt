@@ -12,23 +12,23 @@ pub returns-then-not-is_reader : goal.returns-then-not-is_reader
 returns-then-not-is_reader c = let sh = not-true (no_sheet c.args.reader c.args.tokens.now (length c.args.store.now)) (sym c.is_sheet.ensures ∙ c.if-not-is_sheet.false) in
     bare_out c.args.store.now _ _ c.clear-then-not-is_reader.ensures refl refl (step_refused c.args.reader c.args.tokens.now (length c.args.store.now) sh (sym c.is_reader.ensures ∙ c.if-not-is_reader.true))
 
-pub returns-then-stopped-gt0 : goal.returns-then-stopped-gt0
-returns-then-stopped-gt0 c = let sh = not-true (no_sheet c.args.reader c.args.tokens.now (length c.args.store.now)) (sym c.is_sheet.ensures ∙ c.if-not-is_sheet.false) in
+pub returns-then-reader-gt0 : goal.returns-then-reader-gt0
+returns-then-reader-gt0 c = let sh = not-true (no_sheet c.args.reader c.args.tokens.now (length c.args.store.now)) (sym c.is_sheet.ensures ∙ c.if-not-is_sheet.false) in
     let rd = sym c.is_reader.ensures ∙ c.if-not-is_reader.false in
-    bare_out c.args.store.now _ _ c.clear-then-stopped-gt0.ensures refl refl (step_stopped c.args.reader c.args.tokens.now (length c.args.store.now) sh rd c.if-reader-gt0.true)
+    bare_out c.args.store.now _ _ c.clear-then-reader-gt0.ensures refl refl (step_stopped c.args.reader c.args.tokens.now (length c.args.store.now) sh rd c.if-reader-gt0.true)
 
-pub returns-then-waiting-gt0 : goal.returns-then-waiting-gt0
-returns-then-waiting-gt0 c = let sh = not-true (no_sheet c.args.reader c.args.tokens.now (length c.args.store.now)) (sym c.is_sheet.ensures ∙ c.if-not-is_sheet.false) in
+pub returns-then-reader-gt0-2 : goal.returns-then-reader-gt0-2
+returns-then-reader-gt0-2 c = let sh = not-true (no_sheet c.args.reader c.args.tokens.now (length c.args.store.now)) (sym c.is_sheet.ensures ∙ c.if-not-is_sheet.false) in
     let rd = sym c.is_reader.ensures ∙ c.if-not-is_reader.false in
-    front_out c.args.reader c.args.store.now _ _ c.clear-then-waiting-gt0.ensures refl (step_waiting c.args.reader c.args.tokens.now (length c.args.store.now) sh rd c.if-reader-gt0.false c.if-waiting-gt0.true) (sym c.of-queue.ensures ∙ c.pop.ensures) c.from-error.ensures c.go_on.ensures
+    front_out c.args.reader c.args.store.now _ _ c.clear-then-reader-gt0-2.ensures refl (step_waiting c.args.reader c.args.tokens.now (length c.args.store.now) sh rd c.if-reader-gt0.false c.if-reader-gt0-2.true) (sym c.of-queue.ensures ∙ c.pop.ensures) c.from-error.ensures c.go_on.ensures
 
 pub returns-then-store-count : goal.returns-then-store-count
 returns-then-store-count c = let sh = not-true (no_sheet c.args.reader c.args.tokens.now (length c.args.store.now)) (sym c.is_sheet.ensures ∙ c.if-not-is_sheet.false) in
     let rd = sym c.is_reader.ensures ∙ c.if-not-is_reader.false in
-    bare_out c.args.store.now _ _ c.clear-then-store-count.ensures refl refl (step_short c.args.reader c.args.tokens.now (length c.args.store.now) sh rd c.if-reader-gt0.false c.if-waiting-gt0.false c.if-store-count.true)
+    bare_out c.args.store.now _ _ c.clear-then-store-count.ensures refl refl (step_short c.args.reader c.args.tokens.now (length c.args.store.now) sh rd c.if-reader-gt0.false c.if-reader-gt0-2.false c.if-store-count.true)
 
 pub returns : goal.returns
 returns c = let sh = not-true (no_sheet c.args.reader c.args.tokens.now (length c.args.store.now)) (sym c.is_sheet.ensures ∙ c.if-not-is_sheet.false) in
     let rd = sym c.is_reader.ensures ∙ c.if-not-is_reader.false in
     let fit = a_reader c.args.reader c.args.tokens.now (length c.args.store.now) sh rd in
-    unread_out c.args.tokens.now c.args.reader.position (length c.args.store.now) fit.within c.read_on.ensures (step_reads c.args.reader c.args.tokens.now (length c.args.store.now) sh rd c.if-reader-gt0.false c.if-waiting-gt0.false c.if-store-count.false)
+    unread_out c.args.tokens.now c.args.reader.position (length c.args.store.now) fit.within c.read_on.ensures (step_reads c.args.reader c.args.tokens.now (length c.args.store.now) sh rd c.if-reader-gt0.false c.if-reader-gt0-2.false c.if-store-count.false)

@@ -12,5 +12,5 @@ left_with R m x = record { answer = x; reader = R; store = m }
 
 pub returns : goal.returns
 returns c =
-    let n = c.next_stmt-stepped in
+    let n = c.next_stmt-answer in
     ap (left_with n.result.reader _) c.from.ensures ∙ ap flat_called n.ensures
