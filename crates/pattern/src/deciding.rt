@@ -4,17 +4,13 @@ ghost use Rattle.tree.specs.Tree.{Tree};
 ghost use Rattle.grammar.specs.Reading.Pattern.{can_be_pattern as can_be_pattern_def};
 ghost use Rattle.pattern.specs.Contract.{Whole, ATree, has_members as has_members_def};
 
-use crate::rows::skip;
-use tree::{node, word};
+use tree::{node, skip, word};
 
 // Whether a first word is that of a list with members.
 fn has_members(word: u64) -> bool
     ensures { result ≡ has_members_def word }
 {
-    if word % word::CHILD != node::LIST {
-        return false;
-    }
-    word::CHILD <= word
+    word % word::CHILD == node::LIST && word::CHILD <= word
 }
 
 // Whether the expression from `from` to `to` can be a pattern: exactly if the definition makes one of it.
@@ -45,7 +41,7 @@ pub fn can_be_pattern(store: &[u64], from: usize, to: usize) -> bool
                 if !has_members(list) {
                     return false;
                 }
-                let n = (list / word::CHILD) as usize;
+                let n = list / word::CHILD;
                 let last = store[i - 6];
                 match last {
                     word::ATTRIBUTE => i = skip(store, i - 6, n),

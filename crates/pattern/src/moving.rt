@@ -1,35 +1,10 @@
 // The second step: the records of an expression that can be a pattern become the pattern's. No function here has a failing answer: what a record becomes is
 // told by the record itself and by the first word of its child or last item; whether it may stand there was decided before.
-ghost use Rattle.std.specs.Prelude.{List, ℕ, ◌+◌, ◌≤◌, length};
+ghost use Rattle.std.specs.Prelude.{List, ℕ, ◌≤◌, length};
 ghost use Rattle.tree.specs.Tree.{Tree};
-ghost use Rattle.pattern.specs.Contract.{Right, Left, Access, AnAccess, Moved, Over, over_words, Fit, AFit, Stands};
+ghost use Rattle.pattern.specs.Contract.{Access, AnAccess, Moved, Over, over_words, Fit, AFit, Stands};
 
-use crate::rows::skip;
-use tree::{emit, word};
-
-// Moves the words from `from` to `to` right by `by`.
-fn move_right(store: &mut [u64], from: usize, to: usize, by: usize)
-    requires { (from ≤ to) × (to + by ≤ length store.old) }
-    ensures { Right from to by store.old store.new }
-{
-    let mut k = to;
-    while from < k {
-        k -= 1;
-        store[k + by] = store[k];
-    }
-}
-
-// Moves the words from `from` to `to` left by `by`.
-fn move_left(store: &mut [u64], from: usize, to: usize, by: usize)
-    requires { (by ≤ from) × (from ≤ to) × (to ≤ length store.old) }
-    ensures { Left from to by store.old store.new }
-{
-    let mut k = from;
-    while k < to {
-        store[k - by] = store[k];
-        k += 1;
-    }
-}
+use tree::{emit, skip, word};
 
 // Turns the access that ends at `i` into its pattern, which ends at `w`, and says where the access started.
 // The records are written from the right, so that none is overwritten before it is read.
@@ -37,27 +12,32 @@ fn move_access(store: &mut [u64], i: usize, w: usize) -> usize
     requires { AnAccess store.old i w }
     ensures { (B : List ℕ) (p : Tree) → Access B p store.old i w → Moved B p store.old i w result store.new }
 {
+    prove!(8 <= i);
     let by = w - i;
     let primary = store[i - 1];
     let list = store[i - 4];
     let path = store[i - 3];
-    let n = (list / word::CHILD) as usize;
+    prove!(word::CHILD <= list);
+    let n = list / word::CHILD;
     if store[i - 6] == word::ATTRIBUTE {
         let name = store[i - 5];
         let start = skip(store, i - 6, n);
+        prove!(start <= i - 8);
         emit(store, w - 2, word::ATTRIBUTE_PATTERN, name);
         emit(store, w - 4, word::PRIMARY, primary);
         emit(store, w - 6, list - word::CHILD, path);
-        move_right(store, start, i - 6, by);
+        store.copy_within(start..i - 6, start + by);
         start
     } else {
         let middle = skip(store, i - 6, 1);
+        prove!(middle <= i - 8);
         let start = skip(store, middle, n);
+        prove!(start <= middle);
         emit(store, w - 2, word::INDEX_PATTERN, 0);
-        move_right(store, middle, i - 6, by + 4);
+        store.copy_within(middle..i - 6, middle + by + 4);
         emit(store, middle + by + 2, word::PRIMARY, primary);
         emit(store, middle + by, list - word::CHILD, path);
-        move_right(store, start, middle, by);
+        store.copy_within(start..middle, start + by);
         start
     }
 }
@@ -93,6 +73,7 @@ pub fn move_to_pattern(store: &mut [u64], from: usize, to: usize) -> usize
     let mut i = to;
     let mut w = to;
     while from < i {
+        prove!(2 <= i);
         let word = store[i - 2];
         let value = store[i - 1];
         match word {
@@ -121,7 +102,7 @@ pub fn move_to_pattern(store: &mut [u64], from: usize, to: usize) -> usize
             }
         }
     }
-    let by = w - from;
-    move_left(store, w, to, by);
-    to - by
+    prove!(from <= w);
+    store.copy_within(w..to, from);
+    from + (to - w)
 }

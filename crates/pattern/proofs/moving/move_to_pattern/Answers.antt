@@ -10,6 +10,7 @@ use Rattle.tree.specs.Tree.{Tree}
 use Rattle.tree.specs.Rows.{rows}
 use Rattle.tree.specs.Store.{Emitted}
 use Rattle.grammar.specs.Reading.Pattern.{to_pattern, conv, pattern}
+use Rattle.tree.proofs.Copies.{copied}
 use Rattle.pattern.specs.Word
 use Rattle.pattern.specs.Contract.{Is, Fit, AFit, Access, Moved, Over, over_words}
 use Rattle.pattern.proofs.Decided.{can}
@@ -81,29 +82,11 @@ module _ {S₀ : List ℕ} {from to : ℕ} (a : AFit S₀ from to) where
 pub loop-i-init : goal.loop-i-init
 loop-i-init c = (omega arith, omega arith, refl, λ t p g. record { ahead = []; left = whole_ahead g.whole; done = refl })
 
-pub overflow_sub-word : goal.overflow_sub-word
-overflow_sub-word c = omega (arith, room c.requires c.loop-i.invariant c.loop-i-test.true)
-
-pub overflow_sub-w : goal.overflow_sub-w
-overflow_sub-w c = omega (arith, room c.requires c.loop-i.invariant c.loop-i-test.true)
-
-pub overflow_sub-i : goal.overflow_sub-i
-overflow_sub-i c = omega (arith, room c.requires c.loop-i.invariant c.loop-i-test.true)
-
-pub emit-requires : goal.emit-requires
-emit-requires c = omega (arith, room c.requires c.loop-i.invariant c.loop-i-test.true, within c.requires c.loop-i.invariant)
+pub prove-unreachable-requires : goal.prove-unreachable-requires
+prove-unreachable-requires c = omega (arith, room c.requires c.loop-i.invariant c.loop-i-test.true)
 
 pub loop-i-preserved-in-31 : goal.loop-i-preserved-in-31
 loop-i-preserved-in-31 c = one_record c.requires c.loop-i.invariant c.loop-i-test.true (λ t u g. ident_step (seen c.requires c.loop-i.invariant c.loop-i-test.true g) c.in-31.is) c.emit.auto.store c.emit.ensures
-
-pub overflow_sub-i-in-292 : goal.overflow_sub-i-in-292
-overflow_sub-i-in-292 c = omega (arith, room c.requires c.loop-i.invariant c.loop-i-test.true)
-
-pub overflow_sub-w-then-value-ne0 : goal.overflow_sub-w-then-value-ne0
-overflow_sub-w-then-value-ne0 c = omega (arith, room c.requires c.loop-i.invariant c.loop-i-test.true)
-
-pub emit-requires-then-value-ne0 : goal.emit-requires-then-value-ne0
-emit-requires-then-value-ne0 c = omega (arith, room c.requires c.loop-i.invariant c.loop-i-test.true, within c.requires c.loop-i.invariant)
 
 pub loop-i-preserved-then-value-ne0 : goal.loop-i-preserved-then-value-ne0
 loop-i-preserved-then-value-ne0 c =
@@ -158,8 +141,8 @@ loop-i-preserved c =
           go_over _ (above c.requires c.loop-i.invariant c.loop-i-test.true (search) (search) (search) g) (k.3 t u g).done k.0 o.ensures,
     )
 
-pub overflow_sub-by : goal.overflow_sub-by
-overflow_sub-by c =
+pub prove-unreachable-requires-2 : goal.prove-unreachable-requires-2
+prove-unreachable-requires-2 c =
     let g = c.requires.whole in
     let k = c.loop-i.invariant in
     let b = not_below c.loop-i.store c.loop-i.i (reach c.requires c.loop-i.invariant) (k.3 _ _ (held c.requires)).left in
@@ -168,4 +151,4 @@ overflow_sub-by c =
 pub returns : goal.returns
 returns c =
     let k = c.loop-i.invariant in
-    λ t p g. all_moved g k.2 k.0 k.1 (k.3 t p g) c.loop-i-test.false c.move_left.ensures refl
+    λ t p g. all_moved g k.2 k.0 k.1 (k.3 t p g) c.loop-i-test.false (copied _ _ _ _ (omega arith) c.copy_within.ensures.after)

@@ -1,12 +1,11 @@
--- `pattern::rows::skip` meets its contract: each record that is passed is a tree less and its children more. Assumes nothing.
+-- `tree::skip` meets its contract: each record that is passed is a tree less and its children more. Assumes nothing.
 use mathlib.Core.List.{List}
 use Prim.Native.Nat.{ℕ, ◌-◌, ◌≤◌, ◌<◌}
 use native.Mathlib.Omega.{arith}
 use native.Mathlib.Nat.{le_trans, sub-le}
 use lib.ListN.{length, take}
-use Rattle.tree.specs.Rows.{Trees, ScanStep, scan_step, enough, ended}
-use Rattle.pattern.specs.Contract.{Ended}
-use Rattle.pattern.proofs.rows.skip.Goals as goal
+use Rattle.tree.specs.Rows.{Trees, Ended, ScanStep, scan_step, enough, ended}
+use Rattle.tree.proofs.skip.Goals as goal
 
 -- a turn: the last of the trees is taken apart
 turn : (S : List ℕ) (to n i need : ℕ) (e : Ended (take to S) n) → (i ≤ length S) × ((B : List ℕ) → Trees B (take to S) n → Trees B (take i S) need) → 0 < need → ScanStep e.base S i need
