@@ -21,29 +21,16 @@ pub fn can_be_pattern(store: &[u64], from: usize, to: usize) -> bool
 {
     let mut i = to;
     while from < i {
-        let word = store[i - 2];
-        match word {
+        prove!(2 <= i);
+        match store[i - 2] {
             word::IDENTIFIER | word::GROUP => i -= 2,
-            word::UNPACK => {
-                i -= 2;
-                if store[i - 2] == word::ABSENT {
-                    i -= 2;
-                }
-            }
-            word::TUPLE => {
-                if !has_members(store[i - 4]) {
-                    return false;
-                }
-                i -= 4;
-            }
-            word::PRIMARY => {
-                let list = store[i - 4];
-                if !has_members(list) {
-                    return false;
-                }
-                let n = list / word::CHILD;
-                let last = store[i - 6];
-                match last {
+            word::UNPACK if store[i - 4] == word::ABSENT => i -= 4,
+            word::UNPACK => i -= 2,
+            word::TUPLE if has_members(store[i - 4]) => i -= 4,
+            word::PRIMARY if has_members(store[i - 4]) => {
+                prove!(8 <= i);
+                let n = store[i - 4] / word::CHILD;
+                match store[i - 6] {
                     word::ATTRIBUTE => i = skip(store, i - 6, n),
                     word::INDEX => i = skip(store, i - 6, n + 1),
                     _ => return false,
