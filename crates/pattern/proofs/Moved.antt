@@ -13,9 +13,8 @@ use Rattle.tree.specs.NodeKind
 use Rattle.tree.specs.Tree.{Tree, Forest, node, one, two, count, records}
 use Rattle.tree.specs.Rows.{end, on, rows, push, Starts, rows_push}
 use Rattle.tree.specs.Maybe.{Maybe, nothing, just}
-use Rattle.tree.specs.Store.{Emitted}
+use Rattle.tree.specs.Store.{Emitted, Copied}
 use Rattle.std.proofs.lemmas.Slice.{between_is}
-use Rattle.tree.proofs.Copies.{Copied}
 use Rattle.grammar.specs.Reading.Pattern.{pattern, receiver, conv, to_pattern}
 use Rattle.grammar.proofs.Laws.Facts.{by_test}
 use Rattle.pattern.specs.Word

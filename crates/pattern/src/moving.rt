@@ -1,10 +1,23 @@
 // The second step: the records of an expression that can be a pattern become the pattern's. No function here has a failing answer: what a record becomes is
 // told by the record itself and by the first word of its child or last item; whether it may stand there was decided before.
-ghost use Rattle.std.specs.Prelude.{List, ℕ, ◌≤◌, length};
+ghost use Rattle.std.specs.Prelude.{List, ℕ, ◌+◌, ◌-◌, ◌≤◌, length};
+ghost use Rattle.tree.specs.Store.{Copied};
 ghost use Rattle.tree.specs.Tree.{Tree};
 ghost use Rattle.pattern.specs.Contract.{Access, AnAccess, Moved, Over, over_words, Fit, AFit, Stands};
 
 use tree::{emit, skip, word};
+
+// Moves the words from `from` to `to` to `dest`, where they may stand already. It is a function of its own since the loops of `copy_within`,
+// written in place at each call, make a pattern with an index take a third more instructions.
+#[inline(never)]
+fn move_words(store: &mut [u64], from: usize, to: usize, dest: usize)
+    requires { (from ≤ to) × (to ≤ length store.old) × (dest + (to - from) ≤ length store.old) }
+    ensures { Copied from to dest store.old store.new }
+{
+    if dest != from {
+        store.copy_within(from..to, dest);
+    }
+}
 
 // Turns the access that ends at `i` into its pattern, which ends at `w`, and says where the access started.
 // The records are written from the right, so that none is overwritten before it is read.
@@ -26,7 +39,7 @@ fn move_access(store: &mut [u64], i: usize, w: usize) -> usize
         emit(store, w - 2, word::ATTRIBUTE_PATTERN, name);
         emit(store, w - 4, word::PRIMARY, primary);
         emit(store, w - 6, list - word::CHILD, path);
-        store.copy_within(start..i - 6, start + by);
+        move_words(store, start, i - 6, start + by);
         start
     } else {
         let middle = skip(store, i - 6, 1);
@@ -34,10 +47,10 @@ fn move_access(store: &mut [u64], i: usize, w: usize) -> usize
         let start = skip(store, middle, n);
         prove!(start <= middle);
         emit(store, w - 2, word::INDEX_PATTERN, 0);
-        store.copy_within(middle..i - 6, middle + by + 4);
+        move_words(store, middle, i - 6, middle + by + 4);
         emit(store, middle + by + 2, word::PRIMARY, primary);
         emit(store, middle + by, list - word::CHILD, path);
-        store.copy_within(start..middle, start + by);
+        move_words(store, start, middle, start + by);
         start
     }
 }
@@ -103,6 +116,6 @@ pub fn move_to_pattern(store: &mut [u64], from: usize, to: usize) -> usize
         }
     }
     prove!(from <= w);
-    store.copy_within(w..to, from);
+    move_words(store, w, to, from);
     from + (to - w)
 }

@@ -8,9 +8,9 @@ use lib.Seq.{take-add, take_at, drop-drop}
 use borrow.Author.Rules.{rules}
 use Rattle.std.proofs.lemmas.List.Edits.{length-between}
 use Rattle.std.proofs.lemmas.Slice.{between_is}
-use Rattle.tree.specs.Store.{Emitted}
+use Rattle.tree.specs.Store.{Emitted, Copied}
 use Rattle.tree.specs.Written.{three_written}
-use Rattle.tree.proofs.Copies.{Copied, copied}
+use Rattle.tree.proofs.Copies.{copied}
 use Rattle.tree.proofs.block_result.Goals as goal
 
 further : (m n k : ℕ) (S S' : List ℕ) → k ≡ n + m → drop n S' ≡ drop n S → drop k S' ≡ drop k S

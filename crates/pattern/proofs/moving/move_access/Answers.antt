@@ -7,7 +7,6 @@ use native.Mathlib.Nat.{le_trans, sub-le}
 use lib.ListN.{take, get_or, length-append}
 use Rattle.tree.specs.Tree.{Tree}
 use Rattle.tree.specs.Rows.{rows, Trees, Starts, enough}
-use Rattle.tree.proofs.Copies.{copied}
 use Rattle.pattern.specs.Word
 use Rattle.pattern.specs.Contract.{Access}
 use Rattle.pattern.proofs.Access.{before_last, front_trees, attribute_trees, index_first}
@@ -74,13 +73,10 @@ prove-unreachable-requires-else-store-i-eq-ATTRIBUTE-2 c =
 pub returns-then-store-i-eq-ATTRIBUTE : goal.returns-then-store-i-eq-ATTRIBUTE
 returns-then-store-i-eq-ATTRIBUTE c =
     let e = c.if-store-i-eq-ATTRIBUTE.true in
-    let copy = copied _ _ _ _ (omega arith) c.copy_within.ensures.after in
-    λ B p a. attribute_moved a e (attribute_starts e c.skip-start.ensures a) c.emit.ensures c.emit-then-store-i-eq-ATTRIBUTE.ensures c.emit-then-store-i-eq-ATTRIBUTE-2.ensures copy
+    λ B p a. attribute_moved a e (attribute_starts e c.skip-start.ensures a) c.emit.ensures c.emit-then-store-i-eq-ATTRIBUTE.ensures c.emit-then-store-i-eq-ATTRIBUTE-2.ensures c.move_words.ensures
 
 pub returns-else-store-i-eq-ATTRIBUTE : goal.returns-else-store-i-eq-ATTRIBUTE
 returns-else-store-i-eq-ATTRIBUTE c =
     let f = c.if-store-i-eq-ATTRIBUTE.false in
     let s = c.skip-middle.ensures in
-    let copy = copied _ _ _ _ (omega arith) c.copy_within-else-store-i-eq-ATTRIBUTE.ensures.after in
-    let copy₂ = copied _ _ _ _ (omega arith) c.copy_within-else-store-i-eq-ATTRIBUTE-2.ensures.after in
-    λ B p a. index_moved a (sure_index a f) (index_starts f s c.skip-start-else-store-i-eq-ATTRIBUTE.ensures a) (middle f s a) c.emit-else-store-i-eq-ATTRIBUTE.ensures copy c.emit-else-store-i-eq-ATTRIBUTE-2.ensures c.emit-else-store-i-eq-ATTRIBUTE-3.ensures copy₂ (omega arith)
+    λ B p a. index_moved a (sure_index a f) (index_starts f s c.skip-start-else-store-i-eq-ATTRIBUTE.ensures a) (middle f s a) c.emit-else-store-i-eq-ATTRIBUTE.ensures c.move_words-else-store-i-eq-ATTRIBUTE.ensures c.emit-else-store-i-eq-ATTRIBUTE-2.ensures c.emit-else-store-i-eq-ATTRIBUTE-3.ensures c.move_words-else-store-i-eq-ATTRIBUTE-2.ensures (omega arith)

@@ -10,7 +10,6 @@ use Rattle.tree.specs.Tree.{Tree}
 use Rattle.tree.specs.Rows.{rows}
 use Rattle.tree.specs.Store.{Emitted}
 use Rattle.grammar.specs.Reading.Pattern.{to_pattern, conv, pattern}
-use Rattle.tree.proofs.Copies.{copied}
 use Rattle.pattern.specs.Word
 use Rattle.pattern.specs.Contract.{Is, Fit, AFit, Access, Moved, Over, over_words}
 use Rattle.pattern.proofs.Decided.{can}
@@ -151,4 +150,4 @@ prove-unreachable-requires-2 c =
 pub returns : goal.returns
 returns c =
     let k = c.loop-i.invariant in
-    λ t p g. all_moved g k.2 k.0 k.1 (k.3 t p g) c.loop-i-test.false (copied _ _ _ _ (omega arith) c.copy_within.ensures.after)
+    λ t p g. all_moved g k.2 k.0 k.1 (k.3 t p g) c.loop-i-test.false c.move_words.ensures
