@@ -19,10 +19,13 @@ use Rattle.grammar.specs.Reading.Pattern.{pattern, receiver, conv, to_pattern}
 use Rattle.grammar.proofs.Laws.Facts.{by_test}
 use Rattle.pattern.specs.Word
 use Rattle.pattern.specs.Contract.{Is, Fit, Stands, Access, Moved, Over, over_as, over_words, has_members}
-use Rattle.pattern.proofs.Lists.{keep}
 use Rattle.pattern.proofs.Conv.{wordsM}
 use Rattle.pattern.proofs.Steps.{Ahead, View, all_read, no_pattern, some_members, unpack_room, unpack_absent, unpack_other, tuple_room, tuple_step, tuple_none}
 use Rattle.pattern.proofs.Access.{top_text, top_pat, top_passed, Receives, primary_at, Shape, shape_of, path_none, before_last, no_item_step, attribute_pat, attribute_text, index_of, index_pat, index_text}
+
+-- what stands before a place stands before one further left
+keep : (n at : ℕ) (S S' : List ℕ) → n ≤ at → take at S' ≡ take at S → take n S' ≡ take n S
+keep n at S S' h e = sym (take-take n at S' h) ∙ ap (take n) e ∙ take-take n at S h
 
 -- a record was written at a place: there was room for it, and what stands before it and from it on
 module _ {at word value r : ℕ} {S S' : List ℕ} (p : Emitted at word value r S S') where

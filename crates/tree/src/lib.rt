@@ -29,6 +29,7 @@ pub fn clear(store: &mut [u64], from: usize)
 
 // A block's last statement becomes its result: the words from `last` to `end` move right by three records, and in front of them
 // stand the list of the n statements before it, no control, and their statement list.
+#[inline(never)]
 pub fn block_result(store: &mut [u64], last: usize, end: usize, n: u64)
     requires { (last ≤ end) × (end + 6 ≤ length store.old) × (n ≤ 65536) }
     ensures { Result last end n store.old store.new }
