@@ -29,6 +29,7 @@ pub fn clear(store: &mut [u64], from: usize)
 
 // A block's last statement becomes its result: the words from `last` to `end` move right by three records, and in front of them
 // stand the list of the n statements before it, no control, and their statement list.
+// Out of line, so that the loops of `copy_within` make no frame larger of the reader's functions, which recurse.
 #[inline(never)]
 pub fn block_result(store: &mut [u64], last: usize, end: usize, n: u64)
     requires { (last ≤ end) × (end + 6 ≤ length store.old) × (n ≤ 65536) }
@@ -48,6 +49,7 @@ pub fn skip(store: &[u64], to: usize, n: u64) -> usize
     let mut i = to;
     let mut need = n;
     while 0 < need {
+        prove!(2 <= i);
         i -= 2;
         need = need - 1 + store[i] / word::CHILD;
     }

@@ -41,19 +41,15 @@ module _ {S₀ : List ℕ} {from to : ℕ} (a : AFit S₀ from to) where
       abbrev seen : {t p : Tree} (g : Fit t p S₀ from to) → View (to_pattern t) (take from S₀) S i (k.3 t p g).ahead
       seen g = view reach (k.3 _ _ g).left (shorter S₀ from i l)
 
-      room : (2 ≤ i) × (i ≤ w)
-      room = (omega (arith, (seen held).here.room), k.0)
+      room : 2 ≤ i
+      room = omega (arith, (seen held).here.room)
 
       -- a record is written for the top's own
       one_record : {word value r : ℕ} {S' : List ℕ} → ((t p : Tree) (g : Fit t p S₀ from to) → Ahead (to_pattern t) (take from S₀) (take (i - 2) S) (word ∷ value ∷ (k.3 t p g).ahead))
           → length S' ≡ length S → Emitted (w - 2) word value r S S' → Kept S₀ from to S' (i - 2) (w - 2)
       one_record next e p =
-          let r = room in (
-            omega arith,
-            omega (arith, k.1),
-            e ∙ k.2,
-            λ t u g. go_emit _ (i - 2) w (next t u g) (k.3 t u g).done p (omega arith) (omega arith),
-          )
+          let r = room in
+          (omega arith, omega arith, e ∙ k.2, λ t u g. go_emit _ (i - 2) w (next t u g) (k.3 t u g).done p (omega arith) (omega arith))
 
       -- an access, and the pattern that it is
       abbrev is : {t p : Tree} (g : Fit t p S₀ from to) → Is (conv (seen g).tree pattern)
@@ -72,11 +68,11 @@ module _ {S₀ : List ℕ} {from to : ℕ} (a : AFit S₀ from to) where
         above g = sure_above reach (seen g) g.same x y z
 
         -- how many words are passed
-        few : {r : ℕ} {S' : List ℕ} → Over (over_words S i) w S r S' → (r ≤ i) × (2 ≤ r) × (i ≤ w)
+        few : {r : ℕ} {S' : List ℕ} → Over (over_words S i) w S r S' → (r ≤ i) × (2 ≤ r)
         few o =
             let b = above held in
             let many = o.many in
-            (omega (arith, b.room, b.many), omega (arith, b.many), k.0)
+            (omega arith, omega arith)
 
 pub loop-i-init : goal.loop-i-init
 loop-i-init c = (omega arith, omega arith, refl, λ t p g. record { ahead = []; left = whole_ahead g.whole; done = refl })
@@ -95,7 +91,6 @@ loop-i-preserved-then-value-ne0 c =
 pub loop-i-preserved-else-value-ne0 : goal.loop-i-preserved-else-value-ne0
 loop-i-preserved-else-value-ne0 c =
     let k = c.loop-i.invariant in
-    let r = room c.requires c.loop-i.invariant c.loop-i-test.true in
     (omega arith, k.1, k.2, λ t u g. go_same _ (group_bare (seen c.requires c.loop-i.invariant c.loop-i-test.true g) c.in-292.is c.if-value-ne0.false) (k.3 t u g).done)
 
 pub move_access-start-requires : goal.move_access-start-requires
@@ -104,7 +99,7 @@ move_access-start-requires c = record { base = _; pat = _; it = access c.require
 pub overflow_add-w : goal.overflow_add-w
 overflow_add-w c =
     let m = c.move_access-start.ensures _ _ (access c.requires c.loop-i.invariant c.loop-i-test.true c.in-523.is (held c.requires)) in
-    omega (arith, m.on, room c.requires c.loop-i.invariant c.loop-i-test.true, within c.requires c.loop-i.invariant)
+    omega (arith, m.on)
 
 pub loop-i-smaller-in-523 : goal.loop-i-smaller-in-523
 loop-i-smaller-in-523 c = started c.requires c.loop-i.invariant c.loop-i-test.true c.in-523.is c.move_access-start.ensures
@@ -115,15 +110,15 @@ loop-i-preserved-in-523 c =
     let e = c.in-523.is in
     let m = c.move_access-start in
     let o = (m.ensures _ _ (access c.requires c.loop-i.invariant c.loop-i-test.true e (held c.requires))).on in (
-      omega (arith, k.0),
-      omega (arith, k.0, k.1),
+      omega arith,
+      omega arith,
       m.auto.store ∙ k.2,
       λ t u g.
           go_access _ (seen c.requires c.loop-i.invariant c.loop-i-test.true g) (is c.requires c.loop-i.invariant c.loop-i-test.true g).same (k.3 t u g).done (m.ensures _ _ (access c.requires c.loop-i.invariant c.loop-i-test.true e g)),
     )
 
 pub put_over-n-requires : goal.put_over-n-requires
-put_over-n-requires c = ((above c.requires c.loop-i.invariant c.loop-i-test.true (search) (search) (search) (held c.requires)).room, c.loop-i.invariant.0, within c.requires c.loop-i.invariant)
+put_over-n-requires c = ((above c.requires c.loop-i.invariant c.loop-i-test.true (search) (search) (search) (held c.requires)).room, omega arith, omega arith)
 
 pub overflow_sub-i-in_default : goal.overflow_sub-i-in_default
 overflow_sub-i-in_default c = (few c.requires c.loop-i.invariant c.loop-i-test.true (search) (search) (search) c.put_over-n.ensures).0
@@ -134,7 +129,7 @@ loop-i-preserved c =
     let o = c.put_over-n in
     let f = few c.requires c.loop-i.invariant c.loop-i-test.true (search) (search) (search) o.ensures in (
       omega arith,
-      omega (arith, k.1),
+      omega arith,
       o.auto.store ∙ k.2,
       λ t u g.
           go_over _ (above c.requires c.loop-i.invariant c.loop-i-test.true (search) (search) (search) g) (k.3 t u g).done k.0 o.ensures,
