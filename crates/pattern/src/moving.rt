@@ -87,9 +87,8 @@ pub fn move_to_pattern(store: &mut [u64], from: usize, to: usize) -> usize
     let mut w = to;
     while from < i {
         prove!(2 <= i);
-        let word = store[i - 2];
         let value = store[i - 1];
-        match word {
+        match store[i - 2] {
             word::IDENTIFIER => {
                 w -= 2;
                 i -= 2;
