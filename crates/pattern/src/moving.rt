@@ -78,7 +78,8 @@ fn put_over(store: &mut [u64], i: usize, w: usize) -> usize
 }
 
 // Turns the expression from `from` to `to`, which can be a pattern, into the pattern, and says where that ends.
-// The pattern has no more records than the expression: they are written from the right, up to `to`, and then moved left to `from`.
+// The pattern has no more records than the expression: they are written from the right, up to `to`, and then moved left to `from`. A group's value is 0 or
+// 1 + its action.
 pub fn move_to_pattern(store: &mut [u64], from: usize, to: usize) -> usize
     requires { AFit store.old from to }
     ensures { (t p : Tree) → Fit t p store.old from to → Stands p store.old from to result store.new }
@@ -96,9 +97,9 @@ pub fn move_to_pattern(store: &mut [u64], from: usize, to: usize) -> usize
             }
             word::GROUP => {
                 i -= 2;
-                if value != 0 {
+                if let Some(action) = value.checked_sub(1) {
                     w -= 2;
-                    emit(store, w, word::MODIFIER, value - 1);
+                    emit(store, w, word::MODIFIER, action);
                 }
             }
             word::PRIMARY => {

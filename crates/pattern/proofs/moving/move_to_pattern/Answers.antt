@@ -83,15 +83,16 @@ prove-unreachable-requires c = omega (arith, room c.requires c.loop-i.invariant 
 pub loop-i-preserved-in-31 : goal.loop-i-preserved-in-31
 loop-i-preserved-in-31 c = one_record c.requires c.loop-i.invariant c.loop-i-test.true (λ t u g. ident_step (seen c.requires c.loop-i.invariant c.loop-i-test.true g) c.in-31.is) c.emit.auto.store c.emit.ensures
 
-pub loop-i-preserved-then-value-ne0 : goal.loop-i-preserved-then-value-ne0
-loop-i-preserved-then-value-ne0 c =
-    let e = c.emit-then-value-ne0 in
-    one_record c.requires c.loop-i.invariant c.loop-i-test.true (λ t u g. group_modified (seen c.requires c.loop-i.invariant c.loop-i-test.true g) c.in-292.is c.if-value-ne0.true) e.auto.store e.ensures
+pub loop-i-preserved-in-Some : goal.loop-i-preserved-in-Some
+loop-i-preserved-in-Some c =
+    let s = c.in-Some.ensures in
+    let e = c.emit-in-Some in
+    one_record c.requires c.loop-i.invariant c.loop-i-test.true (λ t u g. rw s.1 (group_modified (seen c.requires c.loop-i.invariant c.loop-i-test.true g) c.in-292.is (λ z. omega (arith, s.0, z)))) e.auto.store e.ensures
 
-pub loop-i-preserved-else-value-ne0 : goal.loop-i-preserved-else-value-ne0
-loop-i-preserved-else-value-ne0 c =
+pub loop-i-preserved-in_default-checked_sub : goal.loop-i-preserved-in_default-checked_sub
+loop-i-preserved-in_default-checked_sub c =
     let k = c.loop-i.invariant in
-    (omega arith, k.1, k.2, λ t u g. go_same _ (group_bare (seen c.requires c.loop-i.invariant c.loop-i-test.true g) c.in-292.is c.if-value-ne0.false) (k.3 t u g).done)
+    (omega arith, k.1, k.2, λ t u g. go_same _ (group_bare (seen c.requires c.loop-i.invariant c.loop-i-test.true g) c.in-292.is (omega (arith, c.in_default-checked_sub.ensures))) (k.3 t u g).done)
 
 pub move_access-start-requires : goal.move_access-start-requires
 move_access-start-requires c = record { base = _; pat = _; it = access c.requires c.loop-i.invariant c.loop-i-test.true c.in-523.is (held c.requires) }
