@@ -1,5 +1,4 @@
 -- What the proofs of several functions use; `Decided` is used in `nodes` too.
-mod Lists
 mod Conv
 mod Steps
 mod Access

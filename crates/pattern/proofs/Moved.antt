@@ -8,21 +8,24 @@ use native.Mathlib.Nat.{le_trans}
 use borrow.Author.Tests.{eqb-true, eqb-false}
 use lib.Dec.{eqb}
 use lib.ListN.{length, take, drop, get_or, length-append, length-take, length-drop, take-append-drop}
-use lib.Seq.{take-take, take_at, drop_at, drop-drop, length-take-le}
+use lib.Seq.{take-take, take-add, take_at, drop_at, drop-drop, drop-append-add, length-take-le}
 use Rattle.tree.specs.NodeKind
 use Rattle.tree.specs.Tree.{Tree, Forest, node, one, two, count, records}
 use Rattle.tree.specs.Rows.{end, on, rows, push, Starts, rows_push}
 use Rattle.tree.specs.Maybe.{Maybe, nothing, just}
-use Rattle.tree.specs.Store.{Emitted}
-use Rattle.tree.specs.Written.{drop_take}
+use Rattle.tree.specs.Store.{Emitted, Copied}
+use Rattle.std.proofs.lemmas.Slice.{between_is}
 use Rattle.grammar.specs.Reading.Pattern.{pattern, receiver, conv, to_pattern}
 use Rattle.grammar.proofs.Laws.Facts.{by_test}
 use Rattle.pattern.specs.Word
-use Rattle.pattern.specs.Contract.{Is, Right, Left, Fit, Stands, Access, Moved, Over, over_as, over_words, has_members}
-use Rattle.pattern.proofs.Lists.{keep}
+use Rattle.pattern.specs.Contract.{Is, Fit, Stands, Access, Moved, Over, over_as, over_words, has_members}
 use Rattle.pattern.proofs.Conv.{wordsM}
 use Rattle.pattern.proofs.Steps.{Ahead, View, all_read, no_pattern, some_members, unpack_room, unpack_absent, unpack_other, tuple_room, tuple_step, tuple_none}
 use Rattle.pattern.proofs.Access.{top_text, top_pat, top_passed, Receives, primary_at, Shape, shape_of, path_none, before_last, no_item_step, attribute_pat, attribute_text, index_of, index_pat, index_text}
+
+-- what stands before a place stands before one further left
+keep : (n at : ℕ) (S S' : List ℕ) → n ≤ at → take at S' ≡ take at S → take n S' ≡ take n S
+keep n at S S' h e = sym (take-take n at S' h) ∙ ap (take n) e ∙ take-take n at S h
 
 -- a record was written at a place: there was room for it, and what stands before it and from it on
 module _ {at word value r : ℕ} {S S' : List ℕ} (p : Emitted at word value r S S') where
@@ -44,12 +47,9 @@ module _ {at word value r : ℕ} {S S' : List ℕ} (p : Emitted at word value r 
       ∙ drop_at (take at S) (word ∷ value ∷ drop r S') at taken
       ∙ ap (λ (l : List ℕ). word ∷ value ∷ l) (p.rest ∙ ap (λ (k : ℕ). drop k S) (p.next ∙ e))
 
-module _ {from to by : ℕ} {S S' : List ℕ} (p : Right from to by S S') where
-  before_right : (n : ℕ) → n ≤ from + by → take n S' ≡ take n S
-  before_right n h = keep n (from + by) S S' h p.head
-
-  right_then : (m n : ℕ) → from + by ≡ m → to + by ≡ n → drop m S' ≡ drop from (take to S) ++ drop n S
-  right_then m n d e = ap (λ (k : ℕ). drop k S') (sym d) ∙ p.tail ∙ ap (λ (k : ℕ). drop from (take to S) ++ drop k S) e
+module _ {from to dest : ℕ} {S S' : List ℕ} (p : Copied from to dest S S') where
+  copied_then : (m n : ℕ) → dest ≡ m → dest + (to - from) ≡ n → drop m S' ≡ drop from (take to S) ++ drop n S
+  copied_then m n d e = ap (λ (k : ℕ). drop k S') (sym d) ∙ p.onward ∙ ap (λ (k : ℕ). drop from (take to S) ++ drop k S) e
 
 just_not : {p : Tree} (m : Maybe Tree) → m ≡ just p → m ≡ nothing → ⊥
 just_not m a b = let z : ◌≡◌ {A = ℕ} 0 1 = cc in omega arith
@@ -93,7 +93,7 @@ module _ {B : List ℕ} {p : Tree} {S : List ℕ} {i w : ℕ} (a : Access B p S 
       omega arith
 
   pub attribute_moved : {S₁ S₂ S₃ S₄ : List ℕ} {r r₁ r₂ r₃ : ℕ} → get_or S (i - 6) 0 ≡ Word.Attribute → Starts B S r
-      → Emitted (w - 2) Word.AttributePattern (get_or S (i - 5) 0) r₁ S S₁ → Emitted (w - 4) Word.Primary (get_or S (i - 1) 0) r₂ S₁ S₂ → Emitted (w - 6) (get_or S (i - 4) 0 - 256) (get_or S (i - 3) 0) r₃ S₂ S₃ → Right r (i - 6) (w - i) S₃ S₄
+      → Emitted (w - 2) Word.AttributePattern (get_or S (i - 5) 0) r₁ S S₁ → Emitted (w - 4) Word.Primary (get_or S (i - 1) 0) r₂ S₁ S₂ → Emitted (w - 6) (get_or S (i - 4) 0 - 256) (get_or S (i - 3) 0) r₃ S₂ S₃ → Copied r (i - 6) (r + (w - i)) S₃ S₄
       → Moved B p S i w r S₄
   attribute_moved {S₁ = S₁} {S₂ = S₂} {S₃ = S₃} {S₄ = S₄} {r = r} e s p₁ p₂ p₃ m =
       let sh = sure_shape a in
@@ -101,7 +101,7 @@ module _ {B : List ℕ} {p : Tree} {S : List ℕ} {i w : ℕ} (a : Access B p S 
       let same : take (i - 6) S₃ ≡ take (i - 6) S = before_record p₃ (i - 6) (omega arith) ∙ before_record p₂ (i - 6) (omega arith) ∙ before_record p₁ (i - 6) (omega arith) in
       let text : drop r (take (i - 6) S₃) ≡ rows (before_last sh) = ap (drop r) (same ∙ attribute_text sh e) ∙ drop_at B (rows (before_last sh)) r (sym at) in
       let words : drop (r + (w - i)) S₄ ≡ rows (before_last sh) ++ (NodeKind.List + 256 * count sh.front) ∷ sh.w ∷ Word.Primary ∷ sh.v ∷ Word.AttributePattern ∷ get_or S (i - 5) 0 ∷ drop w S
-      = right_then m (r + (w - i)) (w - 6) refl (omega arith)
+      = copied_then m (r + (w - i)) (w - 6) refl (omega arith)
       ∙ ap (λ (l : List ℕ). l ++ drop (w - 6) S₃) text
       ∙ ap (λ (l : List ℕ). rows (before_last sh) ++ l)
       (record_then p₃ (w - 4) (omega arith)
@@ -111,13 +111,13 @@ module _ {B : List ℕ} {p : Tree} {S : List ℕ} {i w : ℕ} (a : Access B p S 
       record {
         at = at;
         on = omega arith;
-        head = before_right m r (omega arith) ∙ before_record p₃ r (omega arith) ∙ before_record p₂ r (omega arith) ∙ before_record p₁ r (omega arith) ∙ s.text;
+        head = m.before r (omega arith) ∙ before_record p₃ r (omega arith) ∙ before_record p₂ r (omega arith) ∙ before_record p₁ r (omega arith) ∙ s.text;
         tail = words ∙ attribute_records sh.v sh.atom sh.w sh.front (get_or S (i - 5) 0) (drop w S)
             ∙ ap (λ (t : Tree). records t ++ drop w S) (same_pat (conv a.tree pattern) a.same (attribute_pat sh e));
       }
 
   pub index_moved : {S₁ S₂ S₃ S₄ S₅ : List ℕ} {r q r₁ r₂ r₃ : ℕ} → (e : get_or S (i - 6) 0 ≡ Word.Index) → Starts B S r → Starts (B ++ rows (before_last (sure_shape a))) S q
-      → Emitted (w - 2) Word.IndexPattern 0 r₁ S S₁ → Right q (i - 6) (w - i + 4) S₁ S₂ → Emitted (q + (w - i) + 2) Word.Primary (get_or S (i - 1) 0) r₂ S₂ S₃ → Emitted (q + (w - i)) (get_or S (i - 4) 0 - 256) (get_or S (i - 3) 0) r₃ S₃ S₄ → Right r q (w - i) S₄ S₅
+      → Emitted (w - 2) Word.IndexPattern 0 r₁ S S₁ → Copied q (i - 6) (q + (w - i) + 4) S₁ S₂ → Emitted (q + (w - i) + 2) Word.Primary (get_or S (i - 1) 0) r₂ S₂ S₃ → Emitted (q + (w - i)) (get_or S (i - 4) 0 - 256) (get_or S (i - 3) 0) r₃ S₃ S₄ → Copied r q (r + (w - i)) S₄ S₅
       → q ≤ i - 6
       → Moved B p S i w r S₅
   unfolding rows
@@ -129,25 +129,25 @@ module _ {B : List ℕ} {p : Tree} {S : List ℕ} {i w : ℕ} (a : Access B p S 
       let at' = t.at in
       let more_than : r ≤ q = omega (arith, length-append B X) in
       let first : take (i - 6) S₁ ≡ take (i - 6) S = before_record p₁ (i - 6) (omega arith) in
-      let low : take q S₄ ≡ B ++ X = before_record p₃ q (omega arith) ∙ before_record p₂ q (omega arith) ∙ before_right m₁ q (omega arith) ∙ before_record p₁ q (omega arith) ∙ t.text in
+      let low : take q S₄ ≡ B ++ X = before_record p₃ q (omega arith) ∙ before_record p₂ q (omega arith) ∙ m₁.before q (omega arith) ∙ before_record p₁ q (omega arith) ∙ t.text in
       let expr : drop q (take (i - 6) S₁) ≡ records u = ap (drop q) (first ∙ index_text sh e ∙ sym (append_assoc B X (records u))) ∙ drop_at (B ++ X) (records u) q (sym at') in
       let text : drop r (take q S₄) ≡ X = ap (drop r) low ∙ drop_at B X r (sym at) in
       let words : drop (r + (w - i)) S₅ ≡ X ++ (NodeKind.List + 256 * count sh.front) ∷ sh.w ∷ Word.Primary ∷ sh.v ∷ (records u ++ Word.IndexPattern ∷ 0 ∷ drop w S)
-      = right_then m₂ (r + (w - i)) (q + (w - i)) refl refl
+      = copied_then m₂ (r + (w - i)) (q + (w - i)) refl (omega arith)
       ∙ ap (λ (l : List ℕ). l ++ drop (q + (w - i)) S₄) text
       ∙ ap (λ (l : List ℕ). X ++ l)
       (record_then p₃ (q + (w - i) + 2) refl
       ∙ ap (λ (l : List ℕ). (get_or S (i - 4) 0 - 256) ∷ get_or S (i - 3) 0 ∷ l)
-      (record_then p₂ (q + (w - i + 4)) (omega arith)
+      (record_then p₂ (q + (w - i) + 4) (omega arith)
       ∙ ap (λ (l : List ℕ). Word.Primary ∷ get_or S (i - 1) 0 ∷ l)
-      (right_then m₁ (q + (w - i + 4)) (w - 2) refl (omega arith)
+      (copied_then m₁ (q + (w - i) + 4) (w - 2) refl (omega arith)
       ∙ ap (λ (l : List ℕ). l ++ drop (w - 2) S₁) expr
       ∙ ap (λ (l : List ℕ). records u ++ l) (record_then p₁ w (omega arith))))
       ∙ rw (shorter_list, sh.list_value, sh.prim_value)) in
       record {
         at = at;
         on = omega arith;
-        head = before_right m₂ r (omega arith) ∙ before_record p₃ r (omega arith) ∙ before_record p₂ r (omega arith) ∙ before_right m₁ r (omega arith) ∙ before_record p₁ r (omega arith) ∙ s.text;
+        head = m₂.before r (omega arith) ∙ before_record p₃ r (omega arith) ∙ before_record p₂ r (omega arith) ∙ m₁.before r (omega arith) ∙ before_record p₁ r (omega arith) ∙ s.text;
         tail = words ∙ index_records sh.v sh.atom sh.w sh.front u (drop w S)
             ∙ ap (λ (t : Tree). records t ++ drop w S) (same_pat (conv a.tree pattern) a.same (index_pat sh e));
       }
@@ -255,20 +255,25 @@ base_text {B = B} S i h a =
     let l = not_below S i h a in
     sym (take-take (length B) i S l) ∙ ap (take (length B)) a.text ∙ take_at B (rows a.row) (length B) refl
 
-pub all_moved : {t p : Tree} {S₀ S S' : List ℕ} {from to i w r : ℕ} → Fit t p S₀ from to → length S ≡ length S₀ → i ≤ w → w ≤ to → Going (to_pattern t) (take from S₀) (drop to S₀) S i w → i ≤ from
-    → Left w to (w - from) S S' → r ≡ to - (w - from) → Stands p S₀ from to r S'
-all_moved {t = t} {p = p} {S₀ = S₀} {S = S} {S' = S'} {from = from} {to = to} {i = i} {w = w} {r = r} g kept a b q c l e =
+pub all_moved : {t p : Tree} {S₀ S S' : List ℕ} {from to i w : ℕ} → Fit t p S₀ from to → length S ≡ length S₀ → i ≤ w → w ≤ to → Going (to_pattern t) (take from S₀) (drop to S₀) S i w → i ≤ from
+    → Copied w to from S S' → Stands p S₀ from to (from + (to - w)) S'
+all_moved {t = t} {p = p} {S₀ = S₀} {S = S} {S' = S'} {from = from} {to = to} {i = i} {w = w} g kept a b q c l =
     let h : i ≤ length S = omega arith in
     let n : length (take from S₀) ≡ from = length-take-le from S₀ (omega arith) in
     let low = not_below S i h q.left in
     let words : q.ahead ≡ records p = same_words (to_pattern t) p q.ahead g.same (all_read S i h q.left (omega arith)) in
     let size : length S - w ≡ length q.ahead + (length S₀ - to) = sym (length-drop w S) ∙ ap length q.done ∙ length-append q.ahead (drop to S₀) ∙ ap (λ (n : ℕ). length q.ahead + n) (length-drop to S₀) in
     let long : length q.ahead ≡ to - w = omega arith in
-    let tail : drop w (take to S) ≡ records p = drop_take S w to b (omega arith) ∙ ap (take (to - w)) q.done ∙ take_at q.ahead (drop to S₀) (to - w) long ∙ words in
-    let head : take (w - (w - from)) S ≡ take from S₀ = ap (λ (n : ℕ). take n S) (let z : w - (w - from) ≡ length (take from S₀) = omega arith in z) ∙ base_text S i h q.left in
+    let part : drop w (take to S) ≡ q.ahead = sym (between_is S w to) ∙ ap (take (to - w)) q.done ∙ take_at q.ahead (drop to S₀) (to - w) long in
+    let head : take from S' ≡ take from S₀ = l.before from (omega arith) ∙ ap (λ (n : ℕ). take n S) (sym n) ∙ base_text S i h q.left in
+    let tail : drop from S' ≡ q.ahead ++ drop (from + (to - w)) S = l.onward ∙ rw part in
+    let whole : to ≡ from + (length q.ahead + (w - from)) = omega arith in
+    let over : from + (to - w) + (w - from) ≡ to = omega arith in
+    let past : drop to S' ≡ drop to S = ap (λ (n : ℕ). drop n S') whole ∙ sym (drop-drop (length q.ahead + (w - from)) from S') ∙ ap (drop (length q.ahead + (w - from))) tail
+    ∙ drop-append-add q.ahead (drop (from + (to - w)) S) (w - from) ∙ drop-drop (w - from) (from + (to - w)) S ∙ ap (λ (n : ℕ). drop n S) over in
     let after : drop to S ≡ drop to S₀ = ap (λ (n : ℕ). drop n S) (let z : to ≡ w + (to - w) = omega arith in z) ∙ sym (drop-drop (to - w) w S) ∙ ap (drop (to - w)) q.done ∙ drop_at q.ahead (drop to S₀) (to - w) long in
     record {
-      text = ap (λ (n : ℕ). take n S') e ∙ l.text ∙ rw (head, tail);
+      text = take-add from (to - w) S' ∙ rw (head, tail, take_at q.ahead (drop (from + (to - w)) S) (to - w) long, words);
       short = omega arith;
-      rest = l.rest ∙ after;
+      rest = past ∙ after;
     }

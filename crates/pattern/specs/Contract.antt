@@ -3,25 +3,9 @@ use Rattle.std.specs.Prelude.{◌≡◌, Bool, true, false, ◌&&◌, List, [], 
 use Rattle.tree.specs.NodeKind
 use Rattle.tree.specs.Tree.{Tree, records}
 use Rattle.tree.specs.Records.{Small}
-use Rattle.tree.specs.Rows.{Trees}
 use Rattle.tree.specs.Maybe.{Maybe, just}
 use Rattle.grammar.specs.Reading.Pattern.{to_pattern, can_be_pattern}
 use Rattle.pattern.specs.Word
-
--- the words from «from» to «to» moved right: what stood before their new place is as it was, and so is what stands after it
-pub record Right (from to by : ℕ) (S S' : List ℕ) : Type 0 where
-  pub head : take (from + by) S' ≡ take (from + by) S
-  pub tail : drop (from + by) S' ≡ drop from (take to S) ++ drop (to + by) S
-
--- the words from «from» to «to» moved left: what stood before their new place is as it was, and so is what stood after their old one
-pub record Left (from to by : ℕ) (S S' : List ℕ) : Type 0 where
-  pub text : take (to - by) S' ≡ take (from - by) S ++ drop from (take to S)
-  pub rest : drop to S' ≡ drop to S
-
--- n trees end here, after something
-pub record Ended (T : List ℕ) (n : ℕ) : Type 0 where
-  pub base : List ℕ
-  pub trees : Trees base T n
 
 -- the tree t stands from «from» to «to»
 pub record Whole (t : Tree) (S : List ℕ) (from to : ℕ) : Type 0 where

@@ -4,17 +4,13 @@ ghost use Rattle.tree.specs.Tree.{Tree};
 ghost use Rattle.grammar.specs.Reading.Pattern.{can_be_pattern as can_be_pattern_def};
 ghost use Rattle.pattern.specs.Contract.{Whole, ATree, has_members as has_members_def};
 
-use crate::rows::skip;
-use tree::{node, word};
+use tree::{node, skip, word};
 
 // Whether a first word is that of a list with members.
 fn has_members(word: u64) -> bool
     ensures { result ≡ has_members_def word }
 {
-    if word % word::CHILD != node::LIST {
-        return false;
-    }
-    word::CHILD <= word
+    word % word::CHILD == node::LIST && word::CHILD <= word
 }
 
 // Whether the expression from `from` to `to` can be a pattern: exactly if the definition makes one of it.
@@ -25,29 +21,16 @@ pub fn can_be_pattern(store: &[u64], from: usize, to: usize) -> bool
 {
     let mut i = to;
     while from < i {
-        let word = store[i - 2];
-        match word {
+        prove!(2 <= i);
+        match store[i - 2] {
             word::IDENTIFIER | word::GROUP => i -= 2,
-            word::UNPACK => {
-                i -= 2;
-                if store[i - 2] == word::ABSENT {
-                    i -= 2;
-                }
-            }
-            word::TUPLE => {
-                if !has_members(store[i - 4]) {
-                    return false;
-                }
-                i -= 4;
-            }
-            word::PRIMARY => {
-                let list = store[i - 4];
-                if !has_members(list) {
-                    return false;
-                }
-                let n = (list / word::CHILD) as usize;
-                let last = store[i - 6];
-                match last {
+            word::UNPACK if store[i - 4] == word::ABSENT => i -= 4,
+            word::UNPACK => i -= 2,
+            word::TUPLE if has_members(store[i - 4]) => i -= 4,
+            word::PRIMARY if has_members(store[i - 4]) => {
+                prove!(8 <= i);
+                let n = store[i - 4] / word::CHILD;
+                match store[i - 6] {
                     word::ATTRIBUTE => i = skip(store, i - 6, n),
                     word::INDEX => i = skip(store, i - 6, n + 1),
                     _ => return false,

@@ -6,4 +6,3 @@
 
 pub mod deciding;
 pub mod moving;
-mod rows;

@@ -1,33 +1,21 @@
 // The second step: the records of an expression that can be a pattern become the pattern's. No function here has a failing answer: what a record becomes is
 // told by the record itself and by the first word of its child or last item; whether it may stand there was decided before.
-ghost use Rattle.std.specs.Prelude.{List, ℕ, ◌+◌, ◌≤◌, length};
+ghost use Rattle.std.specs.Prelude.{List, ℕ, ◌+◌, ◌-◌, ◌≤◌, length};
+ghost use Rattle.tree.specs.Store.{Copied};
 ghost use Rattle.tree.specs.Tree.{Tree};
-ghost use Rattle.pattern.specs.Contract.{Right, Left, Access, AnAccess, Moved, Over, over_words, Fit, AFit, Stands};
+ghost use Rattle.pattern.specs.Contract.{Access, AnAccess, Moved, Over, over_words, Fit, AFit, Stands};
 
-use crate::rows::skip;
-use tree::{emit, word};
+use tree::{emit, skip, word};
 
-// Moves the words from `from` to `to` right by `by`.
-fn move_right(store: &mut [u64], from: usize, to: usize, by: usize)
-    requires { (from ≤ to) × (to + by ≤ length store.old) }
-    ensures { Right from to by store.old store.new }
+// Moves the words from `from` to `to` to `dest`, where they may stand already. It is a function of its own since the loops of `copy_within`,
+// written in place at each call, make a pattern with an index take a third more instructions.
+#[inline(never)]
+fn move_words(store: &mut [u64], from: usize, to: usize, dest: usize)
+    requires { (from ≤ to) × (to ≤ length store.old) × (dest + (to - from) ≤ length store.old) }
+    ensures { Copied from to dest store.old store.new }
 {
-    let mut k = to;
-    while from < k {
-        k -= 1;
-        store[k + by] = store[k];
-    }
-}
-
-// Moves the words from `from` to `to` left by `by`.
-fn move_left(store: &mut [u64], from: usize, to: usize, by: usize)
-    requires { (by ≤ from) × (from ≤ to) × (to ≤ length store.old) }
-    ensures { Left from to by store.old store.new }
-{
-    let mut k = from;
-    while k < to {
-        store[k - by] = store[k];
-        k += 1;
+    if dest != from {
+        store.copy_within(from..to, dest);
     }
 }
 
@@ -37,27 +25,32 @@ fn move_access(store: &mut [u64], i: usize, w: usize) -> usize
     requires { AnAccess store.old i w }
     ensures { (B : List ℕ) (p : Tree) → Access B p store.old i w → Moved B p store.old i w result store.new }
 {
+    prove!(8 <= i);
     let by = w - i;
     let primary = store[i - 1];
     let list = store[i - 4];
     let path = store[i - 3];
-    let n = (list / word::CHILD) as usize;
+    prove!(word::CHILD <= list);
+    let n = list / word::CHILD;
     if store[i - 6] == word::ATTRIBUTE {
         let name = store[i - 5];
         let start = skip(store, i - 6, n);
+        prove!(start <= i - 8);
         emit(store, w - 2, word::ATTRIBUTE_PATTERN, name);
         emit(store, w - 4, word::PRIMARY, primary);
         emit(store, w - 6, list - word::CHILD, path);
-        move_right(store, start, i - 6, by);
+        move_words(store, start, i - 6, start + by);
         start
     } else {
         let middle = skip(store, i - 6, 1);
+        prove!(middle <= i - 8);
         let start = skip(store, middle, n);
+        prove!(start <= middle);
         emit(store, w - 2, word::INDEX_PATTERN, 0);
-        move_right(store, middle, i - 6, by + 4);
+        move_words(store, middle, i - 6, middle + by + 4);
         emit(store, middle + by + 2, word::PRIMARY, primary);
         emit(store, middle + by, list - word::CHILD, path);
-        move_right(store, start, middle, by);
+        move_words(store, start, middle, start + by);
         start
     }
 }
@@ -85,7 +78,8 @@ fn put_over(store: &mut [u64], i: usize, w: usize) -> usize
 }
 
 // Turns the expression from `from` to `to`, which can be a pattern, into the pattern, and says where that ends.
-// The pattern has no more records than the expression: they are written from the right, up to `to`, and then moved left to `from`.
+// The pattern has no more records than the expression: they are written from the right, up to `to`, and then moved left to `from`. A group's value is 0 or
+// 1 + its action.
 pub fn move_to_pattern(store: &mut [u64], from: usize, to: usize) -> usize
     requires { AFit store.old from to }
     ensures { (t p : Tree) → Fit t p store.old from to → Stands p store.old from to result store.new }
@@ -93,9 +87,9 @@ pub fn move_to_pattern(store: &mut [u64], from: usize, to: usize) -> usize
     let mut i = to;
     let mut w = to;
     while from < i {
-        let word = store[i - 2];
+        prove!(2 <= i);
         let value = store[i - 1];
-        match word {
+        match store[i - 2] {
             word::IDENTIFIER => {
                 w -= 2;
                 i -= 2;
@@ -103,9 +97,9 @@ pub fn move_to_pattern(store: &mut [u64], from: usize, to: usize) -> usize
             }
             word::GROUP => {
                 i -= 2;
-                if value != 0 {
+                if let Some(action) = value.checked_sub(1) {
                     w -= 2;
-                    emit(store, w, word::MODIFIER, value - 1);
+                    emit(store, w, word::MODIFIER, action);
                 }
             }
             word::PRIMARY => {
@@ -121,7 +115,7 @@ pub fn move_to_pattern(store: &mut [u64], from: usize, to: usize) -> usize
             }
         }
     }
-    let by = w - from;
-    move_left(store, w, to, by);
-    to - by
+    prove!(from <= w);
+    move_words(store, w, to, from);
+    from + (to - w)
 }

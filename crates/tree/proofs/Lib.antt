@@ -1,2 +1,2 @@
--- What the proofs of several functions use.
-mod Words
+-- What the proofs of several functions use; `Copies` is used in `pattern` too.
+pub mod Copies

@@ -36,6 +36,11 @@ pub record Trees (B T : List ℕ) (n : ℕ) : Type 0 where
   pub small : SmallRow row
   pub text : T ≡ B ++ rows row
 
+-- n trees end here, after something
+pub record Ended (T : List ℕ) (n : ℕ) : Type 0 where
+  pub base : List ℕ
+  pub trees : Trees base T n
+
 -- the words up to r are B
 pub record Starts (B S : List ℕ) (r : ℕ) : Type 0 where
   pub at : r ≡ length B

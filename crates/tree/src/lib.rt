@@ -1,8 +1,9 @@
-// A tree's records in a lent store: writing one, clearing what is behind them, and making room for a block's result; and the numbers that records have.
+// A tree's records in a lent store: writing one, clearing what is behind them, making room for a block's result, and passing over trees; and the numbers that records have.
 #![tactic(auto)]
 
-ghost use Rattle.std.specs.Prelude.{◌≡◌, ◌++◌, ◌+◌, ◌-◌, ◌≤◌, length, take, replicate};
-ghost use Rattle.tree.specs.Store.{Emitted, Led, Result};
+ghost use Rattle.std.specs.Prelude.{◌≡◌, List, ℕ, ◌++◌, ◌+◌, ◌-◌, ◌≤◌, length, take, replicate};
+ghost use Rattle.tree.specs.Rows.{Trees, Ended, Starts};
+ghost use Rattle.tree.specs.Store.{Emitted, Result};
 
 pub mod node;
 pub mod word;
@@ -21,32 +22,36 @@ pub fn emit(store: &mut [u64], at: usize, word: u64, value: u64) -> usize
 pub fn clear(store: &mut [u64], from: usize)
     ensures { store.new ≡ take from store.old ++ replicate (length store.old - from) 0 }
 {
-    let mut i = from;
-    while i < store.len() {
-        store[i] = 0;
-        i += 1;
+    if from < store.len() {
+        store[from..].fill(0);
     }
 }
 
-// The first m words move right by three records, the last word first: a list of n statements, no control, and their statement list.
-fn lead(part: &mut [u64], m: usize, n: u64)
-    requires { (m + 6 ≤ length part.old) × (n ≤ 65536) }
-    ensures { Led m n part.old part.new }
-{
-    let mut i = m;
-    while 0 < i {
-        i -= 1;
-        part[i + 6] = part[i];
-    }
-    let a = emit(part, 0, word::LIST + word::CHILD * n, 0);
-    let b = emit(part, a, word::ABSENT, 0);
-    emit(part, b, word::STMT_LIST, 0);
-}
-
-// A block's last statement becomes its result: the words from `last` to `end` move behind the list of the n statements before it.
+// A block's last statement becomes its result: the words from `last` to `end` move right by three records, and in front of them
+// stand the list of the n statements before it, no control, and their statement list.
+// Out of line, so that the loops of `copy_within` make no frame larger of the reader's functions, which recurse.
+#[inline(never)]
 pub fn block_result(store: &mut [u64], last: usize, end: usize, n: u64)
     requires { (last ≤ end) × (end + 6 ≤ length store.old) × (n ≤ 65536) }
     ensures { Result last end n store.old store.new }
 {
-    lead(&mut store[last..], end - last, n);
+    store.copy_within(last..end, last + 6);
+    let a = emit(store, last, word::LIST + word::CHILD * n, 0);
+    let b = emit(store, a, word::ABSENT, 0);
+    emit(store, b, word::STMT_LIST, 0);
+}
+
+// Where the n trees start that end at `to`: each record that is passed is a tree less, and its children more.
+pub fn skip(store: &[u64], to: usize, n: u64) -> usize
+    requires { (to ≤ length store.now) × Ended (take to store.now) n }
+    ensures { (B : List ℕ) → Trees B (take to store.now) n → Starts B store.now result }
+{
+    let mut i = to;
+    let mut need = n;
+    while 0 < need {
+        prove!(2 <= i);
+        i -= 2;
+        need = need - 1 + store[i] / word::CHILD;
+    }
+    i
 }

@@ -1,5 +1,5 @@
 -- `pattern::deciding::can_be_pattern` meets its contract: in each turn the top of a row of trees that are all to be patterns is passed. Assumes nothing.
-use mathlib.Core.Path.{◌≡◌, sym, ap, ◌∙◌}
+use mathlib.Core.Path.{◌≡◌, sym}
 use mathlib.Core.Bool.{true}
 use mathlib.Core.Logic.{◌⊎◌, ⊎_elim, inl, inr}
 use mathlib.Core.List.{List, [], ◌++◌}
@@ -53,10 +53,10 @@ module _ {S : List ℕ} {from to i : ℕ} (k : Kept S from to i) (l : from < i) 
     access_room : ATree S from to → 6 ≤ i
     access_room a = omega (arith, primary_room (receives a.whole))
 
-    module _ (b : has_members (get_or S (i - 4) 0) ≡ true) where
+    module _ (b : true ≡ has_members (get_or S (i - 4) 0)) where
       abbrev parts : {t : Tree} (g : Whole t S from to) → Shape (base g) S i (seen g).tree
       parts g =
-          let l = some_members _ b in
+          let l = some_members _ (sym b) in
           shape_of k.0 (receives g) l.0 l.1
 
       path_room : ATree S from to → 8 ≤ i
@@ -78,22 +78,15 @@ module _ {S : List ℕ} {from to i : ℕ} (k : Kept S from to i) (l : from < i) 
         passed_again a pats =
             (omega (arith, passed_less a, k.0), λ t g. record { ahead = _; left = top_passed (seen g) (pats t g).what (pats t g).same (skips _ (trees t g)).text })
 
--- the record of what an unpack has stands before its own
-inner_at : (S : List ℕ) (i : ℕ) → get_or S (i - 4) 0 ≡ get_or S (i - 2 - 2) 0
-inner_at S i = ap (λ (n : ℕ). get_or S n 0) (let e : i - 4 ≡ i - 2 - 2 = omega arith in e)
-
 pub loop-i-init : goal.loop-i-init
 loop-i-init c = (c.requires.whole.within, λ t g. record { ahead = []; left = whole_ahead g })
 
-pub overflow_sub-word : goal.overflow_sub-word
-overflow_sub-word c = omega (arith, room c.loop-i.invariant c.loop-i-test.true c.requires)
+pub prove-unreachable-requires : goal.prove-unreachable-requires
+prove-unreachable-requires c = omega (arith, room c.loop-i.invariant c.loop-i-test.true c.requires)
 
-pub overflow_sub-i : goal.overflow_sub-i
-overflow_sub-i c = omega (arith, room c.loop-i.invariant c.loop-i-test.true c.requires)
-
-pub loop-i-preserved-in-31 : goal.loop-i-preserved-in-31
-loop-i-preserved-in-31 c = (
-  omega (arith, c.loop-i.invariant.0),
+pub loop-i-preserved-in-31-1 : goal.loop-i-preserved-in-31-1
+loop-i-preserved-in-31-1 c = (
+  omega arith,
   λ t g.
       ⊎_elim
       (λ k. record { ahead = _; left = ident_step (seen c.loop-i.invariant c.loop-i-test.true g) k })
@@ -103,107 +96,79 @@ loop-i-preserved-in-31 c = (
       c.in-31.is,
 )
 
+pub overflow_sub-i-in-271-1 : goal.overflow_sub-i-in-271-1
+overflow_sub-i-in-271-1 c = omega (arith, pack_room c.loop-i.invariant c.loop-i-test.true c.in-271.is c.requires)
+
 pub overflow_sub-i-in-271 : goal.overflow_sub-i-in-271
-overflow_sub-i-in-271 c = omega (arith, room c.loop-i.invariant c.loop-i-test.true c.requires)
-
-pub overflow_sub-i-in-271-2 : goal.overflow_sub-i-in-271-2
-overflow_sub-i-in-271-2 c = omega (arith, pack_room c.loop-i.invariant c.loop-i-test.true c.in-271.is c.requires)
-
-pub overflow_sub-i-then-store-i-eq-ABSENT : goal.overflow_sub-i-then-store-i-eq-ABSENT
-overflow_sub-i-then-store-i-eq-ABSENT c = omega (arith, pack_room c.loop-i.invariant c.loop-i-test.true c.in-271.is c.requires)
+overflow_sub-i-in-271 c = omega (arith, pack_room c.loop-i.invariant c.loop-i-test.true c.in-271.is c.requires)
 
 pub loop-i-preserved-then-store-i-eq-ABSENT : goal.loop-i-preserved-then-store-i-eq-ABSENT
 loop-i-preserved-then-store-i-eq-ABSENT c =
-    let h = c.loop-i.invariant.0 in
-    let j : c.loop-i.i - 4 ≡ c.loop-i.i - 2 - 2 = omega arith in
-    let e = inner_at c.args.store.now c.loop-i.i ∙ c.if-store-i-eq-ABSENT.true in
-    (omega arith, λ t g. record { ahead = _; left = rw j at (unpack_absent h (seen c.loop-i.invariant c.loop-i-test.true g) c.in-271.is e) })
+    (omega arith, λ t g. record { ahead = _; left = unpack_absent c.loop-i.invariant.0 (seen c.loop-i.invariant c.loop-i-test.true g) c.in-271.is c.if-store-i-eq-ABSENT.true })
 
-pub loop-i-preserved-else-store-i-eq-ABSENT : goal.loop-i-preserved-else-store-i-eq-ABSENT
-loop-i-preserved-else-store-i-eq-ABSENT c =
-    let h = c.loop-i.invariant.0 in
-    let e = inner_at c.args.store.now c.loop-i.i in
-    (omega arith, λ t g. record { ahead = _; left = unpack_other h (seen c.loop-i.invariant c.loop-i-test.true g) c.in-271.is (λ z. c.if-store-i-eq-ABSENT.false (sym e ∙ z)) })
+pub loop-i-preserved-in-271-1 : goal.loop-i-preserved-in-271-1
+loop-i-preserved-in-271-1 c =
+    (omega arith, λ t g. record { ahead = _; left = unpack_other c.loop-i.invariant.0 (seen c.loop-i.invariant c.loop-i-test.true g) c.in-271.is c.if-store-i-eq-ABSENT.false })
+
+pub overflow_sub-i-in-272-1 : goal.overflow_sub-i-in-272-1
+overflow_sub-i-in-272-1 c = omega (arith, member_room c.loop-i.invariant c.loop-i-test.true c.in-272.is c.requires)
 
 pub overflow_sub-i-in-272 : goal.overflow_sub-i-in-272
 overflow_sub-i-in-272 c = omega (arith, member_room c.loop-i.invariant c.loop-i-test.true c.in-272.is c.requires)
 
-pub returns-then-not-has_members : goal.returns-then-not-has_members
-returns-then-not-has_members c =
-    let n = sym c.has_members.ensures ∙ c.if-not-has_members.true in
-    λ t g. decided_no (tuple_none c.loop-i.invariant.0 (seen c.loop-i.invariant c.loop-i-test.true g) c.in-272.is n)
+pub loop-i-preserved-then-has_members : goal.loop-i-preserved-then-has_members
+loop-i-preserved-then-has_members c =
+    let l = some_members _ (sym c.if-has_members.ensures) in
+    (omega arith, λ t g. record { ahead = _; left = tuple_step c.loop-i.invariant.0 (seen c.loop-i.invariant c.loop-i-test.true g) c.in-272.is l.0 l.1 })
 
-pub overflow_sub-i-in-272-2 : goal.overflow_sub-i-in-272-2
-overflow_sub-i-in-272-2 c = omega (arith, member_room c.loop-i.invariant c.loop-i-test.true c.in-272.is c.requires)
+pub overflow_sub-i-in-523-1 : goal.overflow_sub-i-in-523-1
+overflow_sub-i-in-523-1 c = omega (arith, access_room c.loop-i.invariant c.loop-i-test.true c.in-523.is c.requires)
 
-pub loop-i-preserved-in-272 : goal.loop-i-preserved-in-272
-loop-i-preserved-in-272 c =
-    let h = c.loop-i.invariant.0 in
-    let l = some_members _ (sym c.has_members.ensures ∙ c.if-not-has_members.false) in
-    (omega arith, λ t g. record { ahead = _; left = tuple_step h (seen c.loop-i.invariant c.loop-i-test.true g) c.in-272.is l.0 l.1 })
-
-pub overflow_sub-list : goal.overflow_sub-list
-overflow_sub-list c = omega (arith, access_room c.loop-i.invariant c.loop-i-test.true c.in-523.is c.requires)
-
-pub returns-then-not-has_members-2 : goal.returns-then-not-has_members-2
-returns-then-not-has_members-2 c =
-    let n = sym c.has_members-in-523.ensures ∙ c.if-not-has_members-2.true in
-    λ t g. decided_no (no_top (seen c.loop-i.invariant c.loop-i-test.true g) (path_none (receives c.loop-i.invariant c.loop-i-test.true c.in-523.is g) n))
-
-pub overflow_sub-last : goal.overflow_sub-last
-overflow_sub-last c =
-    let b = sym c.has_members-in-523.ensures ∙ c.if-not-has_members-2.false in
-    omega (arith, path_room c.loop-i.invariant c.loop-i-test.true c.in-523.is b c.requires)
-
-pub overflow_sub-i-in-37 : goal.overflow_sub-i-in-37
-overflow_sub-i-in-37 c =
-    let b = sym c.has_members-in-523.ensures ∙ c.if-not-has_members-2.false in
-    omega (arith, path_room c.loop-i.invariant c.loop-i-test.true c.in-523.is b c.requires)
+pub prove-unreachable-requires-in-523 : goal.prove-unreachable-requires-in-523
+prove-unreachable-requires-in-523 c =
+    omega (arith, path_room c.loop-i.invariant c.loop-i-test.true c.in-523.is c.if-has_members-2.ensures c.requires)
 
 pub skip-i-requires : goal.skip-i-requires
 skip-i-requires c =
-    let b = sym c.has_members-in-523.ensures ∙ c.if-not-has_members-2.false in
-    let h = c.loop-i.invariant.0 in
-    (omega arith, record { base = _; trees = attributes c.loop-i.invariant c.loop-i-test.true c.in-523.is b c.in-37.is _ c.requires.whole })
-
-pub loop-i-smaller-in-37 : goal.loop-i-smaller-in-37
-loop-i-smaller-in-37 c =
-    let b = sym c.has_members-in-523.ensures ∙ c.if-not-has_members-2.false in
-    passed_less c.loop-i.invariant c.loop-i-test.true c.in-523.is b (attributes c.loop-i.invariant c.loop-i-test.true c.in-523.is b c.in-37.is) c.skip-i.ensures c.requires
-
-pub loop-i-preserved-in-37 : goal.loop-i-preserved-in-37
-loop-i-preserved-in-37 c =
-    let b = sym c.has_members-in-523.ensures ∙ c.if-not-has_members-2.false in
-    passed_again c.loop-i.invariant c.loop-i-test.true c.in-523.is b (attributes c.loop-i.invariant c.loop-i-test.true c.in-523.is b c.in-37.is) c.skip-i.ensures c.requires (λ t g. record { what = _; same = attribute_pat (parts c.loop-i.invariant c.loop-i-test.true c.in-523.is b g) c.in-37.is })
-
-pub overflow_sub-i-in-294 : goal.overflow_sub-i-in-294
-overflow_sub-i-in-294 c =
-    let b = sym c.has_members-in-523.ensures ∙ c.if-not-has_members-2.false in
-    omega (arith, path_room c.loop-i.invariant c.loop-i-test.true c.in-523.is b c.requires)
+    (omega arith, record { base = _; trees = attributes c.loop-i.invariant c.loop-i-test.true c.in-523.is c.if-has_members-2.ensures c.in-37.is _ c.requires.whole })
 
 pub skip-i-requires-in-294 : goal.skip-i-requires-in-294
 skip-i-requires-in-294 c =
-    let b = sym c.has_members-in-523.ensures ∙ c.if-not-has_members-2.false in
-    let h = c.loop-i.invariant.0 in
-    (omega arith, record { base = _; trees = indexes c.loop-i.invariant c.loop-i-test.true c.in-523.is b c.in-294.is _ c.requires.whole })
+    (omega arith, record { base = _; trees = indexes c.loop-i.invariant c.loop-i-test.true c.in-523.is c.if-has_members-2.ensures c.in-294.is _ c.requires.whole })
+
+pub returns-in_default-store : goal.returns-in_default-store
+returns-in_default-store c =
+    λ t g. decided_no (no_top (seen c.loop-i.invariant c.loop-i-test.true g) (no_item_step (parts c.loop-i.invariant c.loop-i-test.true c.in-523.is c.if-has_members-2.ensures g) (search) (search)))
+
+pub loop-i-smaller-in-37 : goal.loop-i-smaller-in-37
+loop-i-smaller-in-37 c =
+    passed_less c.loop-i.invariant c.loop-i-test.true c.in-523.is c.if-has_members-2.ensures (attributes c.loop-i.invariant c.loop-i-test.true c.in-523.is c.if-has_members-2.ensures c.in-37.is) c.skip-i.ensures c.requires
+
+pub loop-i-preserved-in-37 : goal.loop-i-preserved-in-37
+loop-i-preserved-in-37 c =
+    passed_again c.loop-i.invariant c.loop-i-test.true c.in-523.is c.if-has_members-2.ensures (attributes c.loop-i.invariant c.loop-i-test.true c.in-523.is c.if-has_members-2.ensures c.in-37.is) c.skip-i.ensures c.requires (λ t g. record { what = _; same = attribute_pat (parts c.loop-i.invariant c.loop-i-test.true c.in-523.is c.if-has_members-2.ensures g) c.in-37.is })
 
 pub loop-i-smaller : goal.loop-i-smaller
 loop-i-smaller c =
-    let b = sym c.has_members-in-523.ensures ∙ c.if-not-has_members-2.false in
-    passed_less c.loop-i.invariant c.loop-i-test.true c.in-523.is b (indexes c.loop-i.invariant c.loop-i-test.true c.in-523.is b c.in-294.is) c.skip-i-in-294.ensures c.requires
+    passed_less c.loop-i.invariant c.loop-i-test.true c.in-523.is c.if-has_members-2.ensures (indexes c.loop-i.invariant c.loop-i-test.true c.in-523.is c.if-has_members-2.ensures c.in-294.is) c.skip-i-in-294.ensures c.requires
 
 pub loop-i-preserved : goal.loop-i-preserved
 loop-i-preserved c =
-    let b = sym c.has_members-in-523.ensures ∙ c.if-not-has_members-2.false in
-    passed_again c.loop-i.invariant c.loop-i-test.true c.in-523.is b (indexes c.loop-i.invariant c.loop-i-test.true c.in-523.is b c.in-294.is) c.skip-i-in-294.ensures c.requires (λ t g. record { what = _; same = index_pat (parts c.loop-i.invariant c.loop-i-test.true c.in-523.is b g) c.in-294.is })
+    passed_again c.loop-i.invariant c.loop-i-test.true c.in-523.is c.if-has_members-2.ensures (indexes c.loop-i.invariant c.loop-i-test.true c.in-523.is c.if-has_members-2.ensures c.in-294.is) c.skip-i-in-294.ensures c.requires (λ t g. record { what = _; same = index_pat (parts c.loop-i.invariant c.loop-i-test.true c.in-523.is c.if-has_members-2.ensures g) c.in-294.is })
 
-pub returns-in_default-last : goal.returns-in_default-last
-returns-in_default-last c =
-    let b = sym c.has_members-in-523.ensures ∙ c.if-not-has_members-2.false in
-    λ t g. decided_no (no_top (seen c.loop-i.invariant c.loop-i-test.true g) (no_item_step (parts c.loop-i.invariant c.loop-i-test.true c.in-523.is b g) (search) (search)))
-
+-- a tuple without members, a path without items, and what is none of these
 pub returns-in_default : goal.returns-in_default
 returns-in_default c =
+    let n = sym c.if-has_members.ensures in
+    λ t g. decided_no (tuple_none c.loop-i.invariant.0 (seen c.loop-i.invariant c.loop-i-test.true g) c.in-272.is n)
+
+pub returns-in_default-2 : goal.returns-in_default-2
+returns-in_default-2 c =
+    let n = sym c.if-has_members-2.ensures in
+    λ t g. decided_no (no_top (seen c.loop-i.invariant c.loop-i-test.true g) (path_none (receives c.loop-i.invariant c.loop-i-test.true c.in-523.is g) n))
+
+pub returns-in_default-3 : goal.returns-in_default-3
+returns-in_default-3 c =
     let n : ((get_or c.args.store.now (c.loop-i.i - 2) 0 ≡ Word.Identifier) ⊎ (get_or c.args.store.now (c.loop-i.i - 2) 0 ≡ Word.Group)) → ⊥ = search in
     λ t g. decided_no (no_pattern (seen c.loop-i.invariant c.loop-i-test.true g) (λ k. n (inl k)) (λ k. n (inr k)) (search) (search) (search))
 

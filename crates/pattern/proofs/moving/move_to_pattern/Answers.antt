@@ -41,19 +41,15 @@ module _ {S₀ : List ℕ} {from to : ℕ} (a : AFit S₀ from to) where
       abbrev seen : {t p : Tree} (g : Fit t p S₀ from to) → View (to_pattern t) (take from S₀) S i (k.3 t p g).ahead
       seen g = view reach (k.3 _ _ g).left (shorter S₀ from i l)
 
-      room : (2 ≤ i) × (i ≤ w)
-      room = (omega (arith, (seen held).here.room), k.0)
+      room : 2 ≤ i
+      room = omega (arith, (seen held).here.room)
 
       -- a record is written for the top's own
       one_record : {word value r : ℕ} {S' : List ℕ} → ((t p : Tree) (g : Fit t p S₀ from to) → Ahead (to_pattern t) (take from S₀) (take (i - 2) S) (word ∷ value ∷ (k.3 t p g).ahead))
           → length S' ≡ length S → Emitted (w - 2) word value r S S' → Kept S₀ from to S' (i - 2) (w - 2)
       one_record next e p =
-          let r = room in (
-            omega arith,
-            omega (arith, k.1),
-            e ∙ k.2,
-            λ t u g. go_emit _ (i - 2) w (next t u g) (k.3 t u g).done p (omega arith) (omega arith),
-          )
+          let r = room in
+          (omega arith, omega arith, e ∙ k.2, λ t u g. go_emit _ (i - 2) w (next t u g) (k.3 t u g).done p (omega arith) (omega arith))
 
       -- an access, and the pattern that it is
       abbrev is : {t p : Tree} (g : Fit t p S₀ from to) → Is (conv (seen g).tree pattern)
@@ -72,49 +68,31 @@ module _ {S₀ : List ℕ} {from to : ℕ} (a : AFit S₀ from to) where
         above g = sure_above reach (seen g) g.same x y z
 
         -- how many words are passed
-        few : {r : ℕ} {S' : List ℕ} → Over (over_words S i) w S r S' → (r ≤ i) × (2 ≤ r) × (i ≤ w)
+        few : {r : ℕ} {S' : List ℕ} → Over (over_words S i) w S r S' → (r ≤ i) × (2 ≤ r)
         few o =
             let b = above held in
             let many = o.many in
-            (omega (arith, b.room, b.many), omega (arith, b.many), k.0)
+            (omega arith, omega arith)
 
 pub loop-i-init : goal.loop-i-init
 loop-i-init c = (omega arith, omega arith, refl, λ t p g. record { ahead = []; left = whole_ahead g.whole; done = refl })
 
-pub overflow_sub-word : goal.overflow_sub-word
-overflow_sub-word c = omega (arith, room c.requires c.loop-i.invariant c.loop-i-test.true)
-
-pub overflow_sub-w : goal.overflow_sub-w
-overflow_sub-w c = omega (arith, room c.requires c.loop-i.invariant c.loop-i-test.true)
-
-pub overflow_sub-i : goal.overflow_sub-i
-overflow_sub-i c = omega (arith, room c.requires c.loop-i.invariant c.loop-i-test.true)
-
-pub emit-requires : goal.emit-requires
-emit-requires c = omega (arith, room c.requires c.loop-i.invariant c.loop-i-test.true, within c.requires c.loop-i.invariant)
+pub prove-unreachable-requires : goal.prove-unreachable-requires
+prove-unreachable-requires c = omega (arith, room c.requires c.loop-i.invariant c.loop-i-test.true)
 
 pub loop-i-preserved-in-31 : goal.loop-i-preserved-in-31
 loop-i-preserved-in-31 c = one_record c.requires c.loop-i.invariant c.loop-i-test.true (λ t u g. ident_step (seen c.requires c.loop-i.invariant c.loop-i-test.true g) c.in-31.is) c.emit.auto.store c.emit.ensures
 
-pub overflow_sub-i-in-292 : goal.overflow_sub-i-in-292
-overflow_sub-i-in-292 c = omega (arith, room c.requires c.loop-i.invariant c.loop-i-test.true)
+pub loop-i-preserved-in-Some : goal.loop-i-preserved-in-Some
+loop-i-preserved-in-Some c =
+    let s = c.in-Some.ensures in
+    let e = c.emit-in-Some in
+    one_record c.requires c.loop-i.invariant c.loop-i-test.true (λ t u g. rw s.1 (group_modified (seen c.requires c.loop-i.invariant c.loop-i-test.true g) c.in-292.is (λ z. omega (arith, s.0, z)))) e.auto.store e.ensures
 
-pub overflow_sub-w-then-value-ne0 : goal.overflow_sub-w-then-value-ne0
-overflow_sub-w-then-value-ne0 c = omega (arith, room c.requires c.loop-i.invariant c.loop-i-test.true)
-
-pub emit-requires-then-value-ne0 : goal.emit-requires-then-value-ne0
-emit-requires-then-value-ne0 c = omega (arith, room c.requires c.loop-i.invariant c.loop-i-test.true, within c.requires c.loop-i.invariant)
-
-pub loop-i-preserved-then-value-ne0 : goal.loop-i-preserved-then-value-ne0
-loop-i-preserved-then-value-ne0 c =
-    let e = c.emit-then-value-ne0 in
-    one_record c.requires c.loop-i.invariant c.loop-i-test.true (λ t u g. group_modified (seen c.requires c.loop-i.invariant c.loop-i-test.true g) c.in-292.is c.if-value-ne0.true) e.auto.store e.ensures
-
-pub loop-i-preserved-else-value-ne0 : goal.loop-i-preserved-else-value-ne0
-loop-i-preserved-else-value-ne0 c =
+pub loop-i-preserved-in_default-checked_sub : goal.loop-i-preserved-in_default-checked_sub
+loop-i-preserved-in_default-checked_sub c =
     let k = c.loop-i.invariant in
-    let r = room c.requires c.loop-i.invariant c.loop-i-test.true in
-    (omega arith, k.1, k.2, λ t u g. go_same _ (group_bare (seen c.requires c.loop-i.invariant c.loop-i-test.true g) c.in-292.is c.if-value-ne0.false) (k.3 t u g).done)
+    (omega arith, k.1, k.2, λ t u g. go_same _ (group_bare (seen c.requires c.loop-i.invariant c.loop-i-test.true g) c.in-292.is (omega (arith, c.in_default-checked_sub.ensures))) (k.3 t u g).done)
 
 pub move_access-start-requires : goal.move_access-start-requires
 move_access-start-requires c = record { base = _; pat = _; it = access c.requires c.loop-i.invariant c.loop-i-test.true c.in-523.is (held c.requires) }
@@ -122,7 +100,7 @@ move_access-start-requires c = record { base = _; pat = _; it = access c.require
 pub overflow_add-w : goal.overflow_add-w
 overflow_add-w c =
     let m = c.move_access-start.ensures _ _ (access c.requires c.loop-i.invariant c.loop-i-test.true c.in-523.is (held c.requires)) in
-    omega (arith, m.on, room c.requires c.loop-i.invariant c.loop-i-test.true, within c.requires c.loop-i.invariant)
+    omega (arith, m.on)
 
 pub loop-i-smaller-in-523 : goal.loop-i-smaller-in-523
 loop-i-smaller-in-523 c = started c.requires c.loop-i.invariant c.loop-i-test.true c.in-523.is c.move_access-start.ensures
@@ -133,15 +111,15 @@ loop-i-preserved-in-523 c =
     let e = c.in-523.is in
     let m = c.move_access-start in
     let o = (m.ensures _ _ (access c.requires c.loop-i.invariant c.loop-i-test.true e (held c.requires))).on in (
-      omega (arith, k.0),
-      omega (arith, k.0, k.1),
+      omega arith,
+      omega arith,
       m.auto.store ∙ k.2,
       λ t u g.
           go_access _ (seen c.requires c.loop-i.invariant c.loop-i-test.true g) (is c.requires c.loop-i.invariant c.loop-i-test.true g).same (k.3 t u g).done (m.ensures _ _ (access c.requires c.loop-i.invariant c.loop-i-test.true e g)),
     )
 
 pub put_over-n-requires : goal.put_over-n-requires
-put_over-n-requires c = ((above c.requires c.loop-i.invariant c.loop-i-test.true (search) (search) (search) (held c.requires)).room, c.loop-i.invariant.0, within c.requires c.loop-i.invariant)
+put_over-n-requires c = ((above c.requires c.loop-i.invariant c.loop-i-test.true (search) (search) (search) (held c.requires)).room, omega arith, omega arith)
 
 pub overflow_sub-i-in_default : goal.overflow_sub-i-in_default
 overflow_sub-i-in_default c = (few c.requires c.loop-i.invariant c.loop-i-test.true (search) (search) (search) c.put_over-n.ensures).0
@@ -152,14 +130,14 @@ loop-i-preserved c =
     let o = c.put_over-n in
     let f = few c.requires c.loop-i.invariant c.loop-i-test.true (search) (search) (search) o.ensures in (
       omega arith,
-      omega (arith, k.1),
+      omega arith,
       o.auto.store ∙ k.2,
       λ t u g.
           go_over _ (above c.requires c.loop-i.invariant c.loop-i-test.true (search) (search) (search) g) (k.3 t u g).done k.0 o.ensures,
     )
 
-pub overflow_sub-by : goal.overflow_sub-by
-overflow_sub-by c =
+pub prove-unreachable-requires-2 : goal.prove-unreachable-requires-2
+prove-unreachable-requires-2 c =
     let g = c.requires.whole in
     let k = c.loop-i.invariant in
     let b = not_below c.loop-i.store c.loop-i.i (reach c.requires c.loop-i.invariant) (k.3 _ _ (held c.requires)).left in
@@ -168,4 +146,4 @@ overflow_sub-by c =
 pub returns : goal.returns
 returns c =
     let k = c.loop-i.invariant in
-    λ t p g. all_moved g k.2 k.0 k.1 (k.3 t p g) c.loop-i-test.false c.move_left.ensures refl
+    λ t p g. all_moved g k.2 k.0 k.1 (k.3 t p g) c.loop-i-test.false c.move_words.ensures

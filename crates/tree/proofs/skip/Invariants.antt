@@ -1,9 +1,9 @@
--- What the loops of `pattern::rows::skip` keep, and what falls. Assumes nothing.
+-- What the loops of `tree::skip` keep, and what falls. Assumes nothing.
 use mathlib.Core.List.{List}
 use Prim.Native.Nat.{ℕ, ◌≤◌}
 use lib.ListN.{length, take}
 use Rattle.tree.specs.Rows.{Trees}
-use Rattle.pattern.proofs.rows.skip.Given as goal
+use Rattle.tree.proofs.skip.Given as goal
 
 -- whatever stands before the trees, it and those that are still needed stand up to i
 abbrev pub invariant-loop-need : goal.invariant-loop-need
