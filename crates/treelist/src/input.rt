@@ -13,10 +13,11 @@ pub fn read_sheet<R: Read>(input: &mut R) -> io::Result<Option<Tokens>>
 {
     let mut sheet = Sheet::new();
     let mut bytes = [0u8; 4096];
+    // A proved loop has to end: this one has more turns than any input takes.
     for _ in 0..u64::MAX {
         let came = input.read(&mut bytes)?;
         if came == 0 {
-            return Ok(sheet.end());
+            return Ok(sheet.finish());
         }
         sheet.read(&bytes[..came]);
     }

@@ -6,7 +6,7 @@ ghost use Rattle.treelist.specs.Sheets.{scan, scan_of, within_line, Whole, NotWh
 use crate::line::{KIND_AT, Line, MOST_KIND, MOST_NEWLINE, NEWLINE_AT, TEXT, VALUE_AT, is_due};
 use arrayvec::ArrayVec;
 
-// None of these gives a line that is malformed.
+// Each gives none where the line is malformed.
 impl Line {
     // Before a line.
     pub fn start() -> Line
@@ -82,7 +82,7 @@ impl Line {
 // Lines of a sheet, at most.
 const LINES: usize = 500;
 
-// The tokens' words, two of each.
+// The two words of each token.
 pub type Tokens = ArrayVec<[u64; 2], LINES>;
 
 // The tokens of the whole lines, and the line that is being read; none once a line was malformed.
@@ -103,18 +103,14 @@ impl Sheet {
         }
     }
 
-    // A line's end: the line must be whole, and one that may still come.
+    // A line's end: the line must be whole, and one that may still come. Gives the line that comes next.
     #[tactic(auto, unfolding(crate::specs::Lines::line_end))]
-    fn line_end(&mut self, line: Line)
+    fn line_end(&mut self, line: Line) -> Option<Line>
         requires { self.old.line ≡ Some line }
-        ensures { progress self.new ≡ line_end_def (progress self.old) }
+        ensures { progress (record self.new { line = result }) ≡ line_end_def (progress self.old) }
     {
-        self.line = None;
-        if let Some(token) = line.token() {
-            if let Ok(()) = self.tokens.try_push(token) {
-                self.line = Some(Line::start());
-            }
-        }
+        self.tokens.try_push(line.token()?).ok()?;
+        Some(Line::start())
     }
 
     // One byte more.
@@ -123,11 +119,11 @@ impl Sheet {
         ensures { progress self.new ≡ step (progress self.old) byte }
     {
         if let Some(line) = self.line {
-            if byte == b'\n' {
-                self.line_end(line);
+            self.line = if byte == b'\n' {
+                self.line_end(line)
             } else {
-                self.line = line.byte(byte);
-            }
+                line.byte(byte)
+            };
         }
     }
 
@@ -143,14 +139,13 @@ impl Sheet {
 
     // The end of the input also ends a line that was begun.
     #[tactic(auto, unfolding(crate::specs::Lines::closed))]
-    pub fn end(mut self) -> Option<Tokens>
+    pub fn finish(mut self) -> Option<Tokens>
         ensures { words_of result ≡ said (closed (progress self)) }
     {
         let line = self.line?;
         if line.at > 0 {
-            self.line_end(line);
+            self.line_end(line)?;
         }
-        self.line?;
         Some(self.tokens)
     }
 }

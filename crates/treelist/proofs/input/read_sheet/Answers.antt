@@ -9,7 +9,7 @@ loop-init g c = begun _ _ c.new-sheet.ensures
 pub returns-then-came-eq0 : goal.returns-then-came-eq0
 returns-then-came-eq0 g c =
     let (came, at_end) = c.in_ok-came.ensures.bytes in
-    ended _ _ _ _ _ _ c.loop.invariant came (rw c.if-came-eq0.true) (at_end c.if-came-eq0.true (search rules)) c.end.ensures
+    ended _ _ _ _ _ _ c.loop.invariant came (rw c.if-came-eq0.true) (at_end c.if-came-eq0.true (search rules)) c.finish.ensures
 
 pub loop-preserved : goal.loop-preserved
 loop-preserved g c = more _ _ _ _ _ _ c.loop.invariant c.in_ok-came.ensures.bytes.0 c.read-in-loop.ensures
