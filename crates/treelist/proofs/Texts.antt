@@ -1,5 +1,5 @@
 -- What the proofs of the listing's lines share: a number's digits, and the names of the node kinds. Assumes nothing.
-use Rattle.std.proofs.Common.{◌≡◌, ℕ, suc, ◌/◌, ◌%◌, ◌^◌, ◌<◌, Bool, true, false, cond, not, ◌&&◌, List, [], ◌∷◌, ◌++◌, eqb, get_or, refl, ap, arith, lit<, Bor, sym, zero, ◌-◌, sub-one, append_assoc}
+use Rattle.std.proofs.Common.{◌≡◌, ℕ, suc, ◌/◌, ◌%◌, ◌^◌, ◌<◌, Bool, true, false, cond, not, ◌&&◌, List, [], ◌∷◌, ◌++◌, eqb, refl, ap, arith, lit<, Bor, sym, zero, ◌-◌, sub-one, append_assoc}
 use borrow.Author.Tests.{lt-ltb, le-ltb, ne_eqb}
 use Rattle.std.specs.Fmt.{decimal as std_decimal}
 use Rattle.std.proofs.lemmas.Fmt.{AppendsLastDigit, decimal_from_appends, length-decimal-le}
@@ -63,13 +63,6 @@ name_found names text k h j = rw j (found names k h)
     found [] k h = refl
     found (w ∷ ws) zero h = rw behind_none (sym (word_of w.now (joined ws) (and_l (has_none w.now) (all_words ws) h)))
     found (w ∷ ws) (suc k) h = rw (behind_word k w.now (joined ws) (and_l (has_none w.now) (all_words ws) h)) (found ws k (and_r (has_none w.now) (all_words ws) h))
-
--- the name at a place, as the library finds it
-pub name_is : (names : List (Bor (List ℕ))) (none : Bor (List ℕ)) (k : ℕ) → none.now ≡ [] → name_at names k ≡ (get_or names k none).now
-unfolding name_at
-name_is [] none k n = sym n
-name_is (w ∷ ws) none zero n = refl
-name_is (w ∷ ws) none (suc k) n = name_is ws none k n
 
 -- the lines, of the digits that the library writes
 

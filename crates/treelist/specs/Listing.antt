@@ -1,5 +1,5 @@
 -- The lines of the listing, as bytes. Definitions; they assume nothing.
-use Rattle.std.specs.Prelude.{cond, List, [], ◌∷◌, ◌++◌, ℕ, zero, suc, ◌+◌, ◌-◌, ◌/◌, ◌%◌, eqb, ltb}
+use Rattle.std.specs.Prelude.{cond, List, [], ◌∷◌, ◌++◌, ℕ, zero, suc, ◌+◌, ◌-◌, ◌/◌, ◌%◌, eqb, ltb, map, get_or}
 use Rattle.std.specs.Borrow.{Bor}
 use Rattle.grammar.specs.Reading.Next.{kind_number}
 use Rattle.grammar.specs.declared.Answer.{Answer}
@@ -34,9 +34,7 @@ name kind = word (behind kind names)
 
 -- the text at a place of several, or none past them
 unfoldable pub name_at : List (Bor (List ℕ)) → ℕ → List ℕ
-name_at [] k = []
-name_at (t ∷ ts) zero = t.now
-name_at (t ∷ ts) (suc k) = name_at ts k
+name_at names k = get_or (map (λ n. n.now) names) k []
 
 -- a node's line, of its two words
 abbrev pub node_line : ℕ → ℕ → List ℕ

@@ -58,6 +58,7 @@ const NAMES: [&str; 47] = [
 ];
 
 // The name at a place; none past them.
+#[tactic(auto, unfolding(crate::specs::Listing::name_at))]
 fn name_at(names: &[&'static str], place: u64) -> &'static str
     ensures { result.now ≡ name_at_def names.now place }
 {
