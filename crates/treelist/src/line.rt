@@ -16,7 +16,8 @@ pub const MOST_KIND: u64 = 76;
 pub const MOST_NEWLINE: u64 = 1;
 
 // Where the reading of a line stands: how many bytes of the text were met, the number that is due once it has a digit, and the
-// kind and the newline once they are read.
+// kind and the newline once they are read. Its methods stand in lines.rt: a struct with a ghost field imports what the clauses of its
+// file name, and theirs name the struct.
 #[derive(Clone, Copy)]
 pub struct Line {
     pub at: usize,

@@ -88,8 +88,8 @@ pub type Tokens = ArrayVec<[u64; 2], LINES>;
 // The tokens of the whole lines, and the line that is being read; none once a line was malformed.
 #[derive(Drop)]
 pub struct Sheet {
-    pub tokens: Tokens,
-    pub line: Option<Line>,
+    tokens: Tokens,
+    line: Option<Line>,
 }
 
 impl Sheet {

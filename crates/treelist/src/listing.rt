@@ -93,10 +93,7 @@ impl fmt::Display for AnswerLine {
     fn fmt<W: fmt::Write>(&self, f: &mut fmt::Formatter<W>) -> fmt::Result {
         match self.0 {
             Answer::Tree(nodes) => writeln!(f, "answer=tree nodes={nodes}"),
-            Answer::Error(kind) => {
-                let number = kind_number(kind);
-                writeln!(f, "answer=error number={number}")
-            }
+            Answer::Error(kind) => writeln!(f, "answer=error number={}", kind_number(kind)),
             Answer::End => writeln!(f, "answer=end"),
             Answer::Stopped(number) => writeln!(f, "answer=stopped number={number}"),
             Answer::Refused(number) => writeln!(f, "answer=refused number={number}"),

@@ -87,6 +87,7 @@ fn fail(rt: &impl Eprint, what: &str, why: io::Error) {
     let _ = eprintln!(rt; "treelist: {what}: {why}");
 }
 
+// Stays without a result: an `Err` would end with the exit status 1.
 fn main(rt: HostRuntime) {
     let listed = match read_sheet(&mut rt.stdin()) {
         Ok(sheet) => list(&rt, sheet),

@@ -12,8 +12,8 @@ returns-in-Tree-clause-writes g c p o =
 
 pub returns-in-Error-clause-writes : goal.returns-in-Error-clause-writes
 returns-in-Error-clause-writes g c p o =
-    let same = answer_line_same (bytes "answer=error number=") c.kind_number-number.result (omega arith) in
-    rw (c.in-Error.is, ← c.kind_number-number.ensures) (has_written_of_eq _ _ _ _ _ same (c.writeln-in-Error.ensures.writes p o))
+    let same = answer_line_same (bytes "answer=error number=") c.kind_number.result (omega arith) in
+    rw (c.in-Error.is, ← c.kind_number.ensures) (has_written_of_eq _ _ _ _ _ same (c.writeln-in-Error.ensures.writes p o))
 
 pub returns-in-Stopped-clause-writes : goal.returns-in-Stopped-clause-writes
 returns-in-Stopped-clause-writes g c p o =
