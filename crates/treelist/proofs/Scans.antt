@@ -9,7 +9,7 @@ use Rattle.treelist.specs.Sheets.{progress, scan, Whole}
 use Rattle.treelist.specs.declared.line.Line.{Line}
 
 -- a token more
-pub words_more : (tokens : List (List ℕ)) (t : List ℕ) → flat_map (λ x. x) (tokens ++ t ∷ []) ≡ flat_map (λ x. x) tokens ++ t
+words_more : (tokens : List (List ℕ)) (t : List ℕ) → flat_map (λ x. x) (tokens ++ t ∷ []) ≡ flat_map (λ x. x) tokens ++ t
 words_more tokens t = flat_map-append (λ x. x) tokens (t ∷ []) ∙ rw append-nil
 
 -- a line more

@@ -1,7 +1,9 @@
 -- What the proofs of the listing's lines share: a number's digits, and the names of the node kinds. Assumes nothing.
 use Rattle.std.proofs.Common.{◌≡◌, ℕ, suc, ◌/◌, ◌%◌, ◌^◌, ◌<◌, Bool, true, false, cond, not, ◌&&◌, List, [], ◌∷◌, ◌++◌, eqb, refl, ap, arith, lit<, Bor, sym, zero, ◌-◌, sub-one, append_assoc}
 use borrow.Author.Tests.{lt-ltb, le-ltb, ne_eqb}
-use Rattle.std.specs.Fmt.{decimal as std_decimal}
+use Rattle.std.specs.Fmt.{decimal as std_decimal, HasWritten}
+use Rattle.std.specs.declared.fmt.Formatter.{Formatter}
+use Rattle.std.proofs.Output.{has_written_of_eq}
 use Rattle.std.proofs.lemmas.Fmt.{AppendsLastDigit, decimal_from_appends, length-decimal-le}
 use Rattle.std.proofs.lemmas.Bool.{false≢true}
 use Rattle.grammar.proofs.Laws.Facts.{and_l, and_r}
@@ -72,5 +74,8 @@ node_line_same n w v e h k =
     let q : w / 256 < 2 ^ 64 = omega arith in
     rw (e, decimal_same (w / 256) q, decimal_same v k) (simp append_assoc)
 
-pub answer_line_same : (text : List ℕ) (n : ℕ) → n < 2 ^ 64 → text ++ (std_decimal n ++ bytes "\n") ≡ answer_line text n
-answer_line_same text n h = rw (decimal_same n h) (simp append_assoc)
+pub wrote_answer : {W : Type 0} {took : W → List ℕ → W → Type 0} {f g : Formatter W} (text : List ℕ) (n : ℕ) → n < 2 ^ 64 → HasWritten took f (text ++ (std_decimal n ++ bytes "\n")) g
+    → HasWritten took f (answer_line text n) g
+wrote_answer text n h w =
+    let same : text ++ (std_decimal n ++ bytes "\n") ≡ answer_line text n = rw (decimal_same n h) (simp append_assoc) in
+    has_written_of_eq _ _ _ _ _ same w
