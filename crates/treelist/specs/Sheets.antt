@@ -12,7 +12,7 @@ use Rattle.std.specs.List.{flat_map}
 abbrev pub scan : ℕ → Line → Scan
 scan lines l = record { lines = lines; at = l.at; begun = is_some l.number; number = unwrap_or l.number 0; kind = l.kind; newline = from_bool l.newline; malformed = false }
 
--- the same, or behind a malformed line
+-- the same, or `bad` once a line was malformed
 abbrev pub scan_of : ℕ → Option Line → Scan
 scan_of lines None = bad lines
 scan_of lines (Some l) = scan lines l

@@ -1,4 +1,5 @@
 // The lines of a sheet, read byte by byte into the words of its tokens.
+// Stays a reading of bytes: zeros may lead a number without end, so no buffer holds every line, and `parse` takes a sign.
 ghost use Rattle.std.specs.Prelude.{◌≡◌, ◌<◌, ℕ, Some, true, false, MatchOption};
 ghost use Rattle.treelist.specs.Lines.{at_line as at_line_def, digit as digit_def, letter as letter_def, line_end as line_end_def, step, read, closed, start, said};
 ghost use Rattle.treelist.specs.Sheets.{scan, scan_of, within_line, Whole, NotWhole, progress, words_of};
@@ -6,7 +7,7 @@ ghost use Rattle.treelist.specs.Sheets.{scan, scan_of, within_line, Whole, NotWh
 use crate::line::{KIND_AT, Line, MOST_KIND, MOST_NEWLINE, NEWLINE_AT, TEXT, VALUE_AT, is_due};
 use arrayvec::ArrayVec;
 
-// Each gives none where the line is malformed.
+// Each `None` is a malformed line.
 impl Line {
     // Before a line.
     pub fn start() -> Line

@@ -71,7 +71,7 @@ fn print_answers(rt: &impl Print, tokens: &[u64], store: &mut [u64]) -> io::Resu
     }
 }
 
-// Lists what was read of an input, to its end.
+// Lists a sheet that was read to its end, or that a line of it is malformed.
 fn list(rt: &impl Print, sheet: Option<Tokens>) -> io::Result<()> {
     match sheet {
         Some(tokens) => {
