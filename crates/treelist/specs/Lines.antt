@@ -1,10 +1,20 @@
 -- The format of a sheet's lines: of the bytes of the input, the words of its tokens, or none where a line is malformed or a 501st comes.
 -- A line is `token=K newline=N value=V`, to the byte: no other blank, no sign, no carriage return, no empty line. K, N and V are decimal digits, at least one,
 -- leading zeros among them: 01 asks for decimal numbers and sets no length. The line end of the last line may be missing. Definitions; they assume nothing.
-use Rattle.std.specs.Prelude.{◌≡◌, refl, Bool, true, false, cond, ◌&&◌, ◌||◌, List, [], ◌∷◌, ◌++◌, ℕ, ◌+◌, ◌*◌, ◌-◌, ◌≤◌, eqb, leb, ltb, length, get_or, take}
+use Rattle.std.specs.Prelude.{◌≡◌, refl, Bool, true, false, cond, ◌&&◌, ◌||◌, List, [], ◌∷◌, ◌++◌, ℕ, ◌+◌, ◌*◌, ◌-◌, eqb, leb, ltb, get_or}
 use Rattle.std.proofs.Math.Option.{Option, none, some}
 use Rattle.treelist.specs.Text.{bytes}
-use Rattle.treelist.specs.declared.lines.Scan.{Scan}
+
+-- where the reading of the lines stands: how many are whole; in the present one how many bytes of the text were met, whether the number
+-- that is due has a digit, that number, and the kind and the newline once they are read; whether a line was malformed
+pub record Scan : Type 0 where
+  pub lines : ℕ
+  pub at : ℕ
+  pub begun : Bool
+  pub number : ℕ
+  pub kind : ℕ
+  pub newline : ℕ
+  pub malformed : Bool
 
 -- a line but its numbers: these are due behind 6, 15 and all 22 of its bytes
 abbrev pub text : List ℕ
@@ -73,9 +83,6 @@ pub record Progress : Type 0 where
   pub scan : Scan
   pub words : List ℕ
 
-abbrev pub progress : Scan → List ℕ → Progress
-progress s sheet = record { scan = s; words = take (2 * s.lines) sheet }
-
 -- a line's end
 unfoldable pub line_end : Progress → Progress
 line_end p =
@@ -103,26 +110,13 @@ closed p = cond (eqb p.scan.at 0) p (line_end p)
 abbrev pub start : Progress
 start = record { scan = at_line 0; words = [] }
 
+-- the words of the tokens that were read, or none where a line was malformed
+abbrev pub said : Progress → Option (List ℕ)
+said p = cond p.scan.malformed none (some p.words)
+
 -- the words of the tokens that the bytes of an input say
 abbrev pub sheet_of : List ℕ → Option (List ℕ)
-sheet_of input = let p : Progress = closed (read start input) in cond p.scan.malformed none (some p.words)
-
--- what holds of every scan
-pub record Sound (s : Scan) : Type 0 where
-  pub lines : s.lines ≤ most_lines
-  pub at : s.at ≤ value_at
-  pub kind : s.kind ≤ most_kind
-  pub newline : s.newline ≤ most_newline
-
--- what a function that goes on reading asks of the scan and of the sheet's array, which has two words for each line
-pub record Ready (s : Scan) (sheet : List ℕ) : Type 0 where
-  pub sound : Sound s
-  pub whole : length sheet ≡ 2 * most_lines
-
--- what it leaves
-pub record Comes (p : Progress) (s : Scan) (sheet : List ℕ) : Type 0 where
-  pub reading : progress s sheet ≡ p
-  pub whole : length sheet ≡ 2 * most_lines
+sheet_of input = said (closed (read start input))
 
 -- examples
 

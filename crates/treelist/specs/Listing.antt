@@ -1,5 +1,9 @@
 -- The lines of the listing, as bytes. Definitions; they assume nothing.
-use Rattle.std.specs.Prelude.{◌≡◌, cond, List, [], ◌∷◌, ◌++◌, ℕ, zero, suc, ◌+◌, ◌-◌, ◌/◌, ◌%◌, ◌≤◌, eqb, ltb, length, take}
+use Rattle.std.specs.Prelude.{cond, List, [], ◌∷◌, ◌++◌, ℕ, zero, suc, ◌+◌, ◌-◌, ◌/◌, ◌%◌, eqb, ltb, map, get_or}
+use Rattle.std.specs.Borrow.{Bor}
+use Rattle.grammar.specs.Reading.Next.{kind_number}
+use Rattle.grammar.specs.declared.Answer.{Answer}
+use Rattle.grammar.specs.declared.Answer.TheVariants.{Tree, Error, End, Stopped, Refused}
 use Rattle.treelist.specs.Text.{bytes}
 
 -- a number's decimal digits, of which there are so many at most
@@ -28,6 +32,10 @@ word (b ∷ l) = cond (eqb b 32) [] (b ∷ word l)
 abbrev pub name : ℕ → List ℕ
 name kind = word (behind kind names)
 
+-- the text at a place of several, or none past them
+unfoldable pub name_at : List (Bor (List ℕ)) → ℕ → List ℕ
+name_at names k = get_or (map (λ n. n.now) names) k []
+
 -- a node's line, of its two words
 abbrev pub node_line : ℕ → ℕ → List ℕ
 node_line w v = bytes "kind=" ++ name (w % 256) ++ bytes " kids=" ++ decimal (w / 256) ++ bytes " value=" ++ decimal v ++ bytes "\n"
@@ -36,13 +44,10 @@ node_line w v = bytes "kind=" ++ name (w % 256) ++ bytes " kids=" ++ decimal (w 
 abbrev pub answer_line : List ℕ → ℕ → List ℕ
 answer_line text n = text ++ decimal n ++ bytes "\n"
 
--- the bytes of a line's array: a line has fewer even with all the names in it
-abbrev pub line_size : ℕ
-line_size = 640
-
--- what a function leaves that puts a text, of so many bytes at most, at a place of a line: the place behind it, the line up to there, its length
-pub record Put (at most : ℕ) (text before : List ℕ) (r : ℕ) (line : List ℕ) : Type 0 where
-  pub next : r ≡ at + length text
-  pub within : r ≤ at + most
-  pub start : take r line ≡ take at before ++ text
-  pub whole : length line ≡ length before
+-- the line of each answer
+abbrev pub answer_text : Answer → List ℕ
+answer_text (Tree n) = answer_line (bytes "answer=tree nodes=") n
+answer_text (Error k) = answer_line (bytes "answer=error number=") (kind_number k)
+answer_text End = bytes "answer=end\n"
+answer_text (Stopped n) = answer_line (bytes "answer=stopped number=") n
+answer_text (Refused n) = answer_line (bytes "answer=refused number=") n
