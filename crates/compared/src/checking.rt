@@ -1,67 +1,56 @@
 // A call of the check of labels held to what is expected of it: its number, and the record number.
-use crate::parts::{Said, part, same_answer};
-use crate::tally::{Tally, with_check};
+use crate::answer::{Case, Said};
+use crate::tally::count_one;
+use crate::trial::{Place, Trial};
 use labels::{Labels, check_labels};
 use std::io;
 
-// A number of an answer, by a letter: of one where nothing is wrong, or of a refusal.
-fn said(fine: bool, number: u64) -> Said {
-    Said {
-        case: if fine { b'l' } else { b'r' },
-        number,
+// What the check answers: a number, 0 where nothing is wrong, and the number of the record that it is for.
+#[derive(Clone, Copy)]
+pub struct Verdict {
+    pub number: u64,
+    pub record: u64,
+}
+
+// Nothing is wrong.
+pub const FINE: Verdict = Verdict {
+    number: 0,
+    record: 0,
+};
+
+impl Verdict {
+    pub fn new(number: u64, record: u64) -> Verdict {
+        Verdict { number, record }
+    }
+
+    // One of the two numbers, as an answer where nothing is wrong or as a refusal.
+    fn said(self, number: u64) -> Said {
+        let case = if self.number == 0 {
+            Case::Fine
+        } else {
+            Case::Refused
+        };
+        Said::new(case, number)
     }
 }
 
-// An answer by its number.
-fn answered(answer: Labels) -> Said {
-    match answer {
-        Labels::Fine => said(true, 0),
-        Labels::Refused(n, _) => said(false, n),
+impl From<Labels> for Verdict {
+    fn from(answer: Labels) -> Verdict {
+        match answer {
+            Labels::Fine => FINE,
+            Labels::Refused(number, record) => Verdict::new(number, record as u64),
+        }
     }
 }
 
-// An answer by its record number.
-fn recorded(answer: Labels) -> Said {
-    match answer {
-        Labels::Fine => said(true, 0),
-        Labels::Refused(_, i) => said(false, i as u64),
+impl<R: Print + AllocGlobal> Trial<'_, R> {
+    // Records get this answer.
+    pub fn is_checked(&mut self, place: Place, records: &[u64], want: Verdict) -> io::Result<()> {
+        let got = Verdict::from(check_labels(records));
+        count_one(&mut self.group.checks);
+        let (said, expected) = (got.said(got.number), want.said(want.number));
+        self.part(place, "number", said == expected, said, expected)?;
+        let (said, expected) = (got.said(got.record), want.said(want.record));
+        self.part(place, "record number", said == expected, said, expected)
     }
-}
-
-// Records get this answer, by its number, 0 where nothing is wrong, and by its record number.
-pub fn is_checked(
-    rt: &impl Print,
-    t: Tally,
-    name: &[u8],
-    at: u64,
-    records: &[u64],
-    number: u64,
-    record: u64,
-) -> io::Result<Tally> {
-    let answer = check_labels(records);
-    let got = answered(answer);
-    let there = recorded(answer);
-    let want = said(number == 0, number);
-    let place = said(number == 0, record);
-    let a = with_check(t);
-    let b = part(
-        rt,
-        a,
-        same_answer(got, want),
-        name,
-        at,
-        b"number",
-        got,
-        want,
-    )?;
-    part(
-        rt,
-        b,
-        same_answer(there, place),
-        name,
-        at,
-        b"record number",
-        there,
-        place,
-    )
 }

@@ -1,0 +1,103 @@
+// A run of compared calls: where it prints what differs, and what it counts.
+use crate::answer::Said;
+use crate::tally::{Tally, count_one};
+use std::convert::AsSlice;
+use std::{fmt, io};
+
+// What a store or an output holds before a call: rubbish, so that a word that the call leaves as it was is seen.
+pub(crate) const RUBBISH: u64 = 11400714819323198485;
+
+// Where a call stands: the name of what is tried, and a number.
+#[derive(Clone, Copy)]
+pub struct Place<'a> {
+    pub name: &'a str,
+    pub at: u64,
+}
+
+impl Place<'_> {
+    pub fn new(name: &str, at: u64) -> Place<'_> {
+        Place { name, at }
+    }
+}
+
+impl fmt::Display for Place<'_> {
+    fn fmt<W: fmt::Write>(&self, f: &mut fmt::Formatter<W>) -> fmt::Result {
+        write!(f, "{} {}", self.name, self.at)
+    }
+}
+
+// The runtime, the counts of the present group, and those of the groups before it.
+#[derive(Drop)]
+pub struct Trial<'a, R> {
+    pub(crate) rt: &'a R,
+    pub(crate) group: Tally,
+    total: Tally,
+}
+
+impl<'a, R: Print + AllocGlobal> Trial<'a, R> {
+    pub fn new(rt: &'a R) -> Trial<'a, R> {
+        Trial {
+            rt,
+            group: Tally::default(),
+            total: Tally::default(),
+        }
+    }
+
+    // One sheet more is begun.
+    pub fn begin_sheet(&mut self) {
+        count_one(&mut self.group.sheets);
+    }
+
+    // A line of the input that can't be one counts as a difference.
+    pub fn malformed(&mut self, at: u64) -> io::Result<()> {
+        println!(self.rt; "difference at line {at}: malformed")?;
+        count_one(&mut self.group.differences);
+        Ok(())
+    }
+
+    // A call that asks for a longer store or output than there is counts as a difference.
+    pub(crate) fn no_room(&mut self, place: Place) -> io::Result<()> {
+        println!(self.rt; "difference at {place}: no room of that length")?;
+        count_one(&mut self.group.differences);
+        Ok(())
+    }
+
+    // A part of a call, the answer, the reader, the store, the output or the record number: a difference in it is printed and counted.
+    pub(crate) fn part(
+        &mut self,
+        place: Place,
+        what: &str,
+        same: bool,
+        said: Said,
+        want: Said,
+    ) -> io::Result<()> {
+        if same {
+            return Ok(());
+        }
+        println!(self.rt; "difference at {place}: {what}; answer {said}, expected {want}")?;
+        count_one(&mut self.group.differences);
+        Ok(())
+    }
+
+    // A group ends: its counts are printed behind its name.
+    pub fn end_group<N: AsSlice<u8>>(&mut self, name: &N) -> io::Result<()> {
+        self.rt.write_all(name.as_slice())?;
+        println!(self.rt; ": {}", self.group)?;
+        self.total += self.group;
+        self.group = Tally::default();
+        Ok(())
+    }
+
+    // The counts of all groups.
+    pub fn end(&mut self) -> io::Result<()> {
+        self.total += self.group;
+        println!(self.rt; "all: {}", self.total)
+    }
+}
+
+// Whether a store holds a tree's records, or an output a text, and 0 behind them.
+pub(crate) fn holds(store: &[u64], words: &[u64]) -> bool {
+    store
+        .strip_prefix(words)
+        .is_some_and(|rest| rest.iter().all(|word| *word == 0))
+}
