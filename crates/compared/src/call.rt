@@ -38,7 +38,7 @@ impl<R: Print + AllocGlobal> Trial<'_, R> {
         if ROOM < room {
             return self.no_room(call.place);
         }
-        let mut store = vec![in self.rt.alloc(); RUBBISH; room]?;
+        let mut store = vec![in self.alloc(); RUBBISH; room]?;
         let step = next_stmt(call.reader, call.tokens, &mut store);
         let said = Said::from(step.answer);
         let (place, expected) = (call.place, want.said);

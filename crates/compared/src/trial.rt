@@ -1,6 +1,7 @@
 // A run of compared calls: where it prints what differs, and what it counts.
 use crate::answer::Said;
 use crate::tally::{Tally, count_one};
+use std::alloc::Global;
 use std::convert::AsSlice;
 use std::{fmt, io};
 
@@ -29,7 +30,7 @@ impl fmt::Display for Place<'_> {
 // The runtime, the counts of the present group, and those of the groups before it.
 #[derive(Drop)]
 pub struct Trial<'a, R> {
-    pub(crate) rt: &'a R,
+    rt: &'a R,
     pub(crate) group: Tally,
     total: Tally,
 }
@@ -41,6 +42,10 @@ impl<'a, R: Print + AllocGlobal> Trial<'a, R> {
             group: Tally::default(),
             total: Tally::default(),
         }
+    }
+
+    pub fn alloc(&self) -> Global {
+        self.rt.alloc()
     }
 
     // One sheet more is begun.

@@ -26,7 +26,7 @@ impl<R: Print + AllocGlobal> Trial<'_, R> {
         if writing.room < length {
             return self.no_room(place);
         }
-        let mut output = vec![in self.rt.alloc(); RUBBISH; length]?;
+        let mut output = vec![in self.alloc(); RUBBISH; length]?;
         let said = Said::from(write_stmt(writing.records, &mut output));
         count_one(&mut self.group.writes);
         self.part(place, "answer", said == want, said, want)?;

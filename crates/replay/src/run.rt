@@ -20,7 +20,6 @@ const HELD: usize = 9192;
 // Where the replay stands: the counts, the present sheet, the records for the writer and the check, and the reader that the next call gets.
 #[derive(Drop)]
 pub struct Run<'a, R> {
-    rt: &'a R,
     trial: Trial<'a, R>,
     sheet: Vec<u64>,
     records: Vec<u64>,
@@ -31,7 +30,6 @@ impl<'a, R: Print + AllocGlobal> Run<'a, R> {
     // Before the first line.
     pub fn new(rt: &'a R) -> Run<'a, R> {
         Run {
-            rt,
             trial: Trial::new(rt),
             sheet: Vec::new(rt.alloc()),
             records: Vec::new(rt.alloc()),
@@ -60,7 +58,7 @@ impl<'a, R: Print + AllocGlobal> Run<'a, R> {
             [b'>', name @ ..] => Ok(self.trial.end_group(&name)?),
             [letter, numbers @ ..] => {
                 let letter = Letter::try_from(*letter)?;
-                let numbers = Numbers::read(self.rt.alloc(), numbers)?;
+                let numbers = Numbers::read(self.trial.alloc(), numbers)?;
                 Ok(self.numbers_read(at, letter, &numbers)?)
             }
         }
