@@ -29,7 +29,8 @@ impl fmt::Display for Case {
     }
 }
 
-// An answer by its case and a number: of a tree the count of its nodes, of a text that of its tokens.
+// An answer by its case and a number: of a tree the count of its nodes, of a text that of its tokens, 0 of the end and where nothing is wrong.
+// Stays a case and a number: a line of the input may have any number beside the end, which is then printed as a difference.
 #[derive(Clone, Copy, PartialEq, Eq)]
 pub struct Said {
     pub case: Case,
@@ -76,6 +77,26 @@ pub struct Want<'a> {
     pub said: Said,
     pub reader: Reader,
     pub tree: &'a [u64],
+}
+
+impl<'a> Want<'a> {
+    // An answer that is no tree.
+    pub fn answer(case: Case, number: u64, reader: Reader) -> Want<'a> {
+        Want {
+            said: Said::new(case, number),
+            reader,
+            tree: &[],
+        }
+    }
+
+    // A tree by its records, of two words each.
+    pub fn tree(tree: &'a [u64], reader: Reader) -> Want<'a> {
+        Want {
+            said: Said::new(Case::Tree, (tree.len() / 2) as u64),
+            reader,
+            tree,
+        }
+    }
 }
 
 // A reader at a position, nothing waiting.

@@ -1,7 +1,7 @@
 // A call of the reader held to what is expected of it: the answer, the whole reader, every word of the store.
 use crate::answer::{Case, Said, Want, fresh_at, same_reader};
 use crate::tally::count_one;
-use crate::trial::{Place, RUBBISH, Trial, holds};
+use crate::trial::{Host, Outcome, Place, RUBBISH, Trial, holds};
 use grammar::Reader;
 use parser::next_stmt;
 use std::io;
@@ -24,7 +24,15 @@ pub struct Call<'a> {
     pub tokens: &'a [u64],
 }
 
-impl Call<'_> {
+impl<'a> Call<'a> {
+    pub fn new(place: Place<'a>, reader: Reader, tokens: &'a [u64]) -> Call<'a> {
+        Call {
+            place,
+            reader,
+            tokens,
+        }
+    }
+
     // The words of store that the call asks for: 16 for each unread token.
     fn needed(&self) -> usize {
         let left = (self.tokens.len() / 2).saturating_sub(self.reader.position);
@@ -32,7 +40,7 @@ impl Call<'_> {
     }
 }
 
-impl<R: Print + AllocGlobal> Trial<'_, R> {
+impl<R: Host> Trial<'_, R> {
     // A call on a store of so many words, compared. A store longer than there is room for counts as a difference.
     pub fn called(&mut self, call: Call, room: usize, want: Want) -> io::Result<()> {
         if ROOM < room {
@@ -40,18 +48,15 @@ impl<R: Print + AllocGlobal> Trial<'_, R> {
         }
         let mut store = vec![in self.alloc(); RUBBISH; room]?;
         let step = next_stmt(call.reader, call.tokens, &mut store);
-        let said = Said::from(step.answer);
-        let (place, expected) = (call.place, want.said);
         count_one(&mut self.group.answers);
-        self.part(place, "answer", said == expected, said, expected)?;
-        self.part(
-            place,
-            "reader",
-            same_reader(&step.reader, &want.reader),
-            said,
-            expected,
-        )?;
-        self.part(place, "store", holds(&store, want.tree), said, expected)
+        let outcome = Outcome {
+            place: call.place,
+            said: Said::from(step.answer),
+            want: want.said,
+        };
+        self.part("answer", outcome.is_expected(), outcome)?;
+        self.part("reader", same_reader(&step.reader, &want.reader), outcome)?;
+        self.part("store", holds(&store, want.tree), outcome)
     }
 
     // A call on a store that is exactly long enough.
@@ -61,30 +66,16 @@ impl<R: Print + AllocGlobal> Trial<'_, R> {
 
     // A call on a store that is one word short, where a word of it is asked for: refused, with the reader as given and the store zero.
     pub fn called_short(&mut self, call: Call) -> io::Result<()> {
-        let Some(room) = call.needed().checked_sub(1) else {
-            return Ok(());
-        };
-        let want = Want {
-            said: Said::new(Case::Refused, 63),
-            reader: call.reader,
-            tree: &[],
-        };
-        self.called(call, room, want)
+        match call.needed().checked_sub(1) {
+            Some(room) => self.called(call, room, Want::answer(Case::Refused, 63, call.reader)),
+            None => Ok(()),
+        }
     }
 
     // A sheet of one statement and a token behind it, from its start: a tree, all tokens but the last taken.
     pub fn read_whole(&mut self, place: Place, tokens: &[u64], tree: &[u64]) -> io::Result<()> {
         let taken = (tokens.len() / 2).saturating_sub(1);
-        let call = Call {
-            place,
-            reader: fresh_at(0),
-            tokens,
-        };
-        let want = Want {
-            said: Said::new(Case::Tree, (tree.len() / 2) as u64),
-            reader: fresh_at(taken),
-            tree,
-        };
-        self.called_full(call, want)
+        let call = Call::new(place, fresh_at(0), tokens);
+        self.called_full(call, Want::tree(tree, fresh_at(taken)))
     }
 }

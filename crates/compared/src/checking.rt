@@ -1,15 +1,16 @@
 // A call of the check of labels held to what is expected of it: its number, and the record number.
 use crate::answer::{Case, Said};
 use crate::tally::count_one;
-use crate::trial::{Place, Trial};
+use crate::trial::{Host, Outcome, Place, Trial};
 use labels::{Labels, check_labels};
 use std::io;
 
 // What the check answers: a number, 0 where nothing is wrong, and the number of the record that it is for.
+// Stays two numbers: a line of the input may have any record number beside 0, which is then printed as a difference.
 #[derive(Clone, Copy)]
 pub struct Verdict {
-    pub number: u64,
-    pub record: u64,
+    number: u64,
+    record: u64,
 }
 
 // Nothing is wrong.
@@ -43,14 +44,22 @@ impl From<Labels> for Verdict {
     }
 }
 
-impl<R: Print + AllocGlobal> Trial<'_, R> {
+impl<R: Host> Trial<'_, R> {
     // Records get this answer.
     pub fn is_checked(&mut self, place: Place, records: &[u64], want: Verdict) -> io::Result<()> {
         let got = Verdict::from(check_labels(records));
         count_one(&mut self.group.checks);
-        let (said, expected) = (got.said(got.number), want.said(want.number));
-        self.part(place, "number", said == expected, said, expected)?;
-        let (said, expected) = (got.said(got.record), want.said(want.record));
-        self.part(place, "record number", said == expected, said, expected)
+        let number = Outcome {
+            place,
+            said: got.said(got.number),
+            want: want.said(want.number),
+        };
+        let record = Outcome {
+            place,
+            said: got.said(got.record),
+            want: want.said(want.record),
+        };
+        self.part("number", number.is_expected(), number)?;
+        self.part("record number", record.is_expected(), record)
     }
 }

@@ -8,11 +8,16 @@ use std::{fmt, io};
 // What a store or an output holds before a call: rubbish, so that a word that the call leaves as it was is seen.
 pub(crate) const RUBBISH: u64 = 11400714819323198485;
 
+// What a trial asks of the runtime: to print, and memory.
+pub trait Host: Print + AllocGlobal {}
+
+impl<R: Print + AllocGlobal> Host for R {}
+
 // Where a call stands: the name of what is tried, and a number.
 #[derive(Clone, Copy)]
 pub struct Place<'a> {
-    pub name: &'a str,
-    pub at: u64,
+    name: &'a str,
+    at: u64,
 }
 
 impl Place<'_> {
@@ -27,6 +32,20 @@ impl fmt::Display for Place<'_> {
     }
 }
 
+// What a call answered, and what was expected.
+#[derive(Clone, Copy)]
+pub(crate) struct Outcome<'a> {
+    pub place: Place<'a>,
+    pub said: Said,
+    pub want: Said,
+}
+
+impl Outcome<'_> {
+    pub(crate) fn is_expected(&self) -> bool {
+        self.said == self.want
+    }
+}
+
 // The runtime, the counts of the present group, and those of the groups before it.
 #[derive(Drop)]
 pub struct Trial<'a, R> {
@@ -35,7 +54,7 @@ pub struct Trial<'a, R> {
     total: Tally,
 }
 
-impl<'a, R: Print + AllocGlobal> Trial<'a, R> {
+impl<'a, R: Host> Trial<'a, R> {
     pub fn new(rt: &'a R) -> Trial<'a, R> {
         Trial {
             rt,
@@ -53,39 +72,34 @@ impl<'a, R: Print + AllocGlobal> Trial<'a, R> {
         count_one(&mut self.group.sheets);
     }
 
-    // A line of the input that can't be one counts as a difference.
+    // A difference is printed and counted.
+    fn differ<T: fmt::Display>(&mut self, difference: &T) -> io::Result<()> {
+        println!(self.rt; "difference at {difference}")?;
+        count_one(&mut self.group.differences);
+        Ok(())
+    }
+
+    // A line of the input that can't be one.
     pub fn malformed(&mut self, at: u64) -> io::Result<()> {
-        println!(self.rt; "difference at line {at}: malformed")?;
-        count_one(&mut self.group.differences);
-        Ok(())
+        self.differ(&format_args!("line {at}: malformed"))
     }
 
-    // A call that asks for a longer store or output than there is counts as a difference.
+    // A call that asks for a longer store or output than there is.
     pub(crate) fn no_room(&mut self, place: Place) -> io::Result<()> {
-        println!(self.rt; "difference at {place}: no room of that length")?;
-        count_one(&mut self.group.differences);
-        Ok(())
+        self.differ(&format_args!("{place}: no room of that length"))
     }
 
-    // A part of a call, the answer, the reader, the store, the output or the record number: a difference in it is printed and counted.
-    pub(crate) fn part(
-        &mut self,
-        place: Place,
-        what: &str,
-        same: bool,
-        said: Said,
-        want: Said,
-    ) -> io::Result<()> {
+    // A part of a call, the answer, the reader, the store, the output or the record number, is the same as expected, or differs.
+    pub(crate) fn part(&mut self, what: &str, same: bool, outcome: Outcome) -> io::Result<()> {
         if same {
             return Ok(());
         }
-        println!(self.rt; "difference at {place}: {what}; answer {said}, expected {want}")?;
-        count_one(&mut self.group.differences);
-        Ok(())
+        let Outcome { place, said, want } = outcome;
+        self.differ(&format_args!("{place}: {what}; answer {said}, expected {want}"))
     }
 
     // A group ends: its counts are printed behind its name.
-    pub fn end_group<N: AsSlice<u8>>(&mut self, name: &N) -> io::Result<()> {
+    pub fn end_group<N: AsSlice<u8> + Drop>(&mut self, name: N) -> io::Result<()> {
         self.rt.write_all(name.as_slice())?;
         println!(self.rt; ": {}", self.group)?;
         self.total += self.group;
@@ -94,9 +108,10 @@ impl<'a, R: Print + AllocGlobal> Trial<'a, R> {
     }
 
     // The counts of all groups.
-    pub fn end(&mut self) -> io::Result<()> {
-        self.total += self.group;
-        println!(self.rt; "all: {}", self.total)
+    pub fn end(&self) -> io::Result<()> {
+        let mut all = self.total;
+        all += self.group;
+        println!(self.rt; "all: {all}")
     }
 }
 

@@ -1,7 +1,7 @@
 // A call of the writer held to what is expected of it: the answer, and every word of the output.
 use crate::answer::{Case, Said};
 use crate::tally::count_one;
-use crate::trial::{Place, RUBBISH, Trial, holds};
+use crate::trial::{Host, Outcome, Place, RUBBISH, Trial, holds};
 use std::io;
 use writer::write_stmt;
 
@@ -13,7 +13,17 @@ pub struct Writing<'a> {
     pub room: usize,
 }
 
-impl<R: Print + AllocGlobal> Trial<'_, R> {
+impl<'a> Writing<'a> {
+    pub fn new(place: Place<'a>, records: &'a [u64], room: usize) -> Writing<'a> {
+        Writing {
+            place,
+            records,
+            room,
+        }
+    }
+}
+
+impl<R: Host> Trial<'_, R> {
     // A call on an output of so many words, compared. An output longer than there is room for counts as a difference.
     fn on_output(
         &mut self,
@@ -29,8 +39,9 @@ impl<R: Print + AllocGlobal> Trial<'_, R> {
         let mut output = vec![in self.alloc(); RUBBISH; length]?;
         let said = Said::from(write_stmt(writing.records, &mut output));
         count_one(&mut self.group.writes);
-        self.part(place, "answer", said == want, said, want)?;
-        self.part(place, "output", holds(&output, text), said, want)
+        let outcome = Outcome { place, said, want };
+        self.part("answer", outcome.is_expected(), outcome)?;
+        self.part("output", holds(&output, text), outcome)
     }
 
     // A text is written: to an output that is exactly long enough, to the longest one, not to one that is one word short, which is zero then.

@@ -1,9 +1,7 @@
 // The depth: 37 begun and unfinished are read and written, a 38th stops reader and writer, by operands, by right sides and by statement
 // lists. The numbers are document 02's, and not made of the limit in the code.
-use crate::made::{Layers, SIGNS_TREE, stopped_at};
-use compared::answer::{Case, Said, Want, fresh_at};
-use compared::call::Call;
-use compared::trial::{Place, Trial};
+use crate::made::{Layers, SIGNS_TREE, stops};
+use compared::trial::{Host, Place, Trial};
 use compared::writing::Writing;
 use std::io;
 use token::kind;
@@ -85,56 +83,32 @@ const LISTS: Nest = Nest {
 };
 
 // A tree that is as deep as may be: its tokens are read to it, and it is written as them.
-fn both_ways<R: Print + AllocGlobal>(
-    trial: &mut Trial<'_, R>,
+fn both_ways<R: Host>(
+    trial: &mut Trial<R>,
     place: Place,
     tokens: &[u64],
     tree: &[u64],
 ) -> io::Result<()> {
     trial.begin_sheet();
     trial.read_whole(place, tokens, tree)?;
-    let writing = Writing {
-        place,
-        records: tree,
-        room: ROOM,
-    };
+    let writing = Writing::new(place, tree, ROOM);
     trial.is_written(writing, tokens)
 }
 
-// One deeper: neither read nor written. The sheet stops the reader, and once more the stopped reader.
-fn neither_way<R: Print + AllocGlobal>(
-    trial: &mut Trial<'_, R>,
+// One deeper: neither read nor written.
+fn neither_way<R: Host>(
+    trial: &mut Trial<R>,
     place: Place,
     tokens: &[u64],
     tree: &[u64],
 ) -> io::Result<()> {
-    trial.begin_sheet();
-    let stopped = stopped_at(0, 62);
-    let want = Want {
-        said: Said::new(Case::Stopped, 62),
-        reader: stopped,
-        tree: &[],
-    };
-    for reader in [fresh_at(0), stopped] {
-        trial.called_full(
-            Call {
-                place,
-                reader,
-                tokens,
-            },
-            want,
-        )?;
-    }
-    let writing = Writing {
-        place,
-        records: tree,
-        room: ROOM,
-    };
+    stops(trial, place, tokens, 62)?;
+    let writing = Writing::new(place, tree, ROOM);
     trial.is_not_written(writing, 62)
 }
 
 // What is begun 37 times, and 38 times: one of them in the middle.
-fn tried<R: Print + AllocGlobal>(trial: &mut Trial<'_, R>, nest: Nest) -> io::Result<()> {
+fn tried<R: Host>(trial: &mut Trial<R>, nest: Nest) -> io::Result<()> {
     let sheet = nest.sheet.words(trial.alloc(), 36)?;
     let tree = nest.tree.words(trial.alloc(), 36)?;
     both_ways(trial, Place::new(nest.name, 37), &sheet, &tree)?;
@@ -143,7 +117,7 @@ fn tried<R: Print + AllocGlobal>(trial: &mut Trial<'_, R>, nest: Nest) -> io::Re
     neither_way(trial, Place::new(nest.name, 38), &sheet, &tree)
 }
 
-pub fn depths<R: Print + AllocGlobal>(trial: &mut Trial<'_, R>) -> io::Result<()> {
+pub fn depths<R: Host>(trial: &mut Trial<R>) -> io::Result<()> {
     for nest in [OPERANDS, RIGHT_SIDES, LISTS] {
         tried(trial, nest)?;
     }

@@ -2,7 +2,7 @@
 use crate::made::{Layers, SIGNS_TREE};
 use crate::nested::nests;
 use compared::checking::{FINE, Verdict};
-use compared::trial::{Place, Trial};
+use compared::trial::{Host, Place, Trial};
 use compared::writing::Writing;
 use std::io;
 use token::kind;
@@ -34,47 +34,27 @@ const SUM_TEXT: Layers = Layers {
 };
 
 // A sum is one statement however long it is.
-fn long_sum<R: Print + AllocGlobal>(trial: &mut Trial<'_, R>) -> io::Result<()> {
+fn long_sum<R: Host>(trial: &mut Trial<R>) -> io::Result<()> {
     let tree = SUM_TREE.words(trial.alloc(), 29999)?;
     let text = SUM_TEXT.words(trial.alloc(), 29999)?;
     let place = Place::new("terms of a sum", 30000);
-    let writing = Writing {
-        place,
-        records: &tree,
-        room: ROOM,
-    };
+    let writing = Writing::new(place, &tree, ROOM);
     trial.is_written(writing, &text)?;
     trial.is_checked(place, &tree, FINE)
 }
 
 // Damaged signs, by number: no clean reading gives them.
-fn no_tree<R: Print + AllocGlobal>(
-    trial: &mut Trial<'_, R>,
-    which: u64,
-    records: &[u64],
-) -> io::Result<()> {
+fn no_tree<R: Host>(trial: &mut Trial<R>, which: u64, records: &[u64]) -> io::Result<()> {
     let place = Place::new("damaged signs", which);
-    let writing = Writing {
-        place,
-        records,
-        room: ROOM,
-    };
+    let writing = Writing::new(place, records, ROOM);
     trial.is_not_written(writing, 65)?;
     trial.is_checked(place, records, Verdict::new(65, 0))
 }
 
 // Signs beyond the depth are too deep for the writer, and not for the check. Without their operand, or from the middle of a record on, they are no tree.
-fn too_many<R: Print + AllocGlobal>(
-    trial: &mut Trial<'_, R>,
-    tree: &[u64],
-    times: u64,
-) -> io::Result<()> {
+fn too_many<R: Host>(trial: &mut Trial<R>, tree: &[u64], times: u64) -> io::Result<()> {
     let place = Place::new("signs", times);
-    let writing = Writing {
-        place,
-        records: tree,
-        room: ROOM,
-    };
+    let writing = Writing::new(place, tree, ROOM);
     trial.is_not_written(writing, 62)?;
     trial.is_checked(place, tree, FINE)?;
     for (which, from) in [(1, 2), (2, 1)] {
@@ -85,11 +65,7 @@ fn too_many<R: Print + AllocGlobal>(
 
 // So many signs before a name, as they are and damaged: nor are they one with another tree behind them, or with a number, at the word in the middle, that is no
 // operator's.
-fn many_signs<R: Print + AllocGlobal>(
-    trial: &mut Trial<'_, R>,
-    times: u64,
-    middle: usize,
-) -> io::Result<()> {
+fn many_signs<R: Host>(trial: &mut Trial<R>, times: u64, middle: usize) -> io::Result<()> {
     let mut tree = SIGNS_TREE.words(trial.alloc(), times as usize)?;
     too_many(trial, &tree, times)?;
     let length = tree.len();
@@ -103,7 +79,7 @@ fn many_signs<R: Print + AllocGlobal>(
 }
 
 // The signs' records and a tree behind them take 400,006 words.
-pub fn records<R: Print + AllocGlobal>(trial: &mut Trial<'_, R>) -> io::Result<()> {
+pub fn records<R: Host>(trial: &mut Trial<R>) -> io::Result<()> {
     long_sum(trial)?;
     for (times, middle) in [(37, 39), (200000, 200003)] {
         many_signs(trial, times, middle)?;

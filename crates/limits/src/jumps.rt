@@ -29,7 +29,9 @@ pub enum Form {
 
 impl Form {
     // The number of the jump's record.
-    pub fn record(self) -> u64 {
+    pub fn record(self) -> u64
+        ensures { result ≤ 4 }
+    {
         match self {
             Form::Break | Form::Condition => 2,
             Form::Continue => 1,
@@ -39,11 +41,7 @@ impl Form {
 
     // The same in a function, behind the four records of its signature.
     pub fn record_in_function(self) -> u64 {
-        match self {
-            Form::Break | Form::Condition => 6,
-            Form::Continue => 5,
-            Form::Among => 8,
-        }
+        self.record() + 4
     }
 }
 

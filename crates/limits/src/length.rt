@@ -1,9 +1,9 @@
 // The token length: 65,536 tokens are read, 65,537 and an odd length are not. A store for the whole of such a sheet would be 8 MiB,
 // so a reader near the sheet's end reads it; of a reader at its start a store that is too short shows that the length was passed.
 use crate::made::{stopped_at, waiting_at};
-use compared::answer::{Case, Said, Want, fresh_at};
+use compared::answer::{Case, Want, fresh_at};
 use compared::call::Call;
-use compared::trial::{Place, Trial};
+use compared::trial::{Host, Place, Trial};
 use std::io;
 use token::kind;
 
@@ -11,79 +11,43 @@ use token::kind;
 const MOST: usize = 65536;
 
 // A sheet of semicolons, from its start: a short store is refused.
-fn from_start<R: Print + AllocGlobal>(trial: &mut Trial<'_, R>, tokens: &[u64]) -> io::Result<()> {
+fn from_start<R: Host>(trial: &mut Trial<R>, tokens: &[u64]) -> io::Result<()> {
     let reader = fresh_at(0);
-    let call = Call {
-        place: Place::new("from the start, words", tokens.len() as u64),
+    let call = Call::new(
+        Place::new("from the start, words", tokens.len() as u64),
         reader,
         tokens,
-    };
-    let want = Want {
-        said: Said::new(Case::Refused, 63),
-        reader,
-        tree: &[],
-    };
+    );
+    let want = Want::answer(Case::Refused, 63, reader);
     trial.called(call, 4000, want)
 }
 
 // The same sheet from its last tokens on: the semicolons are passed, and the end stands at the sheet's end.
-fn from_near_end<R: Print + AllocGlobal>(
-    trial: &mut Trial<'_, R>,
-    left: usize,
-    tokens: &[u64],
-) -> io::Result<()> {
-    let call = Call {
-        place: Place::new("tokens left", left as u64),
-        reader: fresh_at(MOST.saturating_sub(left)),
+fn from_near_end<R: Host>(trial: &mut Trial<R>, left: usize, tokens: &[u64]) -> io::Result<()> {
+    let call = Call::new(
+        Place::new("tokens left", left as u64),
+        fresh_at(MOST.saturating_sub(left)),
         tokens,
-    };
-    let want = Want {
-        said: Said::new(Case::End, 0),
-        reader: fresh_at(MOST),
-        tree: &[],
-    };
+    );
+    let want = Want::answer(Case::End, 0, fresh_at(MOST));
     trial.called_full(call, want)
 }
 
 // A sheet of a length that can't be read: it stops, at the reader's old position and with an empty queue, whatever the reader is.
-fn not_read<R: Print + AllocGlobal>(
-    trial: &mut Trial<'_, R>,
-    position: usize,
-    tokens: &[u64],
-) -> io::Result<()> {
+fn not_read<R: Host>(trial: &mut Trial<R>, position: usize, tokens: &[u64]) -> io::Result<()> {
     let place = Place::new("not read, words", tokens.len() as u64);
-    let want = Want {
-        said: Said::new(Case::Stopped, 60),
-        reader: stopped_at(position, 60),
-        tree: &[],
-    };
+    let want = Want::answer(Case::Stopped, 60, stopped_at(position, 60));
     let full = waiting_at(position, 47, 96);
     let over = waiting_at(position, 3, 97);
     for reader in [fresh_at(position), full, over] {
-        trial.called(
-            Call {
-                place,
-                reader,
-                tokens,
-            },
-            4000,
-            want,
-        )?;
+        trial.called(Call::new(place, reader, tokens), 4000, want)?;
     }
     let reader = stopped_at(position, 62);
-    trial.called(
-        Call {
-            place,
-            reader,
-            tokens,
-        },
-        0,
-        want,
-    )
+    trial.called(Call::new(place, reader, tokens), 0, want)
 }
 
 // A sheet of 65,536 semicolons.
-fn longest<R: Print + AllocGlobal>(trial: &mut Trial<'_, R>, whole: &[u64]) -> io::Result<()> {
+fn longest<R: Host>(trial: &mut Trial<R>, whole: &[u64]) -> io::Result<()> {
     trial.begin_sheet();
     from_start(trial, whole)?;
     for left in [0, 1, 500] {
@@ -93,7 +57,7 @@ fn longest<R: Print + AllocGlobal>(trial: &mut Trial<'_, R>, whole: &[u64]) -> i
 }
 
 // Sheets that are a token too long, and of odd lengths.
-fn too_long<R: Print + AllocGlobal>(trial: &mut Trial<'_, R>, sheet: &[u64]) -> io::Result<()> {
+fn too_long<R: Host>(trial: &mut Trial<R>, sheet: &[u64]) -> io::Result<()> {
     trial.begin_sheet();
     not_read(trial, 0, sheet)?;
     not_read(trial, 65530, sheet)?;
@@ -104,7 +68,7 @@ fn too_long<R: Print + AllocGlobal>(trial: &mut Trial<'_, R>, sheet: &[u64]) -> 
     Ok(())
 }
 
-pub fn lengths<R: Print + AllocGlobal>(trial: &mut Trial<'_, R>) -> io::Result<()> {
+pub fn lengths<R: Host>(trial: &mut Trial<R>) -> io::Result<()> {
     let semicolon = [kind::SEMICOLON, 0];
     longest(trial, &semicolon.repeat(trial.alloc(), 65536)?)?;
     too_long(trial, &semicolon.repeat(trial.alloc(), 65537)?)

@@ -1,8 +1,11 @@
-// What the limits are tried on: words laid down many times, readers with errors waiting and with a stop.
-use compared::answer::fresh_at;
+// What the limits are tried on: words laid down many times, readers with errors waiting and with a stop, and a sheet that stops.
+use compared::answer::{Case, Want, fresh_at};
+use compared::call::Call;
+use compared::trial::{Host, Place, Trial};
 use grammar::Reader;
 use grammar::limit::QUEUE;
 use std::alloc::{AllocError, Global};
+use std::io;
 use tree::word;
 
 // Words in layers: some so many times, those in the middle, some as many times behind them, and those at the end.
@@ -49,4 +52,20 @@ pub fn stopped_at(position: usize, stopped: u64) -> Reader {
         stopped,
         ..fresh_at(position)
     }
+}
+
+// A sheet that stops the reader, by this number, and once more the stopped reader.
+pub fn stops<R: Host>(
+    trial: &mut Trial<R>,
+    place: Place,
+    tokens: &[u64],
+    number: u64,
+) -> io::Result<()> {
+    trial.begin_sheet();
+    let stopped = stopped_at(0, number);
+    let want = Want::answer(Case::Stopped, number, stopped);
+    for reader in [fresh_at(0), stopped] {
+        trial.called_full(Call::new(place, reader, tokens), want)?;
+    }
+    Ok(())
 }

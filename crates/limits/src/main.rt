@@ -11,22 +11,22 @@ mod nested;
 mod queue;
 mod reader;
 
-use compared::trial::Trial;
+use compared::trial::{Host, Trial};
 use std::io;
 
 // All groups, one after the other.
-fn groups<R: Print + AllocGlobal>(rt: &R) -> io::Result<()> {
+fn groups<R: Host>(rt: &R) -> io::Result<()> {
     let mut trial = Trial::new(rt);
     length::lengths(&mut trial)?;
-    trial.end_group(&"limits, token length")?;
+    trial.end_group("limits, token length")?;
     depth::depths(&mut trial)?;
-    trial.end_group(&"limits, depth")?;
+    trial.end_group("limits, depth")?;
     queue::queues(&mut trial)?;
-    trial.end_group(&"limits, waiting errors")?;
+    trial.end_group("limits, waiting errors")?;
     reader::readers(&mut trial)?;
-    trial.end_group(&"limits, readers and stores")?;
+    trial.end_group("limits, readers and stores")?;
     hostile::records(&mut trial)?;
-    trial.end_group(&"limits, hostile records")?;
+    trial.end_group("limits, hostile records")?;
     trial.end()
 }
 

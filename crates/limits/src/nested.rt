@@ -2,12 +2,12 @@
 // fewer where there are at most 256 records; beyond them it looks in the records behind.
 use crate::jumps::{Form, Jump, OTHER, OUTERMOST, Records};
 use compared::checking::{FINE, Verdict};
-use compared::trial::{Place, Trial};
+use compared::trial::{Host, Place, Trial};
 use std::io;
 
 // What is answered of so many loops, with a jump in them or none.
-fn in_loops<R: Print + AllocGlobal>(
-    trial: &mut Trial<'_, R>,
+fn in_loops<R: Host>(
+    trial: &mut Trial<R>,
     jump: Option<Jump>,
     times: u64,
     want: Verdict,
@@ -18,11 +18,7 @@ fn in_loops<R: Print + AllocGlobal>(
 }
 
 // A jump in so many loops: to the outermost one, without a label, and to the other label.
-fn jump_in_loops<R: Print + AllocGlobal>(
-    trial: &mut Trial<'_, R>,
-    form: Form,
-    times: u64,
-) -> io::Result<()> {
+fn jump_in_loops<R: Host>(trial: &mut Trial<R>, form: Form, times: u64) -> io::Result<()> {
     let offence = Verdict::new(67, form.record());
     for (label, want) in [(OUTERMOST, FINE), (0, FINE), (OTHER, offence)] {
         in_loops(trial, Some(Jump { form, label }), times, want)?;
@@ -31,7 +27,7 @@ fn jump_in_loops<R: Print + AllocGlobal>(
 }
 
 // So many loops, with each jump and with none.
-fn loops<R: Print + AllocGlobal>(trial: &mut Trial<'_, R>, times: u64) -> io::Result<()> {
+fn loops<R: Host>(trial: &mut Trial<R>, times: u64) -> io::Result<()> {
     in_loops(trial, None, times, FINE)?;
     for form in [Form::Break, Form::Continue, Form::Among, Form::Condition] {
         jump_in_loops(trial, form, times)?;
@@ -40,8 +36,8 @@ fn loops<R: Print + AllocGlobal>(trial: &mut Trial<'_, R>, times: u64) -> io::Re
 }
 
 // What is answered of a jump in a function, with so many loops but the outermost between them, in so many loops.
-fn in_function<R: Print + AllocGlobal>(
-    trial: &mut Trial<'_, R>,
+fn in_function<R: Host>(
+    trial: &mut Trial<R>,
     jump: Jump,
     inside: u64,
     times: u64,
@@ -59,7 +55,7 @@ fn in_function<R: Print + AllocGlobal>(
 }
 
 // Each jump in a function without loops in so many: it does not lead out of the function.
-fn jumps_out<R: Print + AllocGlobal>(trial: &mut Trial<'_, R>, times: u64) -> io::Result<()> {
+fn jumps_out<R: Host>(trial: &mut Trial<R>, times: u64) -> io::Result<()> {
     for form in [Form::Break, Form::Continue, Form::Condition] {
         let record = form.record_in_function();
         for (label, number) in [(0, 68), (OUTERMOST, 67)] {
@@ -77,8 +73,8 @@ fn jumps_out<R: Print + AllocGlobal>(trial: &mut Trial<'_, R>, times: u64) -> io
 
 // Each jump in a function in so many loops, with fewer in it, the outermost of which has this label: it leads to those in it alone. The next label is that
 // of a loop outside.
-fn jumps_inside<R: Print + AllocGlobal>(
-    trial: &mut Trial<'_, R>,
+fn jumps_inside<R: Host>(
+    trial: &mut Trial<R>,
     label: u64,
     inside: u64,
     times: u64,
@@ -93,12 +89,7 @@ fn jumps_inside<R: Print + AllocGlobal>(
 }
 
 // What is answered of a loop without a label, in which an if with a continue stands before so many loops.
-fn before<R: Print + AllocGlobal>(
-    trial: &mut Trial<'_, R>,
-    label: u64,
-    times: u64,
-    want: Verdict,
-) -> io::Result<()> {
+fn before<R: Host>(trial: &mut Trial<R>, label: u64, times: u64, want: Verdict) -> io::Result<()> {
     let mut records = Records::new(trial.alloc());
     records.put_before(label, times)?;
     trial.is_checked(
@@ -109,12 +100,7 @@ fn before<R: Print + AllocGlobal>(
 }
 
 // The same of one in which a continue stands in so many loops, and one to the same label behind them.
-fn behind<R: Print + AllocGlobal>(
-    trial: &mut Trial<'_, R>,
-    label: u64,
-    times: u64,
-    want: Verdict,
-) -> io::Result<()> {
+fn behind<R: Host>(trial: &mut Trial<R>, label: u64, times: u64, want: Verdict) -> io::Result<()> {
     let mut records = Records::new(trial.alloc());
     records.put_behind(label, times)?;
     trial.is_checked(
@@ -126,11 +112,7 @@ fn behind<R: Print + AllocGlobal>(
 
 // Before so many loops a jump does not lead to those, nor does one behind them, which is the record with this number. Of two that lead nowhere the first is
 // answered.
-fn jumps_beside<R: Print + AllocGlobal>(
-    trial: &mut Trial<'_, R>,
-    times: u64,
-    record: u64,
-) -> io::Result<()> {
+fn jumps_beside<R: Host>(trial: &mut Trial<R>, times: u64, record: u64) -> io::Result<()> {
     before(trial, 0, times, FINE)?;
     before(trial, OUTERMOST, times, Verdict::new(67, 2))?;
     behind(trial, 0, times, FINE)?;
@@ -140,7 +122,7 @@ fn jumps_beside<R: Print + AllocGlobal>(
 
 // Loops by what is kept of them: at most 256 records, but for 64 loops with more than a continue in them; one fewer than there is room for; as many, and one
 // more; many more. A function in loops is kept with them.
-fn each_size<R: Print + AllocGlobal>(trial: &mut Trial<'_, R>) -> io::Result<()> {
+fn each_size<R: Host>(trial: &mut Trial<R>) -> io::Result<()> {
     for times in [33, 64, 2047, 2048, 2049, 3000] {
         loops(trial, times)?;
     }
@@ -159,7 +141,7 @@ fn each_size<R: Print + AllocGlobal>(trial: &mut Trial<'_, R>) -> io::Result<()>
 }
 
 // The last 50,000 loops and a break in them take 400,002 words.
-pub fn nests<R: Print + AllocGlobal>(trial: &mut Trial<'_, R>) -> io::Result<()> {
+pub fn nests<R: Host>(trial: &mut Trial<R>) -> io::Result<()> {
     each_size(trial)?;
     // Beside few loops, as many as there is room for, and many more.
     for (times, record) in [(40, 161), (2048, 8193), (3000, 12001)] {

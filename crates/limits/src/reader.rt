@@ -4,18 +4,14 @@ ghost use Rattle.std.specs.Prelude.{◌<◌};
 use crate::made::{stopped_at, waiting_at};
 use compared::answer::{Case, Said, Want, fresh_at};
 use compared::call::Call;
-use compared::trial::{Place, Trial};
+use compared::trial::{Host, Place, Trial};
 use grammar::Reader;
 use std::io;
 use token::kind;
 
 // A reader that is refused, on a store of each of two lengths.
-fn refused<R: Print + AllocGlobal>(trial: &mut Trial<'_, R>, call: Call) -> io::Result<()> {
-    let want = Want {
-        said: Said::new(Case::Refused, 61),
-        reader: call.reader,
-        tree: &[],
-    };
+fn refused<R: Host>(trial: &mut Trial<R>, call: Call) -> io::Result<()> {
+    let want = Want::answer(Case::Refused, 61, call.reader);
     trial.called(call, 80, want)?;
     trial.called(call, 0, want)
 }
@@ -83,40 +79,24 @@ fn not_zero() -> [(&'static str, u64, Reader); 5] {
 }
 
 // Each of these readers is refused.
-fn each_refused<R: Print + AllocGlobal>(
-    trial: &mut Trial<'_, R>,
+fn each_refused<R: Host>(
+    trial: &mut Trial<R>,
     readers: &[(&'static str, u64, Reader)],
     tokens: &[u64],
 ) -> io::Result<()> {
     for (name, at, reader) in readers {
-        let call = Call {
-            place: Place::new(name, *at),
-            reader: *reader,
-            tokens,
-        };
+        let call = Call::new(Place::new(name, *at), *reader, tokens);
         refused(trial, call)?;
     }
     Ok(())
 }
 
 // A stopped reader answers its number again, also before an error that waits and before the store's test.
-fn stopped<R: Print + AllocGlobal>(
-    trial: &mut Trial<'_, R>,
-    stop: u64,
-    tokens: &[u64],
-) -> io::Result<()> {
+fn stopped<R: Host>(trial: &mut Trial<R>, stop: u64, tokens: &[u64]) -> io::Result<()> {
     let place = Place::new("stopped", stop);
     let reader = stopped_at(2, stop);
-    let want = Want {
-        said: Said::new(Case::Stopped, stop),
-        reader,
-        tree: &[],
-    };
-    let call = Call {
-        place,
-        reader,
-        tokens,
-    };
+    let want = Want::answer(Case::Stopped, stop, reader);
+    let call = Call::new(place, reader, tokens);
     trial.called_full(call, want)?;
     trial.called(call, 0, want)?;
     let reader = with_stop(waiting_at(4, 47, 96), stop);
@@ -124,69 +104,41 @@ fn stopped<R: Print + AllocGlobal>(
 }
 
 // A waiting error is answered before the store's test, in its kind.
-fn answered<R: Print + AllocGlobal>(
-    trial: &mut Trial<'_, R>,
-    error: u64,
-    tokens: &[u64],
-) -> io::Result<()> {
-    let call = Call {
-        place: Place::new("waiting", error),
-        reader: waiting_at(1, error, 2),
+fn answered<R: Host>(trial: &mut Trial<R>, error: u64, tokens: &[u64]) -> io::Result<()> {
+    let call = Call::new(
+        Place::new("waiting", error),
+        waiting_at(1, error, 2),
         tokens,
-    };
-    let want = Want {
-        said: Said::new(Case::Error, error),
-        reader: waiting_at(1, error, 1),
-        tree: &[],
-    };
+    );
+    let want = Want::answer(Case::Error, error, waiting_at(1, error, 1));
     trial.called_full(call, want)?;
     trial.called(call, 0, want)
 }
 
 // The statement `b` of the sheet `a ; b EOF`, by a reader in its middle, at the semicolon and behind it.
-fn middle<R: Print + AllocGlobal>(
-    trial: &mut Trial<'_, R>,
-    position: usize,
-    tokens: &[u64],
-) -> io::Result<()> {
-    let call = Call {
-        place: Place::new("reader in the middle, position", position as u64),
-        reader: fresh_at(position),
+fn middle<R: Host>(trial: &mut Trial<R>, position: usize, tokens: &[u64]) -> io::Result<()> {
+    let call = Call::new(
+        Place::new("reader in the middle, position", position as u64),
+        fresh_at(position),
         tokens,
-    };
-    let want = Want {
-        said: Said::new(Case::Tree, 2),
-        reader: fresh_at(3),
-        tree: &[31, 8, 258, 0],
-    };
+    );
+    let want = Want::tree(&[31, 8, 258, 0], fresh_at(3));
     trial.called_short(call)?;
     trial.called_full(call, want)?;
     trial.called(call, 80, want)
 }
 
 // The end, from `EOF` on and behind it.
-fn at_end<R: Print + AllocGlobal>(
-    trial: &mut Trial<'_, R>,
-    position: usize,
-    tokens: &[u64],
-) -> io::Result<()> {
+fn at_end<R: Host>(trial: &mut Trial<R>, position: usize, tokens: &[u64]) -> io::Result<()> {
     let reader = fresh_at(position);
-    let call = Call {
-        place: Place::new("end, position", position as u64),
-        reader,
-        tokens,
-    };
-    let want = Want {
-        said: Said::new(Case::End, 0),
-        reader,
-        tree: &[],
-    };
+    let call = Call::new(Place::new("end, position", position as u64), reader, tokens);
+    let want = Want::answer(Case::End, 0, reader);
     trial.called_short(call)?;
     trial.called_full(call, want)
 }
 
 // Readers that are refused.
-fn not_readers<R: Print + AllocGlobal>(trial: &mut Trial<'_, R>, tokens: &[u64]) -> io::Result<()> {
+fn not_readers<R: Host>(trial: &mut Trial<R>, tokens: &[u64]) -> io::Result<()> {
     each_refused(trial, &too_far(), tokens)?;
     each_refused(trial, &no_errors(), tokens)?;
     each_refused(trial, &no_stops(), tokens)?;
@@ -195,7 +147,7 @@ fn not_readers<R: Print + AllocGlobal>(trial: &mut Trial<'_, R>, tokens: &[u64])
 
 // Readers that have stopped, and readers with errors waiting. The numbers 24, 28 and 32, which no reading gives, are errors' numbers: where a host
 // hands in a reader in which they wait, they are answered.
-fn not_reading<R: Print + AllocGlobal>(trial: &mut Trial<'_, R>, tokens: &[u64]) -> io::Result<()> {
+fn not_reading<R: Host>(trial: &mut Trial<R>, tokens: &[u64]) -> io::Result<()> {
     for stop in [60, 62, 64] {
         stopped(trial, stop, tokens)?;
     }
@@ -205,7 +157,7 @@ fn not_reading<R: Print + AllocGlobal>(trial: &mut Trial<'_, R>, tokens: &[u64])
     Ok(())
 }
 
-pub fn readers<R: Print + AllocGlobal>(trial: &mut Trial<'_, R>) -> io::Result<()> {
+pub fn readers<R: Host>(trial: &mut Trial<R>) -> io::Result<()> {
     let tokens = [
         kind::IDENTIFIER,
         7,

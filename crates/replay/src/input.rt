@@ -2,7 +2,7 @@
 ghost use Rattle.std.specs.Prelude.{◌≤◌, vec_len};
 
 use compared::answer::Case;
-use std::alloc::{AllocError, AllocFailed, Global};
+use std::alloc::{AllocFailed, Global};
 use std::io;
 
 // Numbers of a line, at most.
@@ -19,12 +19,6 @@ pub enum LineError {
 impl From<io::Error> for LineError {
     fn from(error: io::Error) -> LineError {
         LineError::Failed(error)
-    }
-}
-
-impl From<AllocError> for LineError {
-    fn from(error: AllocError) -> LineError {
-        LineError::Failed(io::Error::from(error))
     }
 }
 
@@ -70,10 +64,11 @@ impl TryFrom<u8> for Letter {
 pub struct Numbers {
     all: Vec<u64>,
     mark: usize,
+    ghost in_range: { mark ≤ vec_len all },
 }
 
 impl Numbers {
-    // Reads the bytes behind a line's letter. A number that `=` stands in is whole behind it.
+    // Reads the bytes behind a line's letter. A number that `=` stands in is one that stands behind it.
     pub fn read(alloc: Global, text: &[u8]) -> Result<Numbers, LineError> {
         let mut numbers = Numbers {
             all: Vec::new(alloc),
@@ -81,16 +76,28 @@ impl Numbers {
         };
         let mut begun = None;
         for byte in text {
-            match *byte {
-                b' ' => numbers.end(begun.take())?,
-                b'=' => numbers.mark = numbers.all.len(),
-                digit => begun = Some(with_digit(begun.unwrap_or(0), digit).ok_or(
-                    LineError::Malformed,
-                )?),
-            }
+            begun = numbers.byte_read(begun, *byte)?;
         }
         numbers.end(begun)?;
         Ok(numbers)
+    }
+
+    // One byte more, and the number that is begun then.
+    fn byte_read(&mut self, begun: Option<u64>, byte: u8) -> Result<Option<u64>, LineError> {
+        match byte {
+            b' ' => {
+                self.end(begun)?;
+                Ok(None)
+            }
+            b'=' => {
+                self.mark = self.all.len();
+                Ok(begun)
+            }
+            digit => {
+                let number = with_digit(begun.unwrap_or(0), digit);
+                Ok(Some(number.ok_or(LineError::Malformed)?))
+            }
+        }
     }
 
     // A number that was begun is whole.
@@ -111,9 +118,7 @@ impl Numbers {
 
     // The numbers before `=`, and those behind it.
     pub fn parts(&self) -> (&[u64], &[u64]) {
-        let all = self.all();
-        let mark = self.mark.min(all.len());
-        all.split_at(mark)
+        self.all.split_at(self.mark)
     }
 }
 

@@ -6,11 +6,12 @@ mod input;
 mod run;
 
 use crate::run::Run;
+use compared::trial::Host;
 use std::io;
 use std::io::{BufRead, BufReader};
 
 // The whole input, line by line.
-fn replay<R: Input + Print + AllocGlobal>(rt: &R) -> io::Result<()> {
+fn replay<R: Input + Host>(rt: &R) -> io::Result<()> {
     let mut run = Run::new(rt);
     let lines = BufReader::new(rt.alloc(), rt.reader())?.split(rt.alloc(), b'\n');
     for (at, line) in (1..u64::MAX).zip(lines) {

@@ -4,7 +4,7 @@ use crate::input::{Letter, LineError, Numbers};
 use compared::answer::{Case, Said, Want, fresh_at};
 use compared::call::Call;
 use compared::checking::Verdict;
-use compared::trial::{Place, Trial};
+use compared::trial::{Host, Place, Trial};
 use compared::writing::Writing;
 use grammar::limit::QUEUE;
 use grammar::{Queue, Reader};
@@ -26,7 +26,7 @@ pub struct Run<'a, R> {
     reader: Reader,
 }
 
-impl<'a, R: Print + AllocGlobal> Run<'a, R> {
+impl<'a, R: Host> Run<'a, R> {
     // Before the first line.
     pub fn new(rt: &'a R) -> Run<'a, R> {
         Run {
@@ -47,15 +47,16 @@ impl<'a, R: Print + AllocGlobal> Run<'a, R> {
     }
 
     // The counts of all groups.
-    pub fn end(&mut self) -> io::Result<()> {
+    pub fn end(&self) -> io::Result<()> {
         self.trial.end()
     }
 
+    // A line by its first byte.
     fn text_read(&mut self, at: u64, text: &[u8]) -> Result<(), LineError> {
         match text {
             [] => Err(LineError::Malformed),
             [b'#', ..] => Ok(()),
-            [b'>', name @ ..] => Ok(self.trial.end_group(&name)?),
+            [b'>', name @ ..] => Ok(self.trial.end_group(name)?),
             [letter, numbers @ ..] => {
                 let letter = Letter::try_from(*letter)?;
                 let numbers = Numbers::read(self.trial.alloc(), numbers)?;
@@ -64,6 +65,7 @@ impl<'a, R: Print + AllocGlobal> Run<'a, R> {
         }
     }
 
+    // A line with numbers, by its letter.
     fn numbers_read(&mut self, at: u64, letter: Letter, numbers: &Numbers) -> io::Result<()> {
         let all = numbers.all();
         match letter {
@@ -78,8 +80,7 @@ impl<'a, R: Print + AllocGlobal> Run<'a, R> {
 
     // A sheet begins: its words, and a fresh reader.
     fn sheet_read(&mut self, words: &[u64]) -> io::Result<()> {
-        self.sheet.clear();
-        self.sheet.extend_from_slice(words)?;
+        self.sheet = Vec::from_slice(self.trial.alloc(), words)?;
         self.records.clear();
         self.reader = fresh_at(0);
         self.trial.begin_sheet();
@@ -88,9 +89,9 @@ impl<'a, R: Print + AllocGlobal> Run<'a, R> {
 
     // Records for the writer and the check.
     fn hold(&mut self, records: &[u64]) -> io::Result<()> {
-        self.records.clear();
-        self.records.extend_from_slice(records)?;
-        self.records.truncate(HELD.saturating_sub(self.sheet.len()));
+        let room = HELD.saturating_sub(self.sheet.len());
+        let kept = &records[..room.min(records.len())];
+        self.records = Vec::from_slice(self.trial.alloc(), kept)?;
         Ok(())
     }
 
@@ -106,11 +107,7 @@ impl<'a, R: Print + AllocGlobal> Run<'a, R> {
 
     // The call whose answer a line expects, on a store that is exactly long enough; before it, where no error waits, the call on a store one word short.
     fn stepped(&mut self, at: u64, want: Want) -> io::Result<()> {
-        let call = Call {
-            place: Place::new("line", at),
-            reader: self.reader,
-            tokens: &self.sheet,
-        };
+        let call = Call::new(Place::new("line", at), self.reader, &self.sheet);
         if call.reader.waiting == 0 {
             self.trial.called_short(call)?;
         }
@@ -119,46 +116,32 @@ impl<'a, R: Print + AllocGlobal> Run<'a, R> {
 
     // After an end or a stop the same call answers the same and leaves the reader as it is.
     fn stepped_again(&mut self, at: u64, want: Want) -> io::Result<()> {
+        let call = Call::new(Place::new("again, line", at), want.reader, &self.sheet);
         match want.said.case {
-            Case::End | Case::Stopped => {
-                let call = Call {
-                    place: Place::new("again, line", at),
-                    reader: want.reader,
-                    tokens: &self.sheet,
-                };
-                self.trial.called_full(call, want)
-            }
+            Case::End | Case::Stopped => self.trial.called_full(call, want),
             _ => Ok(()),
         }
     }
 
     // The text that a line expects for a tree is written, and read back it gives the tree.
     fn text_expected(&mut self, at: u64, text: &[u64]) -> io::Result<()> {
-        self.trial.is_written(writing(at, &self.records), text)?;
-        self.trial
-            .read_whole(Place::new("read back, line", at), text, &self.records)
+        let back = Place::new("read back, line", at);
+        let writing = Writing::new(Place::new("line", at), &self.records, ROOM);
+        self.trial.is_written(writing, text)?;
+        self.trial.read_whole(back, text, &self.records)
     }
 
     // The reason that a line expects for records that are not written.
     fn reason_expected(&mut self, at: u64, numbers: &[u64]) -> io::Result<()> {
-        self.trial
-            .is_not_written(writing(at, &self.records), number_at(numbers, 0))
+        let writing = Writing::new(Place::new("line", at), &self.records, ROOM);
+        self.trial.is_not_written(writing, number_at(numbers, 0))
     }
 
     // What a line expects the check to answer of the records that are held.
     fn verdict_expected(&mut self, at: u64, numbers: &[u64]) -> io::Result<()> {
         let want = Verdict::new(number_at(numbers, 0), number_at(numbers, 1));
-        self.trial
-            .is_checked(Place::new("line", at), &self.records, want)
-    }
-}
-
-// A call of the writer on records of the input.
-fn writing(at: u64, records: &[u64]) -> Writing<'_> {
-    Writing {
-        place: Place::new("line", at),
-        records,
-        room: ROOM,
+        let place = Place::new("line", at);
+        self.trial.is_checked(place, &self.records, want)
     }
 }
 
@@ -177,22 +160,17 @@ fn queue_of(numbers: &[u64]) -> Queue {
 }
 
 // What a line expects: before `=` the tree's records or the number of the answer, behind it the reader, its position, how many errors wait, and those errors.
-fn wanted<'a>(case: Case, before: &'a [u64], behind: &'a [u64]) -> Want<'a> {
-    let tree = if case == Case::Tree { before } else { &[] };
-    let number = if case == Case::Tree {
-        (before.len() / 2) as u64
-    } else {
-        number_at(before, 0)
+fn wanted<'a>(case: Case, before: &'a [u64], behind: &[u64]) -> Want<'a> {
+    let number = number_at(before, 0);
+    let reader = Reader {
+        position: number_at(behind, 0) as usize,
+        waiting: number_at(behind, 1) as usize,
+        // Where fewer than two numbers stand there, all of them.
+        errors: queue_of(behind.get(2..).unwrap_or(behind)),
+        stopped: if case == Case::Stopped { number } else { 0 },
     };
-    Want {
-        said: Said::new(case, number),
-        reader: Reader {
-            position: number_at(behind, 0) as usize,
-            waiting: number_at(behind, 1) as usize,
-            // Where fewer than two numbers stand there, all of them.
-            errors: queue_of(behind.get(2..).unwrap_or(behind)),
-            stopped: if case == Case::Stopped { number } else { 0 },
-        },
-        tree,
+    match case {
+        Case::Tree => Want::tree(before, reader),
+        _ => Want::answer(case, number, reader),
     }
 }
