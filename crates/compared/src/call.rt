@@ -10,7 +10,7 @@ use std::io;
 const SHARE: usize = 16;
 
 // Words of the longest store that is lent: that of 500 tokens.
-// Stays a limit, though a store on the heap needs none: what is printed of a longer sheet stays the same.
+// Stays a limit, though a store on the heap needs none: a call that asks for more is printed as a difference.
 const ROOM: usize = 8000;
 
 // Tokens of a sheet, at most.

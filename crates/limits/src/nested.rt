@@ -3,18 +3,32 @@
 use crate::jumps::{Form, Jump, OTHER, OUTERMOST, Records};
 use compared::checking::{FINE, Verdict};
 use compared::trial::{Host, Place, Trial};
+use std::alloc::AllocError;
 use std::io;
 
-// What is answered of so many loops, with a jump in them or none.
+// What is answered of the records that are put.
+fn answered<R: Host, F: FnOnce(&mut Records) -> Result<(), AllocError>>(
+    trial: &mut Trial<R>,
+    place: Place,
+    want: Verdict,
+    put: F,
+) -> io::Result<()>
+    requires { F.IsAlwaysCallable put }
+{
+    let mut records = Records::new(trial.alloc());
+    put(&mut records)?;
+    trial.is_checked(place, records.words(), want)
+}
+
+// So many loops, with a jump in them or none.
 fn in_loops<R: Host>(
     trial: &mut Trial<R>,
     jump: Option<Jump>,
     times: u64,
     want: Verdict,
 ) -> io::Result<()> {
-    let mut records = Records::new(trial.alloc());
-    records.put_nest(jump, times)?;
-    trial.is_checked(Place::new("jump in loops", times), records.words(), want)
+    let place = Place::new("jump in loops", times);
+    answered(trial, place, want, |records| records.put_nest(jump, times))
 }
 
 // A jump in so many loops: to the outermost one, without a label, and to the other label.
@@ -35,7 +49,7 @@ fn loops<R: Host>(trial: &mut Trial<R>, times: u64) -> io::Result<()> {
     Ok(())
 }
 
-// What is answered of a jump in a function, with so many loops but the outermost between them, in so many loops.
+// A jump in a function, with so many loops but the outermost between them, in so many loops.
 fn in_function<R: Host>(
     trial: &mut Trial<R>,
     jump: Jump,
@@ -43,15 +57,12 @@ fn in_function<R: Host>(
     times: u64,
     want: Verdict,
 ) -> io::Result<()> {
-    let mut records = Records::new(trial.alloc());
-    records.put_function(jump, inside)?;
-    records.put_loops(times)?;
-    records.put_loop(OUTERMOST)?;
-    trial.is_checked(
-        Place::new("jump in a function", times),
-        records.words(),
-        want,
-    )
+    let place = Place::new("jump in a function", times);
+    answered(trial, place, want, |records| {
+        records.put_function(jump, inside)?;
+        records.put_loops(times)?;
+        records.put_loop(OUTERMOST)
+    })
 }
 
 // Each jump in a function without loops in so many: it does not lead out of the function.
@@ -88,25 +99,25 @@ fn jumps_inside<R: Host>(
     Ok(())
 }
 
-// What is answered of a loop without a label, in which an if with a continue stands before so many loops.
+// A loop without a label, in which an if with a continue stands before so many loops.
 fn before<R: Host>(trial: &mut Trial<R>, label: u64, times: u64, want: Verdict) -> io::Result<()> {
-    let mut records = Records::new(trial.alloc());
-    records.put_before(label, times)?;
-    trial.is_checked(
-        Place::new("jump before loops", times),
-        records.words(),
+    let place = Place::new("jump before loops", times);
+    answered(
+        trial,
+        place,
         want,
+        |records| records.put_before(label, times),
     )
 }
 
-// The same of one in which a continue stands in so many loops, and one to the same label behind them.
+// One in which a continue stands in so many loops, and one to the same label behind them.
 fn behind<R: Host>(trial: &mut Trial<R>, label: u64, times: u64, want: Verdict) -> io::Result<()> {
-    let mut records = Records::new(trial.alloc());
-    records.put_behind(label, times)?;
-    trial.is_checked(
-        Place::new("jump behind loops", times),
-        records.words(),
+    let place = Place::new("jump behind loops", times);
+    answered(
+        trial,
+        place,
         want,
+        |records| records.put_behind(label, times),
     )
 }
 

@@ -14,7 +14,7 @@ use std::io;
 const ROOM: usize = 1003;
 
 // Words of the sheet and of the records, at most.
-// Stays a limit, though the heap needs none: records that go beyond it are cut off, as ever.
+// Stays a limit, though the heap needs none: of longer records the rest is left out, which shows in what is printed of them.
 const HELD: usize = 9192;
 
 // Where the replay stands: the counts, the present sheet, the records for the writer and the check, and the reader that the next call gets.
