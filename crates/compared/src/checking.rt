@@ -1,67 +1,65 @@
 // A call of the check of labels held to what is expected of it: its number, and the record number.
-use crate::parts::{Said, part, same_answer};
-use crate::tally::{Tally, with_check};
+use crate::answer::{Case, Said};
+use crate::tally::count_one;
+use crate::trial::{Host, Outcome, Place, Trial};
 use labels::{Labels, check_labels};
 use std::io;
 
-// A number of an answer, by a letter: of one where nothing is wrong, or of a refusal.
-fn said(fine: bool, number: u64) -> Said {
-    Said {
-        case: if fine { b'l' } else { b'r' },
-        number,
-    }
-}
-
-// An answer by its number.
-fn answered(answer: Labels) -> Said {
-    match answer {
-        Labels::Fine => said(true, 0),
-        Labels::Refused(n, _) => said(false, n),
-    }
-}
-
-// An answer by its record number.
-fn recorded(answer: Labels) -> Said {
-    match answer {
-        Labels::Fine => said(true, 0),
-        Labels::Refused(_, i) => said(false, i as u64),
-    }
-}
-
-// Records get this answer, by its number, 0 where nothing is wrong, and by its record number.
-pub fn is_checked(
-    rt: &impl Print,
-    t: Tally,
-    name: &[u8],
-    at: u64,
-    records: &[u64],
+// What the check answers: a number, 0 where nothing is wrong, and the number of the record that it is for.
+// Stays two numbers: a line of the input may have any record number beside 0, which is then printed as a difference.
+#[derive(Clone, Copy)]
+pub struct Verdict {
     number: u64,
     record: u64,
-) -> io::Result<Tally> {
-    let answer = check_labels(records);
-    let got = answered(answer);
-    let there = recorded(answer);
-    let want = said(number == 0, number);
-    let place = said(number == 0, record);
-    let a = with_check(t);
-    let b = part(
-        rt,
-        a,
-        same_answer(got, want),
-        name,
-        at,
-        b"number",
-        got,
-        want,
-    )?;
-    part(
-        rt,
-        b,
-        same_answer(there, place),
-        name,
-        at,
-        b"record number",
-        there,
-        place,
-    )
+}
+
+// Nothing is wrong.
+pub const FINE: Verdict = Verdict {
+    number: 0,
+    record: 0,
+};
+
+impl Verdict {
+    pub fn new(number: u64, record: u64) -> Verdict {
+        Verdict { number, record }
+    }
+
+    // One of the two numbers, as an answer where nothing is wrong or as a refusal.
+    fn said(self, number: u64) -> Said {
+        let case = if self.number == 0 {
+            Case::Fine
+        } else {
+            Case::Refused
+        };
+        Said::new(case, number)
+    }
+}
+
+impl From<Labels> for Verdict {
+    fn from(answer: Labels) -> Verdict {
+        match answer {
+            Labels::Fine => FINE,
+            Labels::Refused(number, record) => Verdict::new(number, record as u64),
+        }
+    }
+}
+
+impl<R: Host> Trial<'_, R> {
+    // Records get this answer.
+    pub fn is_checked(&mut self, place: Place, records: &[u64], want: Verdict) -> io::Result<()> {
+        let got = Verdict::from(check_labels(records));
+        count_one(&mut self.group.checks);
+        let number = Outcome {
+            place,
+            said: got.said(got.number),
+            want: want.said(want.number),
+        };
+        let record = Outcome {
+            place,
+            said: got.said(got.record),
+            want: want.said(want.record),
+        };
+        self.part("number", number.is_expected(), number)?;
+        self.part("record number", record.is_expected(), record)
+    }
 }

@@ -1,172 +1,125 @@
 // The depth: 37 begun and unfinished are read and written, a 38th stops reader and writer, by operands, by right sides and by statement
 // lists. The numbers are document 02's, and not made of the limit in the code.
-use crate::made::{repeat, stopped_at};
-use compared::call::{called_full, read_whole};
-use compared::parts::Want;
-use compared::tally::{Tally, no_tally, with_sheet};
-use compared::words::{between, fresh_at, put};
-use compared::writing::{is_not_written, is_written};
+use crate::made::{Layers, SIGNS_TREE, stops};
+use compared::trial::{Host, Place, Trial};
+use compared::writing::Writing;
 use std::io;
 use token::kind;
 use tree::word;
 
-// A tree that is as deep as may be: its tokens are read to it, and it is written as them.
-fn both_ways(
-    rt: &impl Print,
-    t: Tally,
-    name: &[u8],
-    at: u64,
-    tokens: &[u64],
-    tree: &[u64],
-) -> io::Result<Tally> {
-    let mut output = [0u64; 228];
-    let a = read_whole(rt, with_sheet(t), name, at, tokens, tree)?;
-    is_written(rt, a, name, at, tree, &mut output, tokens)
-}
+// Words of the longest output.
+const ROOM: usize = 228;
 
-// A sheet that stops: once more, and from the stopped reader again.
-fn is_stopped(
-    rt: &impl Print,
-    t: Tally,
-    name: &[u8],
-    at: u64,
-    tokens: &[u64],
-) -> io::Result<Tally> {
-    let reader = stopped_at(0, 62);
-    let want = Want {
-        case: b'x',
-        number: 62,
-        reader,
-    };
-    let a = called_full(rt, t, name, at, fresh_at(0), tokens, want, &[])?;
-    called_full(rt, a, name, at, reader, tokens, want, &[])
-}
-
-// One deeper: neither read nor written.
-fn neither_way(
-    rt: &impl Print,
-    t: Tally,
-    name: &[u8],
-    at: u64,
-    tokens: &[u64],
-    tree: &[u64],
-) -> io::Result<Tally> {
-    let mut output = [0u64; 228];
-    let a = is_stopped(rt, with_sheet(t), name, at, tokens)?;
-    is_not_written(rt, a, name, at, tree, &mut output, 62)
-}
-
-// Signs before a name, and a semicolon.
-fn signs(sheet: &mut [u64], times: u64) -> usize {
-    let sign = [kind::OP_SUB, 0];
-    let name = [kind::IDENTIFIER, 7, kind::SEMICOLON, 0];
-    let a = repeat(sheet, 0, &sign, times);
-    put(sheet, a, &name)
-}
-
-// The records of signs before a name.
-pub fn signs_tree(tree: &mut [u64], times: u64) -> usize {
-    let name = [word::IDENTIFIER, 7];
-    let sign = [word::UNARY_OP, 0];
-    let end = [word::EXPRESSION, 0];
-    let a = put(tree, 0, &name);
-    let b = repeat(tree, a, &sign, times);
-    put(tree, b, &end)
+// What is begun one in the other: its tokens, and its records.
+#[derive(Clone, Copy)]
+struct Nest {
+    name: &'static str,
+    sheet: Layers,
+    tree: Layers,
 }
 
 // An operand is begun at each sign and at the name.
-fn operands(rt: &impl Print, t: Tally) -> io::Result<Tally> {
-    let mut sheet = [0u64; 228];
-    let mut tree = [0u64; 304];
-    let name = b"depth by operands";
-    let n = signs(&mut sheet, 36);
-    let m = signs_tree(&mut tree, 36);
-    let a = both_ways(rt, t, name, 37, between(&sheet, 0, n), between(&tree, 0, m))?;
-    let k = signs(&mut sheet, 37);
-    let l = signs_tree(&mut tree, 37);
-    neither_way(rt, a, name, 38, between(&sheet, 0, k), between(&tree, 0, l))
-}
-
-// Assignments one in the other, and a semicolon.
-fn assignments(sheet: &mut [u64], times: u64) -> usize {
-    let left = [kind::IDENTIFIER, 7, kind::OP_ASSIGN, 0];
-    let name = [kind::IDENTIFIER, 7, kind::SEMICOLON, 0];
-    let a = repeat(sheet, 0, &left, times);
-    put(sheet, a, &name)
-}
-
-// The records of assignments one in the other.
-fn assignments_tree(tree: &mut [u64], times: u64) -> usize {
-    let left = [word::IDENTIFIER_PATTERN, 7];
-    let name = [word::IDENTIFIER, 7];
-    let right = [word::ASSIGNMENT, 0];
-    let end = [word::EXPRESSION, 0];
-    let a = repeat(tree, 0, &left, times);
-    let b = put(tree, a, &name);
-    let c = repeat(tree, b, &right, times);
-    put(tree, c, &end)
-}
+const OPERANDS: Nest = Nest {
+    name: "depth by operands",
+    sheet: Layers {
+        before: &[kind::OP_SUB, 0],
+        middle: &[kind::IDENTIFIER, 7],
+        behind: &[],
+        end: &[kind::SEMICOLON, 0],
+    },
+    tree: SIGNS_TREE,
+};
 
 // A right side is begun at each `=`, and an operand at the last name.
-fn right_sides(rt: &impl Print, t: Tally) -> io::Result<Tally> {
-    let mut sheet = [0u64; 228];
-    let mut tree = [0u64; 304];
-    let name = b"depth by right sides";
-    let n = assignments(&mut sheet, 36);
-    let m = assignments_tree(&mut tree, 36);
-    let a = both_ways(rt, t, name, 37, between(&sheet, 0, n), between(&tree, 0, m))?;
-    let k = assignments(&mut sheet, 37);
-    let l = assignments_tree(&mut tree, 37);
-    neither_way(rt, a, name, 38, between(&sheet, 0, k), between(&tree, 0, l))
+const RIGHT_SIDES: Nest = Nest {
+    name: "depth by right sides",
+    sheet: Layers {
+        before: &[kind::IDENTIFIER, 7, kind::OP_ASSIGN, 0],
+        middle: &[kind::IDENTIFIER, 7],
+        behind: &[],
+        end: &[kind::SEMICOLON, 0],
+    },
+    tree: Layers {
+        before: &[word::IDENTIFIER_PATTERN, 7],
+        middle: &[word::IDENTIFIER, 7],
+        behind: &[word::ASSIGNMENT, 0],
+        end: &[word::EXPRESSION, 0],
+    },
+};
+
+// A statement list is begun in each loop. The loop in the middle is empty.
+const LISTS: Nest = Nest {
+    name: "depth by statement lists",
+    sheet: Layers {
+        before: &[kind::LOOP, 0],
+        middle: &[kind::LOOP, 0, kind::END, 0, kind::SEMICOLON, 0],
+        behind: &[kind::END, 0, kind::SEMICOLON, 0],
+        end: &[],
+    },
+    tree: Layers {
+        before: &[],
+        middle: &[
+            word::LIST,
+            0,
+            word::ABSENT,
+            0,
+            word::STMT_LIST,
+            0,
+            word::LOOP,
+            0,
+        ],
+        behind: &[
+            word::LIST + word::CHILD,
+            0,
+            word::ABSENT,
+            0,
+            word::STMT_LIST,
+            0,
+            word::LOOP,
+            0,
+        ],
+        end: &[],
+    },
+};
+
+// A tree that is as deep as may be: its tokens are read to it, and it is written as them.
+fn both_ways<R: Host>(
+    trial: &mut Trial<R>,
+    place: Place,
+    tokens: &[u64],
+    tree: &[u64],
+) -> io::Result<()> {
+    trial.begin_sheet();
+    trial.read_whole(place, tokens, tree)?;
+    let writing = Writing::new(place, tree, ROOM);
+    trial.is_written(writing, tokens)
 }
 
-// Loops one in the other, a semicolon behind each.
-fn loops(sheet: &mut [u64], times: u64) -> usize {
-    let open = [kind::LOOP, 0];
-    let close = [kind::END, 0, kind::SEMICOLON, 0];
-    let a = repeat(sheet, 0, &open, times);
-    repeat(sheet, a, &close, times)
+// One deeper: neither read nor written.
+fn neither_way<R: Host>(
+    trial: &mut Trial<R>,
+    place: Place,
+    tokens: &[u64],
+    tree: &[u64],
+) -> io::Result<()> {
+    stops(trial, place, tokens, 62)?;
+    let writing = Writing::new(place, tree, ROOM);
+    trial.is_not_written(writing, 62)
 }
 
-// The records of an empty loop in so many others.
-fn loops_tree(tree: &mut [u64], times: u64) -> usize {
-    let inner = [
-        word::LIST,
-        0,
-        word::ABSENT,
-        0,
-        word::STMT_LIST,
-        0,
-        word::LOOP,
-        0,
-    ];
-    let outer = [
-        word::LIST + word::CHILD,
-        0,
-        word::ABSENT,
-        0,
-        word::STMT_LIST,
-        0,
-        word::LOOP,
-        0,
-    ];
-    let a = put(tree, 0, &inner);
-    repeat(tree, a, &outer, times)
+// What is begun 37 times, and 38 times: one of them in the middle.
+fn tried<R: Host>(trial: &mut Trial<R>, nest: Nest) -> io::Result<()> {
+    let sheet = nest.sheet.words(trial.alloc(), 36)?;
+    let tree = nest.tree.words(trial.alloc(), 36)?;
+    both_ways(trial, Place::new(nest.name, 37), &sheet, &tree)?;
+    let sheet = nest.sheet.words(trial.alloc(), 37)?;
+    let tree = nest.tree.words(trial.alloc(), 37)?;
+    neither_way(trial, Place::new(nest.name, 38), &sheet, &tree)
 }
 
-// A statement list is begun in each loop.
-fn lists(rt: &impl Print, t: Tally) -> io::Result<Tally> {
-    let mut sheet = [0u64; 228];
-    let mut tree = [0u64; 304];
-    let name = b"depth by statement lists";
-    let n = loops(&mut sheet, 37);
-    let m = loops_tree(&mut tree, 36);
-    let a = both_ways(rt, t, name, 37, between(&sheet, 0, n), between(&tree, 0, m))?;
-    let k = loops(&mut sheet, 38);
-    let l = loops_tree(&mut tree, 37);
-    neither_way(rt, a, name, 38, between(&sheet, 0, k), between(&tree, 0, l))
-}
-
-pub fn depths(rt: &impl Print) -> io::Result<Tally> {
-    lists(rt, right_sides(rt, operands(rt, no_tally())?)?)
+pub fn depths<R: Host>(trial: &mut Trial<R>) -> io::Result<()> {
+    for nest in [OPERANDS, RIGHT_SIDES, LISTS] {
+        tried(trial, nest)?;
+    }
+    Ok(())
 }

@@ -1,45 +1,71 @@
-// What the limits are tried on: words laid down many times, readers with errors waiting and with a stop.
-use compared::words::put;
+// What the limits are tried on: words laid down many times, readers with errors waiting and with a stop, and a sheet that stops.
+use compared::answer::{Case, Want, fresh_at};
+use compared::call::Call;
+use compared::trial::{Host, Place, Trial};
+use grammar::Reader;
 use grammar::limit::QUEUE;
-use grammar::{Queue, Reader};
+use std::alloc::{AllocError, Global};
+use std::io;
+use tree::word;
 
-// Words laid down so many times.
-pub fn repeat(words: &mut [u64], at: usize, more: &[u64], times: u64) -> usize {
-    let mut a = at;
-    let mut i = 0;
-    while i < times {
-        a = put(words, a, more);
-        i += 1;
+// Words in layers: some so many times, those in the middle, some as many times behind them, and those at the end.
+#[derive(Clone, Copy)]
+pub struct Layers {
+    pub before: &'static [u64],
+    pub middle: &'static [u64],
+    pub behind: &'static [u64],
+    pub end: &'static [u64],
+}
+
+impl Layers {
+    pub fn words(self, alloc: Global, times: usize) -> Result<Vec<u64>, AllocError> {
+        let mut words = self.before.repeat(alloc, times)?;
+        words.extend_from_slice(self.middle)?;
+        words.extend_from_slice(&self.behind.repeat(alloc, times)?)?;
+        words.extend_from_slice(self.end)?;
+        Ok(words)
     }
-    a
 }
 
-// A queue that holds one number in so many places, with 0 behind them.
-fn queue_with(error: u64, waiting: usize) -> Queue {
-    let one = [error];
-    let times = if waiting < QUEUE { waiting } else { QUEUE };
-    let mut queue = [0u64; QUEUE];
-    repeat(&mut queue, 0, &one, times as u64);
-    queue
-}
+// The records of signs before a name.
+pub const SIGNS_TREE: Layers = Layers {
+    before: &[],
+    middle: &[word::IDENTIFIER, 7],
+    behind: &[word::UNARY_OP, 0],
+    end: &[word::EXPRESSION, 0],
+};
 
 // A reader at a position, with one error waiting so many times.
 pub fn waiting_at(position: usize, error: u64, waiting: usize) -> Reader {
-    let errors = queue_with(error, waiting);
+    let mut errors = [0; QUEUE];
+    errors[..waiting.min(QUEUE)].fill(error);
     Reader {
-        position,
         waiting,
         errors,
-        stopped: 0,
+        ..fresh_at(position)
     }
 }
 
 // A reader at a position that has stopped.
 pub fn stopped_at(position: usize, stopped: u64) -> Reader {
     Reader {
-        position,
-        waiting: 0,
-        errors: [0u64; QUEUE],
         stopped,
+        ..fresh_at(position)
     }
+}
+
+// A sheet that stops the reader, by this number, and once more the stopped reader.
+pub fn stops<R: Host>(
+    trial: &mut Trial<R>,
+    place: Place,
+    tokens: &[u64],
+    number: u64,
+) -> io::Result<()> {
+    trial.begin_sheet();
+    let stopped = stopped_at(0, number);
+    let want = Want::answer(Case::Stopped, number, stopped);
+    for reader in [fresh_at(0), stopped] {
+        trial.called_full(Call::new(place, reader, tokens), want)?;
+    }
+    Ok(())
 }

@@ -2,230 +2,162 @@
 ghost use Rattle.std.specs.Prelude.{◌<◌};
 
 use crate::made::{stopped_at, waiting_at};
-use compared::call::{called, called_full, called_short};
-use compared::parts::Want;
-use compared::tally::{Tally, no_tally, with_sheet};
-use compared::words::fresh_at;
+use compared::answer::{Case, Said, Want, fresh_at};
+use compared::call::Call;
+use compared::trial::{Host, Place, Trial};
 use grammar::Reader;
 use std::io;
 use token::kind;
 
 // A reader that is refused, on a store of each of two lengths.
-fn refused(
-    rt: &impl Print,
-    t: Tally,
-    name: &[u8],
-    at: u64,
-    reader: Reader,
-    tokens: &[u64],
-) -> io::Result<Tally> {
-    let want = Want {
-        case: b'r',
-        number: 61,
-        reader,
-    };
-    let a = called(rt, t, name, at, reader, tokens, 80, want, &[])?;
-    called(rt, a, name, at, reader, tokens, 0, want, &[])
+fn refused<R: Host>(trial: &mut Trial<R>, call: Call) -> io::Result<()> {
+    let want = Want::answer(Case::Refused, 61, call.reader);
+    trial.called(call, 80, want)?;
+    trial.called(call, 0, want)
 }
 
 // A reader with a stop, whatever it is.
 fn with_stop(reader: Reader, stopped: u64) -> Reader {
-    let mut r = reader;
-    r.stopped = stopped;
-    r
+    Reader { stopped, ..reader }
 }
 
 // A reader with a number at a place of the queue.
-fn with_error(reader: Reader, at: usize, error: u64) -> Reader
+fn with_error(mut reader: Reader, at: usize, error: u64) -> Reader
     requires { at < 96 }
 {
-    let mut errors = reader.errors;
-    errors[at] = error;
-    let mut r = reader;
-    r.errors = errors;
-    r
+    reader.errors[at] = error;
+    reader
 }
 
 // Positions past the tokens, and too many waiting.
-fn too_far(rt: &impl Print, t: Tally, tokens: &[u64]) -> io::Result<Tally> {
-    let a = refused(rt, t, b"position", 5, fresh_at(5), tokens)?;
-    let b = refused(
-        rt,
-        a,
-        b"position",
-        18446744073709551615,
-        fresh_at(18446744073709551615),
-        tokens,
-    )?;
-    let c = refused(rt, b, b"waiting", 97, waiting_at(0, 47, 97), tokens)?;
-    refused(
-        rt,
-        c,
-        b"waiting",
-        18446744073709551615,
-        waiting_at(0, 47, 18446744073709551615),
-        tokens,
-    )
+fn too_far() -> [(&'static str, u64, Reader); 4] {
+    [
+        ("position", 5, fresh_at(5)),
+        ("position", u64::MAX, fresh_at(usize::MAX)),
+        ("waiting", 97, waiting_at(0, 47, 97)),
+        ("waiting", u64::MAX, waiting_at(0, 47, usize::MAX)),
+    ]
 }
 
 // Numbers that are no error's, at the queue's front and at its back.
-fn no_errors(rt: &impl Print, t: Tally, tokens: &[u64]) -> io::Result<Tally> {
-    let name = b"waiting number";
+fn no_errors() -> [(&'static str, u64, Reader); 6] {
+    let name = "waiting number";
     let back = waiting_at(4, 47, 96);
-    let a = refused(rt, t, name, 0, waiting_at(0, 0, 1), tokens)?;
-    let b = refused(rt, a, name, 3, waiting_at(0, 3, 96), tokens)?;
-    let c = refused(rt, b, name, 9, with_error(back, 95, 9), tokens)?;
-    let d = refused(rt, c, name, 53, with_error(back, 0, 53), tokens)?;
-    let e = refused(rt, d, name, 60, with_error(back, 48, 60), tokens)?;
-    refused(rt, e, name, 62, waiting_at(0, 62, 2), tokens)
+    [
+        (name, 0, waiting_at(0, 0, 1)),
+        (name, 3, waiting_at(0, 3, 96)),
+        (name, 9, with_error(back, 95, 9)),
+        (name, 53, with_error(back, 0, 53)),
+        (name, 60, with_error(back, 48, 60)),
+        (name, 62, waiting_at(0, 62, 2)),
+    ]
 }
 
 // Stops that are none.
-fn no_stops(rt: &impl Print, t: Tally, tokens: &[u64]) -> io::Result<Tally> {
-    let name = b"stop";
-    let a = refused(rt, t, name, 1, stopped_at(0, 1), tokens)?;
-    let b = refused(rt, a, name, 59, stopped_at(4, 59), tokens)?;
-    let c = refused(rt, b, name, 61, stopped_at(0, 61), tokens)?;
-    let d = refused(rt, c, name, 63, stopped_at(0, 63), tokens)?;
-    let e = refused(rt, d, name, 65, stopped_at(0, 65), tokens)?;
-    refused(rt, e, name, 47, with_stop(waiting_at(0, 47, 1), 47), tokens)
+fn no_stops() -> [(&'static str, u64, Reader); 6] {
+    let name = "stop";
+    [
+        (name, 1, stopped_at(0, 1)),
+        (name, 59, stopped_at(4, 59)),
+        (name, 61, stopped_at(0, 61)),
+        (name, 63, stopped_at(0, 63)),
+        (name, 65, stopped_at(0, 65)),
+        (name, 47, with_stop(waiting_at(0, 47, 1), 47)),
+    ]
 }
 
 // Unused places of the queue that are not zero.
-fn not_zero(rt: &impl Print, t: Tally, tokens: &[u64]) -> io::Result<Tally> {
-    let name = b"unused place";
-    let a = refused(rt, t, name, 0, with_error(fresh_at(0), 0, 47), tokens)?;
-    let b = refused(rt, a, name, 95, with_error(fresh_at(0), 95, 1), tokens)?;
-    let c = refused(
-        rt,
-        b,
-        name,
-        3,
-        with_error(waiting_at(0, 47, 2), 3, 47),
-        tokens,
-    )?;
-    let d = refused(
-        rt,
-        c,
-        name,
-        95,
-        with_error(waiting_at(4, 47, 95), 95, 47),
-        tokens,
-    )?;
-    refused(
-        rt,
-        d,
-        name,
-        50,
-        with_error(stopped_at(0, 62), 50, 47),
-        tokens,
-    )
+fn not_zero() -> [(&'static str, u64, Reader); 5] {
+    let name = "unused place";
+    [
+        (name, 0, with_error(fresh_at(0), 0, 47)),
+        (name, 95, with_error(fresh_at(0), 95, 1)),
+        (name, 3, with_error(waiting_at(0, 47, 2), 3, 47)),
+        (name, 95, with_error(waiting_at(4, 47, 95), 95, 47)),
+        (name, 50, with_error(stopped_at(0, 62), 50, 47)),
+    ]
+}
+
+// Each of these readers is refused.
+fn each_refused<R: Host>(
+    trial: &mut Trial<R>,
+    readers: &[(&'static str, u64, Reader)],
+    tokens: &[u64],
+) -> io::Result<()> {
+    for (name, at, reader) in readers {
+        let call = Call::new(Place::new(name, *at), *reader, tokens);
+        refused(trial, call)?;
+    }
+    Ok(())
 }
 
 // A stopped reader answers its number again, also before an error that waits and before the store's test.
-fn stopped(rt: &impl Print, t: Tally, stop: u64, tokens: &[u64]) -> io::Result<Tally> {
-    let name = b"stopped";
+fn stopped<R: Host>(trial: &mut Trial<R>, stop: u64, tokens: &[u64]) -> io::Result<()> {
+    let place = Place::new("stopped", stop);
     let reader = stopped_at(2, stop);
-    let waiting = with_stop(waiting_at(4, 47, 96), stop);
-    let want = Want {
-        case: b'x',
-        number: stop,
-        reader,
-    };
-    let also = Want {
-        case: b'x',
-        number: stop,
-        reader: waiting,
-    };
-    let a = called_full(rt, t, name, stop, reader, tokens, want, &[])?;
-    let b = called(rt, a, name, stop, reader, tokens, 0, want, &[])?;
-    called(rt, b, name, stop, waiting, tokens, 0, also, &[])
+    let want = Want::answer(Case::Stopped, stop, reader);
+    let call = Call::new(place, reader, tokens);
+    trial.called_full(call, want)?;
+    trial.called(call, 0, want)?;
+    let reader = with_stop(waiting_at(4, 47, 96), stop);
+    trial.called(Call { reader, ..call }, 0, Want { reader, ..want })
 }
 
 // A waiting error is answered before the store's test, in its kind.
-fn answered(rt: &impl Print, t: Tally, error: u64, tokens: &[u64]) -> io::Result<Tally> {
-    let reader = waiting_at(1, error, 2);
-    let want = Want {
-        case: b'e',
-        number: error,
-        reader: waiting_at(1, error, 1),
-    };
-    let a = called_full(rt, t, b"waiting", error, reader, tokens, want, &[])?;
-    called(rt, a, b"waiting", error, reader, tokens, 0, want, &[])
-}
-
-// The numbers that no reading gives are errors' numbers: where a host hands in a reader in which they wait, they are answered.
-fn never_read(rt: &impl Print, t: Tally, tokens: &[u64]) -> io::Result<Tally> {
-    let a = answered(rt, t, 24, tokens)?;
-    let b = answered(rt, a, 28, tokens)?;
-    answered(rt, b, 32, tokens)
+fn answered<R: Host>(trial: &mut Trial<R>, error: u64, tokens: &[u64]) -> io::Result<()> {
+    let call = Call::new(
+        Place::new("waiting", error),
+        waiting_at(1, error, 2),
+        tokens,
+    );
+    let want = Want::answer(Case::Error, error, waiting_at(1, error, 1));
+    trial.called_full(call, want)?;
+    trial.called(call, 0, want)
 }
 
 // The statement `b` of the sheet `a ; b EOF`, by a reader in its middle, at the semicolon and behind it.
-fn middle(rt: &impl Print, t: Tally, position: usize, tokens: &[u64]) -> io::Result<Tally> {
-    let name = b"reader in the middle, position";
-    let at = position as u64;
-    let reader = fresh_at(position);
-    let tree = [31u64, 8, 258, 0];
-    let want = Want {
-        case: b't',
-        number: 2,
-        reader: fresh_at(3),
-    };
-    let a = called_short(rt, t, name, at, reader, tokens)?;
-    let b = called_full(rt, a, name, at, reader, tokens, want, &tree)?;
-    called(rt, b, name, at, reader, tokens, 80, want, &tree)
+fn middle<R: Host>(trial: &mut Trial<R>, position: usize, tokens: &[u64]) -> io::Result<()> {
+    let call = Call::new(
+        Place::new("reader in the middle, position", position as u64),
+        fresh_at(position),
+        tokens,
+    );
+    let want = Want::tree(&[31, 8, 258, 0], fresh_at(3));
+    trial.called_short(call)?;
+    trial.called_full(call, want)?;
+    trial.called(call, 80, want)
 }
 
 // The end, from `EOF` on and behind it.
-fn at_end(rt: &impl Print, t: Tally, position: usize, tokens: &[u64]) -> io::Result<Tally> {
+fn at_end<R: Host>(trial: &mut Trial<R>, position: usize, tokens: &[u64]) -> io::Result<()> {
     let reader = fresh_at(position);
-    let want = Want {
-        case: b'.',
-        number: 0,
-        reader,
-    };
-    let a = called_short(rt, t, b"end, position", position as u64, reader, tokens)?;
-    called_full(
-        rt,
-        a,
-        b"end, position",
-        position as u64,
-        reader,
-        tokens,
-        want,
-        &[],
-    )
+    let call = Call::new(Place::new("end, position", position as u64), reader, tokens);
+    let want = Want::answer(Case::End, 0, reader);
+    trial.called_short(call)?;
+    trial.called_full(call, want)
 }
 
 // Readers that are refused.
-fn not_readers(rt: &impl Print, t: Tally, tokens: &[u64]) -> io::Result<Tally> {
-    let a = too_far(rt, t, tokens)?;
-    let b = no_errors(rt, a, tokens)?;
-    let c = no_stops(rt, b, tokens)?;
-    not_zero(rt, c, tokens)
+fn not_readers<R: Host>(trial: &mut Trial<R>, tokens: &[u64]) -> io::Result<()> {
+    each_refused(trial, &too_far(), tokens)?;
+    each_refused(trial, &no_errors(), tokens)?;
+    each_refused(trial, &no_stops(), tokens)?;
+    each_refused(trial, &not_zero(), tokens)
 }
 
-// Readers that have stopped, and readers with errors waiting.
-fn not_reading(rt: &impl Print, t: Tally, tokens: &[u64]) -> io::Result<Tally> {
-    let a = stopped(rt, t, 60, tokens)?;
-    let b = stopped(rt, a, 62, tokens)?;
-    let c = stopped(rt, b, 64, tokens)?;
-    let d = answered(rt, c, 1, tokens)?;
-    let e = answered(rt, d, 2, tokens)?;
-    let f = answered(rt, e, 52, tokens)?;
-    never_read(rt, f, tokens)
+// Readers that have stopped, and readers with errors waiting. The numbers 24, 28 and 32, which no reading gives, are errors' numbers: where a host
+// hands in a reader in which they wait, they are answered.
+fn not_reading<R: Host>(trial: &mut Trial<R>, tokens: &[u64]) -> io::Result<()> {
+    for stop in [60, 62, 64] {
+        stopped(trial, stop, tokens)?;
+    }
+    for error in [1, 2, 52, 24, 28, 32] {
+        answered(trial, error, tokens)?;
+    }
+    Ok(())
 }
 
-// Readers that read on.
-fn reading(rt: &impl Print, t: Tally, tokens: &[u64]) -> io::Result<Tally> {
-    let a = middle(rt, t, 1, tokens)?;
-    let b = middle(rt, a, 2, tokens)?;
-    let c = at_end(rt, b, 3, tokens)?;
-    at_end(rt, c, 4, tokens)
-}
-
-pub fn readers(rt: &impl Print) -> io::Result<Tally> {
+pub fn readers<R: Host>(trial: &mut Trial<R>) -> io::Result<()> {
     let tokens = [
         kind::IDENTIFIER,
         7,
@@ -236,7 +168,11 @@ pub fn readers(rt: &impl Print) -> io::Result<Tally> {
         kind::EOF,
         0,
     ];
-    let a = not_readers(rt, with_sheet(no_tally()), &tokens)?;
-    let b = not_reading(rt, a, &tokens)?;
-    reading(rt, b, &tokens)
+    trial.begin_sheet();
+    not_readers(trial, &tokens)?;
+    not_reading(trial, &tokens)?;
+    middle(trial, 1, &tokens)?;
+    middle(trial, 2, &tokens)?;
+    at_end(trial, 3, &tokens)?;
+    at_end(trial, 4, &tokens)
 }

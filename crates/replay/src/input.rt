@@ -1,106 +1,129 @@
-// The input's lines, byte by byte: a letter, then numbers, with `=` behind some of them. A line `#` is a comment; what follows `>` is printed.
-use compared::print::print_byte;
+// The input's lines: a letter, then numbers, with `=` behind some of them. A line `#` is a comment; what follows `>` is printed.
+ghost use Rattle.std.specs.Prelude.{◌≤◌, vec_len};
+
+use compared::answer::Case;
+use std::alloc::{AllocFailed, Global};
 use std::io;
 
-// A line so far: its number from 1, its first byte, 0 before that; how many numbers are whole, and how many of those stand before `=`;
-// the number that was begun, and whether one was; whether the line is malformed.
+// Numbers of a line, at most.
+// Stays a limit, though a line on the heap needs none: a longer line is printed as malformed.
+const NUMBERS: usize = 8192;
+
+// What goes wrong with a line: it is malformed, or what it asks for fails.
+#[derive(Debug, Drop)]
+pub enum LineError {
+    Malformed,
+    Failed(io::Error),
+}
+
+impl From<io::Error> for LineError {
+    fn from(error: io::Error) -> LineError {
+        LineError::Failed(error)
+    }
+}
+
+impl<T: Drop> From<AllocFailed<T>> for LineError {
+    fn from(error: AllocFailed<T>) -> LineError {
+        LineError::Failed(io::Error::from(error))
+    }
+}
+
+// What a line with numbers is: a sheet; an answer of the reader to it; records for the writer and the check; a text or the number of a reason, which
+// the writer answers; what the check of labels answers.
 #[derive(Clone, Copy)]
-pub struct Line {
-    pub at: u64,
-    pub case: u8,
-    pub count: usize,
-    pub mark: usize,
-    pub value: u64,
-    pub begun: bool,
-    pub malformed: bool,
+pub enum Letter {
+    Sheet,
+    Answer(Case),
+    Records,
+    Text,
+    Reason,
+    Check,
 }
 
-// Before the first byte of a line.
-pub fn at_line(at: u64) -> Line {
-    Line {
-        at,
-        case: 0,
-        count: 0,
-        mark: 0,
-        value: 0,
-        begun: false,
-        malformed: false,
-    }
-}
+impl TryFrom<u8> for Letter {
+    type Error = LineError;
 
-// A line that is malformed.
-fn malformed(line: Line) -> Line {
-    let mut l = line;
-    l.malformed = true;
-    l
-}
-
-// A digit more: the number stays below 2^64, or the line is malformed.
-fn digit(line: Line, byte: u8) -> Line {
-    let value = line.value;
-    if byte < b'0' {
-        return malformed(line);
-    }
-    if b'9' < byte {
-        return malformed(line);
-    }
-    let d = (byte - b'0') as u64;
-    if 1844674407370955161 < value {
-        return malformed(line);
-    }
-    if 18446744073709551615 - d < 10 * value {
-        return malformed(line);
-    }
-    let mut l = line;
-    l.value = 10 * value + d;
-    l.begun = true;
-    l
-}
-
-// A number that was begun is whole.
-pub fn number_end(line: Line, numbers: &mut [u64]) -> Line {
-    let count = line.count;
-    if !line.begun {
-        return line;
-    }
-    if numbers.len() <= count {
-        return malformed(line);
-    }
-    numbers[count] = line.value;
-    let mut l = line;
-    l.count = count + 1;
-    l.value = 0;
-    l.begun = false;
-    l
-}
-
-// A byte of the numbers.
-fn number_byte(line: Line, byte: u8, numbers: &mut [u64]) -> Line {
-    if byte == b' ' {
-        return number_end(line, numbers);
-    }
-    if byte == b'=' {
-        let mut l = line;
-        l.mark = line.count;
-        return l;
-    }
-    digit(line, byte)
-}
-
-// One byte more, which ends no line.
-pub fn byte_read(rt: &impl Print, line: Line, byte: u8, numbers: &mut [u64]) -> io::Result<Line> {
-    let case = line.case;
-    match case {
-        0 => {
-            let mut l = line;
-            l.case = byte;
-            Ok(l)
+    fn try_from(byte: u8) -> Result<Letter, LineError> {
+        match byte {
+            b's' => Ok(Letter::Sheet),
+            b't' => Ok(Letter::Answer(Case::Tree)),
+            b'e' => Ok(Letter::Answer(Case::Error)),
+            b'.' => Ok(Letter::Answer(Case::End)),
+            b'x' => Ok(Letter::Answer(Case::Stopped)),
+            b'a' => Ok(Letter::Records),
+            b'w' => Ok(Letter::Text),
+            b'n' => Ok(Letter::Reason),
+            b'l' => Ok(Letter::Check),
+            _ => Err(LineError::Malformed),
         }
-        b'#' => Ok(line),
-        b'>' => {
-            print_byte(rt, byte)?;
-            Ok(line)
-        }
-        _ => Ok(number_byte(line, byte, numbers)),
     }
+}
+
+// The numbers of a line, and how many of them stand before `=`.
+#[derive(Drop)]
+pub struct Numbers {
+    all: Vec<u64>,
+    mark: usize,
+    ghost in_range: { mark ≤ vec_len all },
+}
+
+impl Numbers {
+    // Reads the bytes behind a line's letter. A number that `=` stands in is one that stands behind it.
+    pub fn read(alloc: Global, text: &[u8]) -> Result<Numbers, LineError> {
+        let mut numbers = Numbers {
+            all: Vec::new(alloc),
+            mark: 0,
+        };
+        let mut begun = None;
+        for byte in text {
+            begun = numbers.byte_read(begun, *byte)?;
+        }
+        numbers.end(begun)?;
+        Ok(numbers)
+    }
+
+    // One byte more, and the number that is begun then.
+    fn byte_read(&mut self, begun: Option<u64>, byte: u8) -> Result<Option<u64>, LineError> {
+        match byte {
+            b' ' => {
+                self.end(begun)?;
+                Ok(None)
+            }
+            b'=' => {
+                self.mark = self.all.len();
+                Ok(begun)
+            }
+            digit => {
+                let number = with_digit(begun.unwrap_or(0), digit);
+                Ok(Some(number.ok_or(LineError::Malformed)?))
+            }
+        }
+    }
+
+    // A number that was begun is whole.
+    fn end(&mut self, begun: Option<u64>) -> Result<(), LineError> {
+        let Some(number) = begun else {
+            return Ok(());
+        };
+        if NUMBERS <= self.all.len() {
+            return Err(LineError::Malformed);
+        }
+        self.all.push(number)?;
+        Ok(())
+    }
+
+    pub fn all(&self) -> &[u64] {
+        &self.all
+    }
+
+    // The numbers before `=`, and those behind it.
+    pub fn parts(&self) -> (&[u64], &[u64]) {
+        self.all.split_at(self.mark)
+    }
+}
+
+// A number with a digit more, if that is one and the number stays below 2^64.
+fn with_digit(number: u64, digit: u8) -> Option<u64> {
+    let digit = digit.checked_sub(b'0').filter(|d| *d < 10)?;
+    number.checked_mul(10)?.checked_add(u64::from(digit))
 }

@@ -1,0 +1,173 @@
+// The records of loops one in the other, and of a break or continue, a jump, in or beside them.
+ghost use Rattle.std.specs.Prelude.{◌≤◌};
+
+use std::alloc::{AllocError, Global};
+use tree::word;
+
+// The label of the outermost loop, and one that no loop round a jump has. The loops inside have the labels from 1 on, the innermost the first.
+pub const OUTERMOST: u64 = 4294967296;
+
+pub const OTHER: u64 = 4294967295;
+
+// A signature without name and parameters: two lists, nothing variadic, the signature.
+const SIGNATURE: [u64; 8] = [1, 0, 1, 0, 0, 0, 792, 0];
+
+// What comes behind the list and control of a function's body: their statement list, no result, the body, the function, its statement, the list of that, no control.
+const FUNCTION_END: [u64; 14] = [519, 0, 0, 0, 534, 0, 532, 0, 258, 0, 257, 0, 0, 0];
+
+// And of an if's one branch: their statement list, no result, the block, the branch, the list of that, no else, the if.
+const IF_END: [u64; 14] = [519, 0, 0, 0, 534, 0, 535, 0, 257, 0, 0, 0, 530, 0];
+
+// How a jump stands in the innermost loop: a break or a continue of that, a continue in an if among statements or in a while's condition.
+#[derive(Clone, Copy)]
+pub enum Form {
+    Break,
+    Continue,
+    Among,
+    Condition,
+}
+
+impl Form {
+    // The number of the jump's record.
+    pub fn record(self) -> u64
+        ensures { result ≤ 4 }
+    {
+        match self {
+            Form::Break | Form::Condition => 2,
+            Form::Continue => 1,
+            Form::Among => 4,
+        }
+    }
+
+    // The same in a function, behind the four records of its signature.
+    pub fn record_in_function(self) -> u64 {
+        self.record() + 4
+    }
+}
+
+// A jump to a label, or without one where that is 0.
+#[derive(Clone, Copy)]
+pub struct Jump {
+    pub form: Form,
+    pub label: u64,
+}
+
+// Records, laid down one behind the other.
+#[derive(Drop)]
+pub struct Records {
+    words: Vec<u64>,
+}
+
+impl Records {
+    pub fn new(alloc: Global) -> Records {
+        Records {
+            words: Vec::new(alloc),
+        }
+    }
+
+    pub fn words(&self) -> &[u64] {
+        &self.words
+    }
+
+    fn put(&mut self, words: &[u64]) -> Result<(), AllocError> {
+        self.words.extend_from_slice(words)
+    }
+
+    // A list of so many statements, and no control.
+    fn put_list(&mut self, statements: u64) -> Result<(), AllocError>
+        requires { statements ≤ 3 }
+    {
+        self.put(&[word::LIST + statements * word::CHILD, 0, word::ABSENT, 0])
+    }
+
+    // The expression `if a then continue LABEL end`.
+    fn put_if(&mut self, label: u64) -> Result<(), AllocError> {
+        self.put(&[word::IDENTIFIER, 7, word::LIST, 0, word::CONTINUE, label])?;
+        self.put(&IF_END)
+    }
+
+    // The same as a statement.
+    fn put_statement(&mut self, label: u64) -> Result<(), AllocError> {
+        self.put_if(label)?;
+        self.put(&[word::EXPRESSION, 0])
+    }
+
+    // A list of `a`, such a statement and `a`, and no control.
+    fn put_among(&mut self, label: u64) -> Result<(), AllocError> {
+        let name = [word::IDENTIFIER, 7, word::EXPRESSION, 0];
+        self.put(&name)?;
+        self.put_statement(label)?;
+        self.put(&name)?;
+        self.put_list(3)
+    }
+
+    // A list of a while with the other label and such an if as its condition, and no control.
+    fn put_condition(&mut self, label: u64) -> Result<(), AllocError> {
+        self.put_if(label)?;
+        self.put_list(0)?;
+        self.put(&[word::STMT_LIST, 0, word::WHILE_LOOP, OTHER])?;
+        self.put_list(1)
+    }
+
+    // A list of statements and its control, with this jump.
+    fn put_jump(&mut self, jump: Jump) -> Result<(), AllocError> {
+        let label = jump.label;
+        match jump.form {
+            Form::Break => self.put(&[word::LIST, 0, word::ABSENT, 0, word::BREAK, label]),
+            Form::Continue => self.put(&[word::LIST, 0, word::CONTINUE, label]),
+            Form::Among => self.put_among(label),
+            Form::Condition => self.put_condition(label),
+        }
+    }
+
+    // The end of a loop behind its list and control.
+    pub fn put_loop(&mut self, label: u64) -> Result<(), AllocError> {
+        self.put(&[word::STMT_LIST, 0, word::LOOP, label])
+    }
+
+    // The ends of so many loops but the outermost, and behind each the list and control that it stands in.
+    pub fn put_loops(&mut self, times: u64) -> Result<(), AllocError> {
+        for label in 1..times {
+            self.put_loop(label)?;
+            self.put_list(1)?;
+        }
+        Ok(())
+    }
+
+    // So many loops, with a jump in them or none.
+    pub fn put_nest(&mut self, jump: Option<Jump>, times: u64) -> Result<(), AllocError> {
+        match jump {
+            Some(jump) => self.put_jump(jump)?,
+            None => self.put_list(0)?,
+        }
+        self.put_loops(times)?;
+        self.put_loop(OUTERMOST)
+    }
+
+    // A jump in a function, with so many loops but the outermost between them, and the list and control that the function stands in.
+    pub fn put_function(&mut self, jump: Jump, inside: u64) -> Result<(), AllocError> {
+        self.put(&SIGNATURE)?;
+        self.put_jump(jump)?;
+        self.put_loops(inside)?;
+        self.put(&FUNCTION_END)
+    }
+
+    // A loop without a label, in which an if with a continue stands before so many loops.
+    pub fn put_before(&mut self, label: u64, times: u64) -> Result<(), AllocError> {
+        self.put_statement(label)?;
+        self.put_nest(None, times)?;
+        self.put_list(2)?;
+        self.put_loop(0)
+    }
+
+    // A loop without a label, in which a continue stands in so many loops, and one to the same label behind them.
+    pub fn put_behind(&mut self, label: u64, times: u64) -> Result<(), AllocError> {
+        let jump = Jump {
+            form: Form::Continue,
+            label,
+        };
+        self.put_nest(Some(jump), times)?;
+        self.put(&[word::LIST + word::CHILD, 0, word::CONTINUE, label])?;
+        self.put_loop(0)
+    }
+}

@@ -1,0 +1,176 @@
+// The sheets of the input and the answers that the published parser gave: a line `s` begins a sheet, each line after it expects an answer.
+// A line `w` or `n` expects what the writer makes of the tree before it, or of the records of a line `a`, and a line `l` what the check of labels answers of them.
+use crate::input::{Letter, LineError, Numbers};
+use compared::answer::{Case, Said, Want, fresh_at};
+use compared::call::Call;
+use compared::checking::Verdict;
+use compared::trial::{Host, Place, Trial};
+use compared::writing::Writing;
+use grammar::limit::QUEUE;
+use grammar::{Queue, Reader};
+use std::io;
+
+// Words of the output for a tree of the input: those of 500 tokens, and some more.
+const ROOM: usize = 1003;
+
+// Words of the sheet and of the records, at most.
+// Stays a limit, though the heap needs none: of longer records the rest is left out, which shows in what is printed of them.
+const HELD: usize = 9192;
+
+// Where the replay stands: the counts, the present sheet, the records for the writer and the check, and the reader that the next call gets.
+#[derive(Drop)]
+pub struct Run<'a, R> {
+    trial: Trial<'a, R>,
+    sheet: Vec<u64>,
+    records: Vec<u64>,
+    reader: Reader,
+}
+
+impl<'a, R: Host> Run<'a, R> {
+    // Before the first line.
+    pub fn new(rt: &'a R) -> Run<'a, R> {
+        Run {
+            trial: Trial::new(rt),
+            sheet: Vec::new(rt.alloc()),
+            records: Vec::new(rt.alloc()),
+            reader: fresh_at(0),
+        }
+    }
+
+    // A line by its number. One that can't be one counts as a difference.
+    pub fn line_read(&mut self, at: u64, text: &[u8]) -> io::Result<()> {
+        match self.text_read(at, text) {
+            Ok(()) => Ok(()),
+            Err(LineError::Malformed) => self.trial.malformed(at),
+            Err(LineError::Failed(error)) => Err(error),
+        }
+    }
+
+    // The counts of all groups.
+    pub fn end(&self) -> io::Result<()> {
+        self.trial.end()
+    }
+
+    // A line by its first byte.
+    fn text_read(&mut self, at: u64, text: &[u8]) -> Result<(), LineError> {
+        match text {
+            [] => Err(LineError::Malformed),
+            [b'#', ..] => Ok(()),
+            [b'>', name @ ..] => Ok(self.trial.end_group(name)?),
+            [letter, numbers @ ..] => {
+                let letter = Letter::try_from(*letter)?;
+                let numbers = Numbers::read(self.trial.alloc(), numbers)?;
+                Ok(self.numbers_read(at, letter, &numbers)?)
+            }
+        }
+    }
+
+    // A line with numbers, by its letter.
+    fn numbers_read(&mut self, at: u64, letter: Letter, numbers: &Numbers) -> io::Result<()> {
+        let all = numbers.all();
+        match letter {
+            Letter::Sheet => self.sheet_read(all),
+            Letter::Answer(case) => self.answer_read(at, case, numbers),
+            Letter::Records => self.hold(all),
+            Letter::Text => self.text_expected(at, all),
+            Letter::Reason => self.reason_expected(at, all),
+            Letter::Check => self.verdict_expected(at, all),
+        }
+    }
+
+    // A sheet begins: its words, and a fresh reader.
+    fn sheet_read(&mut self, words: &[u64]) -> io::Result<()> {
+        self.sheet = Vec::from_slice(self.trial.alloc(), words)?;
+        self.records.clear();
+        self.reader = fresh_at(0);
+        self.trial.begin_sheet();
+        Ok(())
+    }
+
+    // Records for the writer and the check.
+    fn hold(&mut self, records: &[u64]) -> io::Result<()> {
+        let room = HELD.saturating_sub(self.sheet.len());
+        let kept = &records[..room.min(records.len())];
+        self.records = Vec::from_slice(self.trial.alloc(), kept)?;
+        Ok(())
+    }
+
+    // A line that expects an answer. The next call gets the reader that this one was to return; the records are held for the writer and the check.
+    fn answer_read(&mut self, at: u64, case: Case, numbers: &Numbers) -> io::Result<()> {
+        let (before, behind) = numbers.parts();
+        let want = wanted(case, before, behind);
+        self.stepped(at, want)?;
+        self.stepped_again(at, want)?;
+        self.reader = want.reader;
+        self.hold(want.tree)
+    }
+
+    // The call whose answer a line expects, on a store that is exactly long enough; before it, where no error waits, the call on a store one word short.
+    fn stepped(&mut self, at: u64, want: Want) -> io::Result<()> {
+        let call = Call::new(Place::new("line", at), self.reader, &self.sheet);
+        if call.reader.waiting == 0 {
+            self.trial.called_short(call)?;
+        }
+        self.trial.called_full(call, want)
+    }
+
+    // After an end or a stop the same call answers the same and leaves the reader as it is.
+    fn stepped_again(&mut self, at: u64, want: Want) -> io::Result<()> {
+        let call = Call::new(Place::new("again, line", at), want.reader, &self.sheet);
+        match want.said.case {
+            Case::End | Case::Stopped => self.trial.called_full(call, want),
+            _ => Ok(()),
+        }
+    }
+
+    // The text that a line expects for a tree is written, and read back it gives the tree.
+    fn text_expected(&mut self, at: u64, text: &[u64]) -> io::Result<()> {
+        let back = Place::new("read back, line", at);
+        let writing = Writing::new(Place::new("line", at), &self.records, ROOM);
+        self.trial.is_written(writing, text)?;
+        self.trial.read_whole(back, text, &self.records)
+    }
+
+    // The reason that a line expects for records that are not written.
+    fn reason_expected(&mut self, at: u64, numbers: &[u64]) -> io::Result<()> {
+        let writing = Writing::new(Place::new("line", at), &self.records, ROOM);
+        self.trial.is_not_written(writing, number_at(numbers, 0))
+    }
+
+    // What a line expects the check to answer of the records that are held.
+    fn verdict_expected(&mut self, at: u64, numbers: &[u64]) -> io::Result<()> {
+        let want = Verdict::new(number_at(numbers, 0), number_at(numbers, 1));
+        let place = Place::new("line", at);
+        self.trial.is_checked(place, &self.records, want)
+    }
+}
+
+// The number at a place of a line, 0 past the end.
+fn number_at(numbers: &[u64], i: usize) -> u64 {
+    numbers.get(i).copied().unwrap_or(0)
+}
+
+// A queue whose first places hold these numbers, with 0 behind them.
+fn queue_of(numbers: &[u64]) -> Queue {
+    let mut queue = [0; QUEUE];
+    for (place, number) in queue.iter_mut().zip(numbers) {
+        *place = *number;
+    }
+    queue
+}
+
+// What a line expects: before `=` the tree's records or the number of the answer, behind it the reader, its position, how many errors wait, and those errors.
+fn wanted<'a>(case: Case, before: &'a [u64], behind: &[u64]) -> Want<'a> {
+    let number = number_at(before, 0);
+    let reader = Reader {
+        position: number_at(behind, 0) as usize,
+        waiting: number_at(behind, 1) as usize,
+        // Where fewer than two numbers stand there, all of them.
+        errors: queue_of(behind.get(2..).unwrap_or(behind)),
+        stopped: if case == Case::Stopped { number } else { 0 },
+    };
+    match case {
+        Case::Tree => Want::tree(before, reader),
+        _ => Want::answer(case, number, reader),
+    }
+}
