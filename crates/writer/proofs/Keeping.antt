@@ -8,7 +8,11 @@ use lib.Dec.{eqb, ltb, leb}
 use native.Mathlib.Decide.{ℕ_discrete}
 use borrow.Author.Tests.{eq-eqb, ne_eqb, eqb-true, ltb-false, leb-false}
 use lib.ListN.{length, get_or, set, take, length-append, length-set}
+use mir.Val.{bool_byte}
 use lib.Seq.{take-take, take-append_seam, get_or-set_same, get_or-set_other}
+use Rattle.std.specs.Prelude.{MatchOption}
+use Rattle.std.specs.declared.option.Option.{Option}
+use Rattle.std.specs.declared.option.Option.TheVariants.{Some}
 use Rattle.tree.specs.NodeKind
 use Rattle.tree.specs.Tree.{Tree, Forest, node, none, more, count, records}
 use Rattle.tree.specs.Maybe.{Maybe, nothing, just}
@@ -74,6 +78,11 @@ pub under_place : {L : List ℕ} {b : ℕ} {s : List Tree} → At L b s → Some
 under_place {s = s} a = let x = under_spot s a in record { tree = first_of s; rest = x.0; spot = x.1 }
 
 -- ---------------------------------------------------------------- a word of what is kept
+-- a flag as the code has it
+pub byte_is : (b : Bool) → bool_byte b ≡ one b
+byte_is true = refl
+byte_is false = refl
+
 pub one_is : (b : Bool) → (one b ≤ 1) × (eqb (one b) 1 ≡ b)
 one_is true = (omega arith, refl)
 one_is false = (omega arith, refl)
@@ -101,11 +110,17 @@ module _ {w : ℕ} {t : Tree} {s : List Tree} (e : Entry w t s) where
 
 -- ---------------------------------------------------------------- the trees that are kept
 module _ {L F : List ℕ} {base i q : ℕ} (y : On L F base i q) where
-  pub on_entry : base ≤ i → Entry (get_or F (i - base) 0) y.top y.rest
+  on_entry : base ≤ i → Entry (get_or F (i - base) 0) y.top y.rest
   unfolding Kept
   on_entry h =
       let m = y.many in
       subst (λ (n : ℕ). Entry (get_or F (n - base) 0) y.top y.rest) m (y.kept.0 (omega arith))
+
+  -- what was found to be kept of the tree
+  pub word_found : {r : Option ℕ} {w : ℕ} → MatchOption r (i < base) (λ (w : ℕ). (base ≤ i) × (w ≡ get_or F (i - base) 0)) → r ≡ Some w → Entry w y.top y.rest
+  word_found found e =
+      let f = rw e at found in
+      rw f.1 (on_entry f.0)
 
   pub on_here : Here L q
   on_here = record { top = y.top; rest = y.rest; here = y.here }

@@ -19,8 +19,10 @@ use Rattle.tables.specs.Children.{kind_in, value_in, children_in}
 use Rattle.writer.specs.Text.{Put, Opened}
 use Rattle.output.specs.Text.{Holds}
 use Rattle.tables.specs.Tokens.{after_token}
+use Rattle.std.specs.declared.result.Result.{Result}
+use Rattle.std.specs.declared.result.Result.TheVariants.{Ok, Err}
 use Rattle.writer.specs.declared.Step.{Step}
-use Rattle.writer.specs.declared.Step.TheVariants.{Done, Deep}
+use Rattle.writer.specs.declared.TooDeep.{TooDeep}
 use Rattle.writer.proofs.Laws.{pop, back_append, length_back}
 use Rattle.writer.proofs.Kids.{from_first, from_last, test_back}
 use Rattle.writer.proofs.Writing.{under_top}
@@ -132,11 +134,11 @@ last {L} {s} {Y} {enough} {d} {k} {v} {m} {n} {p} {O} {j} {q} {a} w h = go w.kid
 
 module _ {L : List ℕ} {s : List Tree} {Y : List ℕ} {enough : Bool} {d k v m n p : ℕ} {O : List ℕ} {j q a : ℕ} (w : Last L s Y enough d k v m n p O j q a) {its below : ℕ} (pe : its ≡ place_of k v m j) (de : below ≡ deeper k m j) where
   -- what a call says of it
-  called : {O₁ O₂ : List ℕ} {c b : ℕ} {r : Step} → c ≡ after_token k v m n j → Put c 0 a b O O₁ → WroteTree L (d - below) its q b O₁ O₂ r
+  called : {O₁ O₂ : List ℕ} {c b : ℕ} {r : Result Step TooDeep} → c ≡ after_token k v m n j → Put c 0 a b O O₁ → WroteTree L (d - below) its q b O₁ O₂ r
       → StepAs (enough_for k v m d j w.top) L (w.others ++ s) (text w.top (place_of k v m j) (emit (after_token k v m n j) 0 w.words)) O₂ r
   called ce put x = rw (← pe, ← de, ← ce) (x.how w.top (w.others ++ s) _ w.here (put.how w.words w.holds))
 
-  pub last_done : {O₁ O₂ : List ℕ} {c b e q₂ : ℕ} {r : Step} → c ≡ after_token k v m n j → Put c 0 a b O O₁ → WroteTree L (d - below) its q b O₁ O₂ r → r ≡ Done q₂ e → Left L s Y enough d k v m n p O₂ (j - 1) q₂ e
+  pub last_done : {O₁ O₂ : List ℕ} {c b : ℕ} {step : Step} {r : Result Step TooDeep} → c ≡ after_token k v m n j → Put c 0 a b O O₁ → WroteTree L (d - below) its q b O₁ O₂ r → r ≡ Ok step → Left L s Y enough d k v m n p O₂ (j - 1) step.records step.words
   last_done ce put x re =
       let t = rw re at (called ce put x) in
       let y = under_top w.here t.1 in
@@ -152,13 +154,13 @@ module _ {L : List ℕ} {s : List Tree} {Y : List ℕ} {enough : Bool} {d k v m 
         below = omega arith;
       }
 
-  pub last_deep : {O₁ O₂ : List ℕ} {c b : ℕ} {r : Step} → c ≡ after_token k v m n j → Put c 0 a b O O₁ → WroteTree L (d - below) its q b O₁ O₂ r → r ≡ Deep → enough ≡ false
+  pub last_deep : {O₁ O₂ : List ℕ} {c b : ℕ} {r : Result Step TooDeep} {e : TooDeep} → c ≡ after_token k v m n j → Put c 0 a b O O₁ → WroteTree L (d - below) its q b O₁ O₂ r → r ≡ Err e → enough ≡ false
   last_deep ce put x re =
       let t = rw re at (called ce put x) in
       w.deep ∙ rw t
 
 -- no child is left
-pub left_end : {L : List ℕ} {s : List Tree} {Y : List ℕ} {enough : Bool} {d k v m n p : ℕ} {O O' : List ℕ} {j q a b : ℕ} → Left L s Y enough d k v m n p O j q a → j ≤ 0 → Opened k v m a b O O' → (enough ≡ true) × At L q s × Holds b O' Y
+pub left_end : {L : List ℕ} {s : List Tree} {Y : List ℕ} {enough : Bool} {d k v m n p : ℕ} {O O' : List ℕ} {j q a b : ℕ} → Left L s Y enough d k v m n p O j q a → j ≡ 0 → Opened k v m a b O O' → (enough ≡ true) × At L q s × Holds b O' Y
 unfolding textR from_last
 left_end {L} {s} {Y} {enough} {d} {k} {v} {m} {n} {p} {O} {O'} {j} {q} {a} {b} w h o = go w.kids w.here w.many w.same w.deep
   where

@@ -2,53 +2,42 @@
 use mathlib.Core.Path.{◌≡◌, refl, sym, ap, ◌∙◌, subst}
 use mathlib.Core.Bool.{Bool, true, false}
 use mathlib.Core.List.{List, [], ◌∷◌}
-use Prim.Native.Nat.{ℕ, ◌+◌, ◌≤◌, ◌<◌}
+use Prim.Native.Nat.{ℕ, ◌+◌, ◌*◌, ◌≤◌, ◌<◌}
 use native.Mathlib.Omega.{arith}
 use lib.Dec.{eqb, leb}
 use borrow.Author.Tests.{leb-false}
-use lib.ListN.{length}
-use types.Run.{OneOf}
-use denote.Enum.Declared.{tag_of}
-use Rattle.tree.specs.Tree.{Tree, node, count}
+use lib.ListN.{length, length-append}
+use Rattle.tree.specs.Tree.{Tree, node, count, records}
 use Rattle.tree.specs.Maybe.{just}
-use Rattle.tree.specs.Records.{stack_records, back}
+use Rattle.tree.specs.Records.{size, records_length, stack_records, back}
 use Rattle.tables.specs.Class as Class
 use Rattle.tables.specs.Class.{class}
 use Rattle.tables.specs.Children.{kind_in, value_in, children_in}
 use Rattle.tables.specs.Check.{class_of, mode_of, begins_labelled, legal_tree}
-use Rattle.writer.specs.declared.legal.Children.{Children}
-use Rattle.writer.specs.declared.legal.Judged.{Judged}
+use Rattle.std.specs.declared.option.Option.{Option}
+use Rattle.std.specs.declared.option.Option.TheVariants.{Some, None}
+use Rattle.writer.specs.declared.legal.Kids.{Kids}
 use Rattle.writer.specs.Stack.{At, Skipped}
 use Rattle.writer.specs.Standing.{serves, no_word, far, word, entry, Entry, Kept, On, AtNode, Keeps, Tells}
 use Rattle.writer.specs.Verdict.{First, Items, KidsFitAs, KidsFit, VisitedAs, Visited, Whole}
-use Rattle.writer.specs.contracts.legal.Children as children_type
-use Rattle.writer.specs.contracts.legal.Judged as judged_type
-use Rattle.writer.proofs.Laws.{at_many, length_back}
+use Rattle.writer.proofs.Laws.{at_many, at_length, length_back}
 use Rattle.writer.proofs.Places.{class_same}
 use Rattle.writer.proofs.Keeping.{at_one, at_each, kept_back, keeps_right, keeps_room}
 use Rattle.writer.proofs.Validity.{Passed, Next, way_at, passed_start, passed_next, passed_end, whole_bad, whole_good}
 
 -- ---------------------------------------------------------------- by the answers
-pub kids_not : (r : Children) → OneOf (1 ∷ []) (tag_of children_type.the_type r) → r ≡ Children.Not
-kids_not (Children.Stand b e items) o = absurd (omega arith)
-kids_not Children.Not o = refl
-
-pub judged_not : (r : Judged) → OneOf (1 ∷ []) (tag_of judged_type.the_type r) → r ≡ Judged.Not
-judged_not (Judged.Fits w) o = absurd (omega arith)
-judged_not Judged.Not o = refl
-
-module _ {L : List ℕ} {p m : ℕ} {r : Children} (w : KidsFit L p m r) where
-  pub kids_at : {x : Children} → r ≡ x → (t : Tree) (s : List Tree) → At L p (t ∷ s) → KidsFitAs L m t s x
+module _ {L : List ℕ} {p m : ℕ} {r : Option Kids} (w : KidsFit L p m r) where
+  pub kids_at : {x : Option Kids} → r ≡ x → (t : Tree) (s : List Tree) → At L p (t ∷ s) → KidsFitAs L m t s x
   kids_at e t s a = rw e at (w.how t s a)
 
-  module _ {b e : ℕ} {items : Bool} (fit : r ≡ Children.Stand b e items) where
-    pub fit_begins : Skipped L p b
+  module _ {k : Kids} (fit : r ≡ Some k) where
+    pub fit_begins : Skipped L p k.begin
     fit_begins = record { how = λ t s a. (kids_at fit t s a).1 }
 
-    pub fit_first : First L p e
+    pub fit_first : First L p k.first
     fit_first = record { how = λ t s a. (kids_at fit t s a).2 }
 
-    pub fit_items : Items L p items
+    pub fit_items : Items L p k.items
     fit_items = record { how = λ t s a. (kids_at fit t s a).3 }
 
 -- ---------------------------------------------------------------- what is to be kept of a node
@@ -96,17 +85,17 @@ module _ {L F : List ℕ} {p h base : ℕ} (g : Going L F p h base) (z : p < len
       let many = g.many in
       record { kind = n.kind; value = n.value; kids = n.kids; rest = n.rest; here = n.at; many = omega arith; kept = subst (λ (s : List Tree). Kept F base s) n.is g.kept; room = g.room }
 
-  module _ {r : Judged} (w : Visited L (p + 2) r) where
-    pub next_bad : r ≡ Judged.Not → (t : Tree) → At L (length L) (t ∷ []) → false ≡ legal_tree t
+  module _ {r : Option ℕ} (w : Visited L (p + 2) r) where
+    pub next_bad : r ≡ None → (t : Tree) → At L (length L) (t ∷ []) → false ≡ legal_tree t
     next_bad e t a =
         let n = next_one in
         let f = w.how (node n.kind n.value n.kids) n.rest n.at in
         at_each g.whole.here (λ u s. false ≡ legal_tree u) (sym (whole_bad g.whole.top (n.bad (rw e at f)))) t [] a
 
-    pub next_good : {word i base' : ℕ} {F' : List ℕ} → r ≡ Judged.Fits word → i + count next_node.kids ≡ h → Keeps F F' base i word base' → Going L F' (p + 2) (i + 1) base'
+    pub next_good : {word i base' : ℕ} {F' : List ℕ} → r ≡ Some word → i + count next_node.kids ≡ h → Keeps F F' base i word base' → Going L F' (p + 2) (i + 1) base'
     next_good {word} {i} {base'} {F'} e number keeps =
         let n = next_one in
-        let v : VisitedAs (node n.kind n.value n.kids) n.rest (Judged.Fits word) = rw e at (w.how _ _ n.at) in
+        let v : VisitedAs (node n.kind n.value n.kids) n.rest (Some word) = rw e at (w.how _ _ n.at) in
         let x = n.fits v.0 in
         let y = next_node in
         let l : length n.rest ≡ i = omega (arith, y.many) in
@@ -119,6 +108,11 @@ module _ {L F : List ℕ} {p h base : ℕ} (g : Going L F p h base) (z : p < len
           kept = subst (λ (s : List Tree). Kept F' base' s) (sym x.1) k;
           room = omega arith;
         }
+
+-- each record has two words
+pub whole_even : {L : List ℕ} → Whole L → (n : ℕ) × (length L ≡ 2 * n)
+unfolding stack_records
+whole_even w = (size w.top, omega (arith, at_length w.here, length-append [] (records w.top), records_length w.top))
 
 -- all nodes were visited: the whole stands alone
 module _ {L F : List ℕ} {p h base : ℕ} (g : Going L F p h base) (z : length L ≤ p) where

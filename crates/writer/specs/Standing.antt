@@ -10,6 +10,7 @@ use Rattle.tables.specs.Children.{kind_in, count_in, value_in}
 use Rattle.tables.specs.Kinds.{gives_name}
 use Rattle.tables.specs.Sound.{sound}
 use Rattle.tables.specs.Check.{class_of, begins_labelled}
+use Rattle.writer.specs.declared.standing.Standing.{Standing}
 use Rattle.writer.specs.Stack.{At}
 
 -- the tree on top of a stack, if there is one
@@ -84,6 +85,13 @@ pub record AtNode (L F : List ℕ) (base h p : ℕ) : Type 0 where
   pub many : count kids + length rest ≡ h
   pub kept : Kept F base (back kids rest)
   pub room : h ≤ base + length F
+
+-- the same of the pass's records, and of what it keeps
+abbrev pub TreeAt : Standing → ℕ → ℕ → Type 0
+TreeAt s i q = On s.records.now s.kept.now s.base i q
+
+abbrev pub NodeAt : Standing → ℕ → ℕ → Type 0
+NodeAt s h p = AtNode s.records.now s.kept.now s.base h p
 
 -- the record of the node at p is sound, so that it has the children of its kind
 pub record SoundAt (L : List ℕ) (p : ℕ) : Type 0 where

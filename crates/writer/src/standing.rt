@@ -1,9 +1,9 @@
 // The trees that stand in the pass over the nodes (legal.rt): they are finished, and their parents are not yet visited. They are numbered from 0,
 // the first one, and `kept[i - base]` is what is kept of the tree number i, from the number `base` on (specs/Standing.antt: entry). What is not kept
 // is found in the records, which takes time.
-ghost use Rattle.std.specs.Prelude.{◌<◌, ◌≡◌};
+ghost use Rattle.std.specs.Prelude.{◌≡◌, ◌+◌, ◌-◌, ◌<◌, ◌≤◌, length, slice_index, MatchOption};
 ghost use Rattle.writer.specs.Stack.{Skipped};
-ghost use Rattle.writer.specs.Standing.{On, Tells, Keeps, word as word_def, first_kept as first_kept_def, one as one_def, serves as serves_def};
+ghost use Rattle.writer.specs.Standing.{TreeAt, Tells, Keeps, word as word_def, first_kept as first_kept_def, serves as serves_def};
 ghost use Rattle.tables.specs.Check.{class_of as class_of_def, begins_labelled as begins_labelled_def};
 
 use crate::edges::begins_labelled;
@@ -25,56 +25,66 @@ const FAR: usize = 18014398509481984;
 // Nothing is kept of a tree.
 const NO_WORD: u64 = 18446744073709551615;
 
-// Where the tree number i, which ends at q, begins.
-pub fn begin_of(records: &[u64], kept: &[u64], base: usize, i: usize, q: usize) -> usize
-    requires { On records.now kept.now base i q }
-    ensures { Skipped records.now q result }
-{
-    if base <= i {
-        return (kept[i - base] / BEGIN) as usize;
-    }
-    skip(records, q)
+// The trees that stand, to be asked: the records, and what is kept from the number `base` on.
+#[derive(Clone, Copy)]
+pub struct Standing<'a> {
+    pub records: &'a [u64],
+    pub kept: &'a [u64],
+    pub base: usize,
 }
 
-pub fn class_of(records: &[u64], kept: &[u64], base: usize, i: usize, q: usize) -> u64
-    requires { On records.now kept.now base i q }
-    ensures { Tells records.now q (λ t s. class_of_def t) result }
-{
-    if base <= i {
-        return kept[i - base] % LABELLED;
+impl Standing<'_> {
+    // What is kept of the tree number i, if it is kept.
+    fn word(&self, i: usize) -> Option<u64>
+        requires { i < self.now.base + length self.now.kept.now }
+        ensures { MatchOption result (i < self.now.base) (λ w. (self.now.base ≤ i) × (w ≡ slice_index self.now.kept.now (i - self.now.base))) }
+    {
+        let place = i.checked_sub(self.base)?;
+        Some(self.kept[place])
     }
-    class_at(records, q)
-}
 
-// Whether it begins with a label.
-pub fn labelled_of(records: &[u64], kept: &[u64], base: usize, i: usize, q: usize) -> bool
-    requires { On records.now kept.now base i q }
-    ensures { Tells records.now q (λ t s. begins_labelled_def t) result }
-{
-    if base <= i {
-        return kept[i - base] / LABELLED % 2 == 1;
+    // Where the tree number i, which ends at q, begins.
+    pub fn begin_of(&self, i: usize, q: usize) -> usize
+        requires { TreeAt self.now i q }
+        ensures { Skipped self.now.records.now q result }
+    {
+        match self.word(i) {
+            Some(word) => (word / BEGIN) as usize,
+            None => skip(self.records, q),
+        }
     }
-    begins_labelled(records, q)
-}
 
-// Whether it serves a `fun` with a target.
-pub fn serves_of(records: &[u64], kept: &[u64], base: usize, i: usize, q: usize) -> bool
-    requires { On records.now kept.now base i q }
-    ensures { Tells records.now q serves_def result }
-{
-    if base <= i {
-        return kept[i - base] / SERVES % 2 == 1;
+    pub fn class_of(&self, i: usize, q: usize) -> u64
+        requires { TreeAt self.now i q }
+        ensures { Tells self.now.records.now q (λ t s. class_of_def t) result }
+    {
+        match self.word(i) {
+            Some(word) => word % LABELLED,
+            None => class_at(self.records, q),
+        }
     }
-    serves_at(records, q)
-}
 
-fn one(yes: bool) -> u64
-    ensures { result ≡ one_def yes }
-{
-    if yes {
-        return 1;
+    // Whether it begins with a label.
+    pub fn labelled_of(&self, i: usize, q: usize) -> bool
+        requires { TreeAt self.now i q }
+        ensures { Tells self.now.records.now q (λ t s. begins_labelled_def t) result }
+    {
+        match self.word(i) {
+            Some(word) => word / LABELLED % 2 == 1,
+            None => begins_labelled(self.records, q),
+        }
     }
-    0
+
+    // Whether it serves a `fun` with a target.
+    pub fn serves_of(&self, i: usize, q: usize) -> bool
+        requires { TreeAt self.now i q }
+        ensures { Tells self.now.records.now q serves_def result }
+    {
+        match self.word(i) {
+            Some(word) => word / SERVES % 2 == 1,
+            None => serves_at(self.records, q),
+        }
+    }
 }
 
 // What is kept of a tree that has a class and begins at b.
@@ -87,7 +97,7 @@ pub fn word_of(class: u64, labelled: bool, serves: bool, b: usize) -> u64
     if FAR <= b {
         return NO_WORD;
     }
-    class + LABELLED * one(labelled) + SERVES * one(serves) + BEGIN * b as u64
+    class + LABELLED * u64::from(labelled) + SERVES * u64::from(serves) + BEGIN * b as u64
 }
 
 // From which number on trees are kept with the tree number i, the last one, where there are n words: from that one on if its number is below the

@@ -14,28 +14,19 @@ use crate::kinds::{gives_name, target_atom, target_item};
 use crate::records::{count_at, kid_of, kind_at, skip, value_at};
 use tree::node;
 
-// Whether a tree passed a test that goes over its children, and where it begins.
-#[derive(Drop)]
-pub enum Fitting {
-    From(usize),
-    Not,
-}
-
 // Whether the items of a path, the children of the list that ends at p, are members and indexes; and where the path begins.
-fn target_items(records: &[u64], p: usize) -> Fitting
+fn target_items(records: &[u64], p: usize) -> Option<usize>
     requires { Here records.now p }
     ensures { Fit records.now p (λ t. target_items_def (children_in (just t))) result }
 {
-    let mut j = count_at(records, p);
     let mut q = p - 2;
-    while 0 < j {
+    for _ in 0..count_at(records, p) {
         if !target_item(kind_at(records, q)) {
-            return Fitting::Not;
+            return None;
         }
         q = skip(records, q);
-        j -= 1;
     }
-    Fitting::From(q)
+    Some(q)
 }
 
 // Whether the receiver that ends at p can begin a target: an atom that is no group, and a path without calls.
@@ -48,11 +39,10 @@ pub fn target_receiver(records: &[u64], p: usize) -> bool
         return false;
     }
     // the atom ends where the path begins
-    let r = target_items(records, path);
-    let Fitting::From(atom) = r else {
-        return false;
-    };
-    target_atom(kind_at(records, atom))
+    match target_items(records, path) {
+        Some(atom) => target_atom(kind_at(records, atom)),
+        None => false,
+    }
 }
 
 // Whether the pattern that ends at p can be a target.
@@ -122,11 +112,7 @@ fn path_serves(records: &[u64], p: usize) -> bool
     requires { Here records.now p }
     ensures { Tells records.now p (λ t s. target_items_def (children_in (just t))) result }
 {
-    let r = target_items(records, p);
-    match r {
-        Fitting::From(_) => true,
-        Fitting::Not => false,
-    }
+    target_items(records, p).is_some()
 }
 
 // Whether the tree that ends at p serves a `fun` with a target: as the target or a part of it, or as the function behind it.

@@ -25,9 +25,6 @@ pub record Children (L O₀ : List ℕ) (d place p k v m n a₀ : ℕ) (O : List
 abbrev pub invariant-write_node-loop-j : goal.invariant-write_node-loop-j
 invariant-write_node-loop-j l = Children l.records l.initial.output l.depth l.place l.p l.kind l.value l.form l.n l.initial.a l.output l.j l.q l.a
 
-abbrev pub decreases-write_node-loop-j : goal.decreases-write_node-loop-j
-decreases-write_node-loop-j l = l.j
-
 -- of `write_tree`: whatever tree ends at `from`, where the loop stands in it
 pub record Chain (L O₀ : List ℕ) (d place from end : ℕ) (O : List ℕ) (at p a : ℕ) : Type 0 where
   pub go : (t : Tree) (s : List Tree) (X : List ℕ) → At L from (t ∷ s) → Holds end O₀ X → Stage L s (text t place X) (within t place d) d from O at p a

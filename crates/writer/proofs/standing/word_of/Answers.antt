@@ -1,6 +1,8 @@
 -- `writer::standing::word_of` meets its contract. Assumes nothing.
+use mathlib.Core.Path.{◌∙◌}
 use Rattle.writer.specs.Standing.{word}
 use Rattle.writer.proofs.Numbers.{tests}
+use Rattle.writer.proofs.Keeping.{byte_is}
 use Rattle.writer.proofs.standing.word_of.Goals as goal
 
 pub returns-then-class-ge-LABELLED : goal.returns-then-class-ge-LABELLED
@@ -13,6 +15,4 @@ returns-then-b-ge-FAR c = search tests
 
 pub returns : goal.returns
 unfolding word
-returns c = let l = c.one.ensures in
-    let k = c.one-2.ensures in
-    rw (← l, ← k) (search tests)
+returns c = rw (c.from.ensures ∙ byte_is c.args.labelled, c.from-2.ensures ∙ byte_is c.args.serves) (search tests)
