@@ -1,7 +1,7 @@
 // A call of the check of labels held to what is expected of it: its number, and the record number.
 use crate::parts::{Said, part, same_answer};
 use crate::tally::{Tally, with_check};
-use labels::{Labels, check_labels};
+use labels::{FlatLabels, check_labels};
 use std::io;
 
 // A number of an answer, by a letter: of one where nothing is wrong, or of a refusal.
@@ -9,22 +9,6 @@ fn said(fine: bool, number: u64) -> Said {
     Said {
         case: if fine { b'l' } else { b'r' },
         number,
-    }
-}
-
-// An answer by its number.
-fn answered(answer: Labels) -> Said {
-    match answer {
-        Labels::Fine => said(true, 0),
-        Labels::Refused(n, _) => said(false, n),
-    }
-}
-
-// An answer by its record number.
-fn recorded(answer: Labels) -> Said {
-    match answer {
-        Labels::Fine => said(true, 0),
-        Labels::Refused(_, i) => said(false, i as u64),
     }
 }
 
@@ -39,8 +23,10 @@ pub fn is_checked(
     record: u64,
 ) -> io::Result<Tally> {
     let answer = check_labels(records);
-    let got = answered(answer);
-    let there = recorded(answer);
+    let fine = answer.is_ok();
+    let flat = FlatLabels::from(answer);
+    let got = said(fine, flat.number);
+    let there = said(fine, flat.record_number);
     let want = said(number == 0, number);
     let place = said(number == 0, record);
     let a = with_check(t);

@@ -2,14 +2,14 @@
 use mathlib.Core.Path.{◌≡◌, refl, sym, ap, ◌∙◌, subst}
 use mathlib.Core.Bool.{Bool, true, false}
 use mathlib.Core.List.{List, [], ◌∷◌}
-use Prim.Native.Nat.{ℕ, ◌+◌, ◌*◌, ◌≤◌, ◌<◌}
+use Prim.Native.Nat.{ℕ, ◌+◌, ◌≤◌, ◌<◌}
 use native.Mathlib.Omega.{arith}
 use lib.Dec.{eqb, leb}
 use borrow.Author.Tests.{leb-false}
-use lib.ListN.{length, length-append}
-use Rattle.tree.specs.Tree.{Tree, node, count, records}
+use lib.ListN.{length}
+use Rattle.tree.specs.Tree.{Tree, node, count}
 use Rattle.tree.specs.Maybe.{just}
-use Rattle.tree.specs.Records.{size, records_length, stack_records, back}
+use Rattle.tree.specs.Records.{stack_records, back}
 use Rattle.tables.specs.Class as Class
 use Rattle.tables.specs.Class.{class}
 use Rattle.tables.specs.Children.{kind_in, value_in, children_in}
@@ -20,7 +20,7 @@ use Rattle.writer.specs.declared.legal.Kids.{Kids}
 use Rattle.writer.specs.Stack.{At, Skipped}
 use Rattle.writer.specs.Standing.{serves, no_word, far, word, entry, Entry, Kept, On, AtNode, Keeps, Tells}
 use Rattle.writer.specs.Verdict.{First, Items, KidsFitAs, KidsFit, VisitedAs, Visited, Whole}
-use Rattle.writer.proofs.Laws.{at_many, at_length, length_back}
+use Rattle.writer.proofs.Laws.{at_many, length_back}
 use Rattle.writer.proofs.Places.{class_same}
 use Rattle.writer.proofs.Keeping.{at_one, at_each, kept_back, keeps_right, keeps_room}
 use Rattle.writer.proofs.Validity.{Passed, Next, way_at, passed_start, passed_next, passed_end, whole_bad, whole_good}
@@ -108,11 +108,6 @@ module _ {L F : List ℕ} {p h base : ℕ} (g : Going L F p h base) (z : p < len
           kept = subst (λ (s : List Tree). Kept F' base' s) (sym x.1) k;
           room = omega arith;
         }
-
--- each record has two words
-pub whole_even : {L : List ℕ} → Whole L → (n : ℕ) × (length L ≡ 2 * n)
-unfolding stack_records
-whole_even w = (size w.top, omega (arith, at_length w.here, length-append [] (records w.top), records_length w.top))
 
 -- all nodes were visited: the whole stands alone
 module _ {L F : List ℕ} {p h base : ℕ} (g : Going L F p h base) (z : length L ≤ p) where

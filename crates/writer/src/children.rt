@@ -94,12 +94,7 @@ impl Standing<'_> {
     }
 
     // Whether the node that ends at p begins with a label. Its first child, if there is one, ends at `first`.
-    pub fn labelled_by(
-        &self,
-        h: usize,
-        p: usize,
-        first: usize,
-    ) -> bool
+    pub fn labelled_by(&self, h: usize, p: usize, first: usize) -> bool
         requires { NodeAt self.now h p × First self.now.records.now p first }
         ensures { Tells self.now.records.now p (λ t s. begins_labelled_def t) result }
     {
@@ -145,14 +140,7 @@ impl Standing<'_> {
     }
 
     // Whether the node that ends at p, has the mode m and begins at b serves a `fun` with a target. `items` is whether all its children are members and indexes.
-    pub fn serves_by(
-        &self,
-        h: usize,
-        p: usize,
-        m: u64,
-        b: usize,
-        items: bool,
-    ) -> bool
+    pub fn serves_by(&self, h: usize, p: usize, m: u64, b: usize, items: bool) -> bool
         requires { NodeAt self.now h p × SoundAt self.now.records.now p × Says self.now.records.now p (λ m. mode_of (kind_in m) (children_in m)) m × Skipped self.now.records.now p b × Items self.now.records.now p items }
         ensures { Tells self.now.records.now p serves_def result }
     {

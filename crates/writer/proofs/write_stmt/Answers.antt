@@ -9,11 +9,11 @@ use Rattle.writer.proofs.write_stmt.Goals as goal
 -- the output, which may have been lent, is as long as it was
 pub returns-else-shape : goal.returns-else-shape
 returns-else-shape c = cleared c.else-shape.output _ _ c.clear.ensures c.else-shape.auto.output (elim c.else-shape.branch [
-    else-shape-via-then-shape+else-decided w ↦
+  | else-shape-via-then-shape+else-decided w ↦
       let z = shape_at c.shape.ensures w.if-shape.true in
       illegal z.1 z.2 _ (sym (w.decided.ensures.how z.0 z.2) ∙ w.if-decided.false)
   | else-shape-via-else-shape w ↦ no_tree _ _ (shape_at c.shape.ensures w.if-shape.false)
-  ])
+])
 
 pub returns-then-decided : goal.returns-then-decided
 returns-then-decided c =

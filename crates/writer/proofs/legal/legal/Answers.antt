@@ -8,7 +8,8 @@ use Rattle.writer.specs.Standing.{AtNode}
 use Rattle.writer.proofs.Laws.{at_many}
 use Rattle.writer.proofs.Places.{stands}
 use Rattle.writer.proofs.Keeping.{node_place}
-use Rattle.writer.proofs.Visits.{going_start, next_node, next_bad, next_good, whole_even, end_on, end_good}
+use Rattle.writer.proofs.Entry.{whole_even}
+use Rattle.writer.proofs.Visits.{going_start, next_node, next_bad, next_good, end_on, end_good}
 use Rattle.writer.proofs.legal.legal.Goals.{After-count_at, In-loop-node}
 use Rattle.writer.proofs.legal.legal.Goals as goal
 

@@ -12,24 +12,24 @@ ends_wrong-requires c = search on_place
 
 pub returns-then-not-starts_wrong : goal.returns-then-not-starts_wrong
 returns-then-not-starts_wrong c = elim c.if-fits.branch [
-    then-fits w ↦ record {
-      how = λ t s a.
-          let k = kid_is t _ _ _ (c.class_of.ensures.how t s a) c.fits.ensures (w.starts_wrong.ensures.how t s a) (c.ends_wrong.ensures.how _ s (stands a)) in
-          rw (w.if-fits.true, sym w.value-is ∙ c.if-not-starts_wrong.true) at k;
-    }
+  | then-fits w ↦ record {
+    how = λ t s a.
+        let k = kid_is t _ _ _ (c.class_of.ensures.how t s a) c.fits.ensures (w.starts_wrong.ensures.how t s a) (c.ends_wrong.ensures.how _ s (stands a)) in
+        rw (w.if-fits.true, sym w.value-is ∙ c.if-not-starts_wrong.true) at k;
+  }
   | else-fits w ↦ clash c.if-not-starts_wrong.true (w.value-is ∙ w.if-fits.false)
-  ]
+]
 
 pub returns-else-not-starts_wrong : goal.returns-else-not-starts_wrong
 returns-else-not-starts_wrong c = elim c.if-fits.branch [
-    then-fits w ↦ record {
-      how = λ t s a.
-          let k = kid_is t _ _ _ (c.class_of.ensures.how t s a) c.fits.ensures (w.starts_wrong.ensures.how t s a) refl in
-          c.if-not-starts_wrong.false ∙ rw (w.if-fits.true, sym w.value-is ∙ c.if-not-starts_wrong.false) at k;
-    }
+  | then-fits w ↦ record {
+    how = λ t s a.
+        let k = kid_is t _ _ _ (c.class_of.ensures.how t s a) c.fits.ensures (w.starts_wrong.ensures.how t s a) refl in
+        c.if-not-starts_wrong.false ∙ rw (w.if-fits.true, sym w.value-is ∙ c.if-not-starts_wrong.false) at k;
+  }
   | else-fits w ↦ record {
-      how = λ t s a.
-          let k = kid_is t c.args.asked c.args.kind c.args.value (c.class_of.ensures.how t s a) c.fits.ensures refl refl in
-          c.if-not-starts_wrong.false ∙ rw w.if-fits.false at k;
-    }
-  ]
+    how = λ t s a.
+        let k = kid_is t c.args.asked c.args.kind c.args.value (c.class_of.ensures.how t s a) c.fits.ensures refl refl in
+        c.if-not-starts_wrong.false ∙ rw w.if-fits.false at k;
+  }
+]

@@ -1,4 +1,4 @@
--- `labels::entries::standing` meets its contract: entries are left out from the last on. Assumes nothing.
+-- `labels::entries::Entries::leave` meets its contract: entries are left out from the last on. Assumes nothing.
 use mathlib.Core.Path.{◌≡◌, sym, ap, ◌∙◌}
 use mathlib.Core.List.{List}
 use Prim.Native.Nat.{ℕ, ◌+◌, ◌*◌, ◌-◌, ◌≤◌, ◌<◌}
@@ -7,7 +7,7 @@ use lib.ListN.{get_or}
 use borrow.Author.Tests.{le-ltb, lt-ltb}
 use Rattle.labels.specs.Entries.{held, standing}
 use Rattle.labels.proofs.Kept.{held_last, held_none}
-use Rattle.labels.proofs.entries.standing.Goals as goal
+use Rattle.labels.proofs.entries.Entries.leave.Goals as goal
 
 -- the last entry stands, or is left out
 module _ (F : List ℕ) (h i : ℕ) (l : 0 < i) where
@@ -27,14 +27,14 @@ none_stands : (F : List ℕ) (h i : ℕ) → i ≤ 0 → standing h (held F i) �
 unfolding standing
 none_stands F h i l = rw (held_none F i l)
 
-pub returns-then-kept-i : goal.returns-then-kept-i
-returns-then-kept-i c = let v = c.loop-i.invariant in
-    record { words = sym (v.1 ∙ stands _ _ _ c.loop-i-test.true (omega (arith, c.if-kept-i.true))); fewer = v.0 }
+pub loop-self-preserved : goal.loop-self-preserved
+loop-self-preserved c = let v = c.loop-self.invariant in
+    (omega arith, v.1, v.2 ∙ left_out c.args.self.now.words.now c.args.pending c.loop-self.self.count c.loop-self-test.true (rw v.1 at c.if-pending-self.true))
 
-pub loop-i-preserved : goal.loop-i-preserved
-loop-i-preserved c = let v = c.loop-i.invariant in
-    (omega arith, v.1 ∙ left_out _ _ _ c.loop-i-test.true (omega (arith, c.if-kept-i.false)))
+pub returns-else-pending-self-clause-stands : goal.returns-else-pending-self-clause-stands
+returns-else-pending-self-clause-stands c = let v = c.loop-self.invariant in
+    record { words = sym (v.2 ∙ stands c.args.self.now.words.now c.args.pending c.loop-self.self.count c.loop-self-test.true (rw v.1 at c.if-pending-self.false)); fewer = v.0 }
 
-pub returns : goal.returns
-returns c = let v = c.loop-i.invariant in
-    record { words = sym (v.1 ∙ none_stands _ _ _ c.loop-i-test.false); fewer = v.0 }
+pub returns-after-loop-self-clause-stands : goal.returns-after-loop-self-clause-stands
+returns-after-loop-self-clause-stands c = let v = c.loop-self.invariant in
+    record { words = sym (v.2 ∙ none_stands c.args.self.now.words.now c.args.pending c.loop-self.self.count c.loop-self-test.false); fewer = v.0 }
