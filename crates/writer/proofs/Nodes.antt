@@ -134,13 +134,13 @@ last {L} {s} {Y} {enough} {d} {k} {v} {m} {n} {p} {O} {j} {q} {a} w h = go w.kid
 
 module _ {L : List ℕ} {s : List Tree} {Y : List ℕ} {enough : Bool} {d k v m n p : ℕ} {O : List ℕ} {j q a : ℕ} (w : Last L s Y enough d k v m n p O j q a) {its below : ℕ} (pe : its ≡ place_of k v m j) (de : below ≡ deeper k m j) where
   -- what a call says of it
-  called : {O₁ O₂ : List ℕ} {c b : ℕ} {r : Result Step TooDeep} → c ≡ after_token k v m n j → Put c 0 a b O O₁ → WroteTree L (d - below) its q b O₁ O₂ r
+  called : {O₁ O₂ : List ℕ} {b : ℕ} {r : Result Step TooDeep} → Put (after_token k v m n j) 0 a b O O₁ → WroteTree L (d - below) its q b O₁ O₂ r
       → StepAs (enough_for k v m d j w.top) L (w.others ++ s) (text w.top (place_of k v m j) (emit (after_token k v m n j) 0 w.words)) O₂ r
-  called ce put x = rw (← pe, ← de, ← ce) (x.how w.top (w.others ++ s) _ w.here (put.how w.words w.holds))
+  called put x = rw (← pe, ← de) (x.how w.top (w.others ++ s) _ w.here (put.how w.words w.holds))
 
-  pub last_done : {O₁ O₂ : List ℕ} {c b : ℕ} {step : Step} {r : Result Step TooDeep} → c ≡ after_token k v m n j → Put c 0 a b O O₁ → WroteTree L (d - below) its q b O₁ O₂ r → r ≡ Ok step → Left L s Y enough d k v m n p O₂ (j - 1) step.records step.words
-  last_done ce put x re =
-      let t = rw re at (called ce put x) in
+  pub last_done : {O₁ O₂ : List ℕ} {b : ℕ} {step : Step} {r : Result Step TooDeep} → Put (after_token k v m n j) 0 a b O O₁ → WroteTree L (d - below) its q b O₁ O₂ r → r ≡ Ok step → Left L s Y enough d k v m n p O₂ (j - 1) step.records step.words
+  last_done put x re =
+      let t = rw re at (called put x) in
       let y = under_top w.here t.1 in
       let z = w.below in
       record {
@@ -154,9 +154,9 @@ module _ {L : List ℕ} {s : List Tree} {Y : List ℕ} {enough : Bool} {d k v m 
         below = omega arith;
       }
 
-  pub last_deep : {O₁ O₂ : List ℕ} {c b : ℕ} {r : Result Step TooDeep} {e : TooDeep} → c ≡ after_token k v m n j → Put c 0 a b O O₁ → WroteTree L (d - below) its q b O₁ O₂ r → r ≡ Err e → enough ≡ false
-  last_deep ce put x re =
-      let t = rw re at (called ce put x) in
+  pub last_deep : {O₁ O₂ : List ℕ} {b : ℕ} {r : Result Step TooDeep} {e : TooDeep} → Put (after_token k v m n j) 0 a b O O₁ → WroteTree L (d - below) its q b O₁ O₂ r → r ≡ Err e → enough ≡ false
+  last_deep put x re =
+      let t = rw re at (called put x) in
       w.deep ∙ rw t
 
 -- no child is left

@@ -87,8 +87,8 @@ module _ {L : List ℕ} {s : List Tree} {Y : List ℕ} {enough : Bool} {d from :
   side_written re = wrote_at x re w.right (w.left ∷ s) w.words w.here w.holds
 
   -- on with the left side
-  pub side_done : {O₂ : List ℕ} {step : Step} {c b : ℕ} → r ≡ Ok step → c ≡ op_token (get_or L (p - 1) 0) → Put c 0 step.words b O₁ O₂ → Stage L s Y enough d from O₂ Own step.records b
-  side_done re ce put =
+  pub side_done : {O₂ : List ℕ} {step : Step} {b : ℕ} → r ≡ Ok step → Put (op_token (get_or L (p - 1) 0)) 0 step.words b O₁ O₂ → Stage L s Y enough d from O₂ Own step.records b
+  side_done re put =
       let t = side_written re in
       let y = under_top w.here t.1 in
       let z = w.below in
@@ -96,7 +96,7 @@ module _ {L : List ℕ} {s : List Tree} {Y : List ℕ} {enough : Bool} {d from :
         top = w.left;
         words = emit (op_token (get_or L (p - 1) 0)) 0 (text w.right Own w.words);
         here = t.1;
-        holds = rw (← ce) (put.how (text w.right Own w.words) t.2);
+        holds = put.how (text w.right Own w.words) t.2;
         same = w.same;
         deep = w.deep ∙ rw (t.0, and-true (within w.left Own d));
         below = omega arith;

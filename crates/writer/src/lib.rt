@@ -126,7 +126,7 @@ fn run_out(records: &[u64], output: &mut [u64]) -> Written
     requires { Here records.now (length records.now) }
     ensures { RanOut records.now output.old output.new result }
 {
-    let a = put(output, output.len() + 2, kind::SEMICOLON, 0);
+    let a = put(output, output.len() + 2, Some(kind::SEMICOLON), 0);
     let n = records.len();
     match write_tree(records, output, DEPTH, OWN, n, a) {
         Ok(step) => written(output, step.words),

@@ -1,18 +1,17 @@
 // The text, right-aligned in the output: a token before it, and the tokens around a node's children.
 ghost use Rattle.std.specs.Prelude.{◌+◌, ◌≤◌, length};
-ghost use Rattle.writer.specs.Text.{Put, Opened, Closed};
+ghost use Rattle.writer.specs.Text.{ForToken, Put, Opened, Closed};
 
-use crate::operators::NO_TOKEN;
 use crate::tokens::{behind_token, carried, first_token, last_token, second_token, third_token};
 
 // A token before the text that begins at a - 2. Where a is below 2 the text had no room, and where this one has none the answer is 0.
-pub fn put(output: &mut [u64], a: usize, token: u64, value: u64) -> usize
+pub fn put(output: &mut [u64], a: usize, token: Option<u64>, value: u64) -> usize
     requires { a ≤ length output.old + 2 }
-    ensures { Put token value a result output.old output.new }
+    ensures { ForToken token (λ c. Put c value a result output.old output.new) }
 {
-    if token == NO_TOKEN {
+    let Some(token) = token else {
         return a;
-    }
+    };
     if a < 4 {
         return 0;
     }

@@ -57,15 +57,15 @@ write_node-write_tree-requires t c =
     let g = c.loop-j.invariant.go y.0.top y.0.rest y.1.words y.0.here (c.closing-a.ensures.how y.1.words y.1.holds) in
     let w = last g c.loop-j-test.true in
     let low = g.below in
-    (omega (arith, c.decreases), (record { top = w.top; rest = w.others ++ y.0.rest; here = w.here }, record { words = _; holds = c.put-b.ensures.how w.words w.holds }))
+    (omega (arith, c.decreases), (record { top = w.top; rest = w.others ++ y.0.rest; here = w.here }, record { words = _; holds = (c.put-b.ensures _ c.after_token.ensures).how w.words w.holds }))
 
 pub write_node-returns-in_err-kid : goal.write_node-returns-in_err-kid
 write_node-returns-in_err-kid t c =
-    wrote_deep c.from_residual.ensures.0 λ u s X a h. last_deep (last (c.loop-j.invariant.go u s X a (c.closing-a.ensures.how X h)) c.loop-j-test.true) c.place_of-its.ensures c.deeper.ensures c.after_token.ensures c.put-b.ensures c.write_tree.ensures c.in_err-kid.was
+    wrote_deep c.from_residual.ensures.0 λ u s X a h. last_deep (last (c.loop-j.invariant.go u s X a (c.closing-a.ensures.how X h)) c.loop-j-test.true) c.place_of-its.ensures c.deeper.ensures (c.put-b.ensures _ c.after_token.ensures) c.write_tree.ensures c.in_err-kid.was
 
 pub write_node-loop-j-preserved : goal.write_node-loop-j-preserved
 write_node-loop-j-preserved t c = record {
-  go = λ u s X a h. last_done (last (c.loop-j.invariant.go u s X a h) c.loop-j-test.true) c.place_of-its.ensures c.deeper.ensures c.after_token.ensures c.put-b.ensures c.write_tree.ensures c.in_ok-kid.was;
+  go = λ u s X a h. last_done (last (c.loop-j.invariant.go u s X a h) c.loop-j-test.true) c.place_of-its.ensures c.deeper.ensures (c.put-b.ensures _ c.after_token.ensures) c.write_tree.ensures c.in_ok-kid.was;
   kept = omega (arith, c.loop-j.invariant.kept);
 }
 
@@ -124,7 +124,7 @@ write_tree-loop-p-smaller t c =
 
 pub write_tree-loop-p-preserved : goal.write_tree-loop-p-preserved
 write_tree-loop-p-preserved t c = record {
-  go = λ u s X a h. side_done (sides (c.loop-p.invariant.go u s X a h) c.loop-p-test.true) c.write_tree.ensures c.in_ok-side.was c.op_token.ensures c.put-a.ensures;
+  go = λ u s X a h. side_done (sides (c.loop-p.invariant.go u s X a h) c.loop-p-test.true) c.write_tree.ensures c.in_ok-side.was (c.put-a.ensures _ c.op_token.ensures);
   kept = omega (arith, c.loop-p.invariant.kept);
 }
 

@@ -1,10 +1,11 @@
 -- `writer::run_out` meets its contract. Assumes nothing.
-use mathlib.Core.Path.{◌≡◌}
+use mathlib.Core.Path.{◌≡◌, refl}
 use mathlib.Core.List.{[], ◌∷◌}
 use native.Mathlib.Omega.{arith}
 use lib.ListN.{length}
 use Rattle.token.specs.Kind
 use Rattle.output.specs.Text.{Holds}
+use Rattle.writer.specs.Text.{token_in}
 use Rattle.writer.proofs.Writing.{wrote_at}
 use Rattle.writer.proofs.Ending.{semicolon, run_deep, run_done}
 use Rattle.tables.proofs.Answer.{cleared}
@@ -14,13 +15,15 @@ use Rattle.writer.proofs.run_out.Goals as goal
 -- the text begins with the semicolon
 module _ (c : After-write_tree) where
   ends : Holds c.put-a.result c.put-a.new.output (Kind.Semicolon ∷ 0 ∷ [])
-  ends = semicolon c.put-a.ensures
+  unfolding token_in
+  ends = semicolon (c.put-a.ensures Kind.Semicolon refl)
 
   kept : length c.write_tree.new.output ≡ length c.args.output.now
   kept = let k = c.write_tree.auto.output in let l = c.put-a.auto.output in omega arith
 
 pub write_tree-requires : goal.write_tree-requires
-write_tree-requires c = (c.requires, record { words = _; holds = semicolon c.put-a.ensures })
+unfolding token_in
+write_tree-requires c = (c.requires, record { words = _; holds = semicolon (c.put-a.ensures Kind.Semicolon refl) })
 
 pub written-requires : goal.written-requires
 written-requires c =

@@ -3,4 +3,5 @@ use Rattle.writer.proofs.Texts.{closed_puts}
 use Rattle.writer.proofs.text.closing.Goals as goal
 
 pub returns : goal.returns
-returns c = closed_puts c.last_token-last.ensures c.carried.ensures c.behind_token.ensures c.put-b.ensures c.put.ensures
+returns c = let last = c.last_token-last.ensures in
+    closed_puts (c.carried.ensures _ last) (c.put-b.ensures _ last) (c.put.ensures _ c.behind_token.ensures)
