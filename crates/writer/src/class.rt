@@ -13,7 +13,6 @@
 ghost use Rattle.std.specs.Prelude.{◌≡◌};
 ghost use Rattle.tables.specs.Class.{binary_class as binary_class_def, keyword_class as keyword_class_def, named_class as named_class_def, assignment_class as assignment_class_def, body_class as body_class_def, later_class as later_class_def, class as class_def, default_list as default_list_def, plain_list as plain_list_def, argument_list as argument_list_def, list_class as list_class_def};
 
-use crate::choice::{where_is, where_zero};
 use crate::operators::{LEVELS, level};
 use tree::node;
 
@@ -105,11 +104,11 @@ fn binary_class(value: u64) -> u64
 }
 
 // An assignment by its own keyword.
-#[tactic(auto, unfolding(tables::specs::Class::keyword_class))]
+#[tactic(auto, unfolding(tables::specs::Class::keyword_class, tables::specs::Choice::where_zero))]
 fn keyword_class(value: u64) -> u64
     ensures { result ≡ keyword_class_def value }
 {
-    where_zero(value % 4, LOCAL, KEYWORD)
+    if value % 4 == 0 { LOCAL } else { KEYWORD }
 }
 
 // One that `fun` with a target gives, and the signature has the target's name: `let` by itself, the others only under a group's modifier.
@@ -127,13 +126,17 @@ fn named_class(value: u64) -> u64
 }
 
 // An assignment with the mode that function_form gives.
-#[tactic(auto, unfolding(tables::specs::Class::assignment_class))]
+#[tactic(auto, unfolding(tables::specs::Class::assignment_class, tables::specs::Choice::where_is))]
 fn assignment_class(value: u64, mode: u64) -> u64
     ensures { result ≡ assignment_class_def value mode }
 {
     match mode {
         0 => keyword_class(value),
-        1 => where_is(value, 2, TIGHT, keyword_class(value)),
+        1 => if value == 2 {
+            TIGHT
+        } else {
+            keyword_class(value)
+        },
         _ => named_class(value),
     }
 }
@@ -166,40 +169,32 @@ fn later_class(kind: u64) -> u64
     NOTHING
 }
 
-#[tactic(auto, unfolding(tables::specs::Class::class))]
+#[tactic(auto, unfolding(tables::specs::Class::class, tables::specs::Choice::where_zero))]
 pub fn class(kind: u64, value: u64, mode: u64) -> u64
     ensures { result ≡ class_def kind value mode }
 {
     match kind {
         node::ABSENT => ABSENT,
         node::LIST => mode,
-        node::EXPRESSION => STATEMENT,
-        node::LOOP => STATEMENT,
-        node::WHILE_LOOP => STATEMENT,
-        node::FOR_LOOP => STATEMENT,
-        node::ASSERT => STATEMENT,
+        node::EXPRESSION | node::LOOP | node::WHILE_LOOP | node::FOR_LOOP | node::ASSERT =>
+            STATEMENT,
         node::STMT_LIST => body_class(mode),
-        node::CONTINUE => CONTROL,
-        node::BREAK => CONTROL,
-        node::RETURN => CONTROL,
-        node::PRIMARY => where_zero(mode, BARE, PRIMARY),
+        node::CONTINUE | node::BREAK | node::RETURN => CONTROL,
+        node::PRIMARY => if mode == 0 { BARE } else { PRIMARY },
         node::UNARY_OP => UNARY,
         node::BINARY_OP => binary_class(value),
         node::ASSIGNMENT => assignment_class(value, mode),
-        node::UNPACK => where_zero(mode, LONE, TIGHT),
+        node::UNPACK => if mode == 0 { LONE } else { TIGHT },
         node::TUPLE => TUPLE,
-        node::TABLE => TIGHT,
-        node::IF_EXPR => TIGHT,
-        node::BLOCK => TIGHT,
-        node::FUNCTION_DEF => where_zero(mode, TIGHT, NAMED),
+        node::TABLE | node::IF_EXPR | node::BLOCK => TIGHT,
+        node::FUNCTION_DEF => if mode == 0 { TIGHT } else { NAMED },
         node::TABLE_ITEM => TABLE_ITEM,
         node::EXPR_BLOCK => BLOCK,
         node::CONDITIONAL_BRANCH => BRANCH,
         node::SIGNATURE_DEF => SIGNATURE,
         node::PARAM_DEF => PARAM,
         node::DEFAULT_DEF => DEFAULT,
-        node::FIELD_ATTRIBUTE => FIELD,
-        node::FIELD_INDEX => FIELD,
+        node::FIELD_ATTRIBUTE | node::FIELD_INDEX => FIELD,
         _ => later_class(kind),
     }
 }
@@ -235,8 +230,7 @@ fn argument_list(c: u64) -> u64
     ensures { result ≡ argument_list_def c }
 {
     match c {
-        LOCAL => ARGUMENT,
-        KEYWORD => ARGUMENT,
+        LOCAL | KEYWORD => ARGUMENT,
         _ => NOTHING,
     }
 }

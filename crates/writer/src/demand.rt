@@ -3,7 +3,6 @@
 ghost use Rattle.std.specs.Prelude.{◌≡◌};
 ghost use Rattle.tables.specs.Demand.{of_members as of_members_def, left_side as left_side_def, right_side as right_side_def, assigned as assigned_def, inside as inside_def, defaults as defaults_def, first_demand as first_demand_def, second_demand as second_demand_def, third_demand as third_demand_def, demand as demand_def, fits as fits_def};
 
-use crate::choice::where_zero;
 use crate::class;
 use crate::operators::level;
 use tree::node;
@@ -164,7 +163,7 @@ fn defaults(mode: u64) -> u64
     DEFAULTS
 }
 
-#[tactic(auto, unfolding(tables::specs::Demand::first_demand))]
+#[tactic(auto, unfolding(tables::specs::Demand::first_demand, tables::specs::Choice::where_zero))]
 fn first_demand(kind: u64, value: u64, mode: u64) -> u64
     ensures { result ≡ first_demand_def kind value mode }
 {
@@ -175,8 +174,7 @@ fn first_demand(kind: u64, value: u64, mode: u64) -> u64
         node::FOR_LOOP => PATTERN,
         node::ASSERT => EXPR,
         node::STMT_LIST => STATEMENTS,
-        node::BREAK => EXPR_OR_ABSENT,
-        node::RETURN => EXPR_OR_ABSENT,
+        node::BREAK | node::RETURN => EXPR_OR_ABSENT,
         node::PRIMARY => ATOM,
         node::UNARY_OP => UNARY,
         node::BINARY_OP => left_side(value),
@@ -188,17 +186,15 @@ fn first_demand(kind: u64, value: u64, mode: u64) -> u64
         node::BLOCK => BLOCK,
         node::FUNCTION_DEF => SIGNATURE,
         node::TABLE_ITEM => FIELD,
-        node::EXPR_BLOCK => where_zero(mode, BODY_ALONE, BODY_BEFORE),
+        node::EXPR_BLOCK => if mode == 0 { BODY_ALONE } else { BODY_BEFORE },
         node::CONDITIONAL_BRANCH => EXPR,
         node::SIGNATURE_DEF => PARAMS,
-        node::DEFAULT_DEF => EXPR,
-        node::FIELD_INDEX => EXPR,
+        node::DEFAULT_DEF | node::FIELD_INDEX => EXPR,
         node::GROUP => inside(value, mode),
         node::INDEX => EXPR,
         node::INVOKE => ARGUMENTS,
         node::INVOKE_TABLE => TABLE_ITEMS,
-        node::ATTRIBUTE_PATTERN => RECEIVER,
-        node::INDEX_PATTERN => RECEIVER,
+        node::ATTRIBUTE_PATTERN | node::INDEX_PATTERN => RECEIVER,
         node::TUPLE_PATTERN => PATTERNS,
         node::PACK => PATTERN_OR_ABSENT,
         node::MODIFIER => PATTERN,

@@ -10,7 +10,6 @@
 ghost use Rattle.std.specs.Prelude.{◌≡◌};
 ghost use Rattle.tables.specs.Form.{fun_gives as fun_gives_def, first_place as first_place_def, second_place as second_place_def, place_of as place_of_def, base as base_def, first_deeper as first_deeper_def, second_deeper as second_deeper_def, deeper as deeper_def};
 
-use crate::choice::{where_is, where_zero};
 use tree::node;
 
 pub const OWN: u64 = 0;
@@ -45,7 +44,7 @@ pub fn fun_gives(place: u64, value: u64) -> bool
     }
 }
 
-#[tactic(auto, unfolding(tables::specs::Form::first_place))]
+#[tactic(auto, unfolding(tables::specs::Form::first_place, tables::specs::Choice::where_zero))]
 fn first_place(kind: u64, value: u64, form: u64) -> u64
     ensures { result ≡ first_place_def kind value form }
 {
@@ -54,22 +53,21 @@ fn first_place(kind: u64, value: u64, form: u64) -> u64
         node::TUPLE => MEMBERS,
         node::TABLE => COMMAS,
         node::IF_EXPR => BRANCHES,
-        node::SIGNATURE_DEF => where_zero(form, COMMAS, LEADING),
-        node::GROUP => where_zero(value, OWN, MODIFIED),
-        node::INVOKE => COMMAS,
-        node::INVOKE_TABLE => COMMAS,
+        node::SIGNATURE_DEF => if form == 0 { COMMAS } else { LEADING },
+        node::GROUP => if value == 0 { OWN } else { MODIFIED },
+        node::INVOKE | node::INVOKE_TABLE => COMMAS,
         node::TUPLE_PATTERN => MEMBERS,
         _ => OWN,
     }
 }
 
-#[tactic(auto, unfolding(tables::specs::Form::second_place))]
+#[tactic(auto, unfolding(tables::specs::Form::second_place, tables::specs::Choice::where_is))]
 fn second_place(kind: u64, form: u64) -> u64
     ensures { result ≡ second_place_def kind form }
 {
     match kind {
         node::PRIMARY => ROW,
-        node::ASSIGNMENT => where_is(form, FUN, TARGETED, OWN),
+        node::ASSIGNMENT => if form == FUN { TARGETED } else { OWN },
         node::SIGNATURE_DEF => COMMAS,
         _ => OWN,
     }
@@ -93,65 +91,62 @@ pub fn base(kind: u64) -> u64
     ensures { result ≡ base_def kind }
 {
     match kind {
-        node::ABSENT => 0,
-        node::LIST => 0,
-        node::EXPRESSION => 0,
-        node::LOOP => 0,
-        node::WHILE_LOOP => 0,
-        node::FOR_LOOP => 0,
-        node::ASSERT => 0,
-        node::CONTINUE => 0,
-        node::BREAK => 0,
-        node::RETURN => 0,
-        node::PRIMARY => 0,
-        node::BINARY_OP => 0,
-        node::TUPLE => 0,
-        node::TABLE_ITEM => 0,
-        node::CONDITIONAL_BRANCH => 0,
-        node::SIGNATURE_DEF => 0,
-        node::PARAM_DEF => 0,
-        node::DEFAULT_DEF => 0,
-        node::FIELD_ATTRIBUTE => 0,
-        node::FIELD_INDEX => 0,
-        node::ATTRIBUTE => 0,
-        node::ATTRIBUTE_PATTERN => 0,
+        node::ABSENT
+        | node::LIST
+        | node::EXPRESSION
+        | node::LOOP
+        | node::WHILE_LOOP
+        | node::FOR_LOOP
+        | node::ASSERT
+        | node::CONTINUE
+        | node::BREAK
+        | node::RETURN
+        | node::PRIMARY
+        | node::BINARY_OP
+        | node::TUPLE
+        | node::TABLE_ITEM
+        | node::CONDITIONAL_BRANCH
+        | node::SIGNATURE_DEF
+        | node::PARAM_DEF
+        | node::DEFAULT_DEF
+        | node::FIELD_ATTRIBUTE
+        | node::FIELD_INDEX
+        | node::ATTRIBUTE
+        | node::ATTRIBUTE_PATTERN => 0,
         _ => 1,
     }
 }
 
-#[tactic(auto, unfolding(tables::specs::Form::first_deeper))]
+#[tactic(auto, unfolding(tables::specs::Form::first_deeper, tables::specs::Choice::where_is))]
 fn first_deeper(kind: u64, form: u64) -> u64
     ensures { result ≡ first_deeper_def kind form }
 {
     match kind {
-        node::STMT_LIST => 1,
-        node::UNARY_OP => 1,
-        node::TABLE => 1,
-        node::IF_EXPR => 1,
-        node::BLOCK => 1,
-        node::FUNCTION_DEF => 1,
-        node::GROUP => 1,
-        node::INDEX => 1,
-        node::INVOKE => 1,
-        node::INVOKE_TABLE => 1,
-        node::TUPLE_PATTERN => 1,
-        node::PACK => where_is(form, node::PACK, 1, 0),
+        node::STMT_LIST
+        | node::UNARY_OP
+        | node::TABLE
+        | node::IF_EXPR
+        | node::BLOCK
+        | node::FUNCTION_DEF
+        | node::GROUP
+        | node::INDEX
+        | node::INVOKE
+        | node::INVOKE_TABLE
+        | node::TUPLE_PATTERN => 1,
+        node::PACK => if form == node::PACK { 1 } else { 0 },
         node::MODIFIER => 1,
         _ => 0,
     }
 }
 
-#[tactic(auto, unfolding(tables::specs::Form::second_deeper))]
+#[tactic(auto, unfolding(tables::specs::Form::second_deeper, tables::specs::Choice::where_is))]
 fn second_deeper(kind: u64, form: u64) -> u64
     ensures { result ≡ second_deeper_def kind form }
 {
     match kind {
         node::STMT_LIST => 1,
-        node::ASSIGNMENT => where_is(form, FUN, 0, 1),
-        node::IF_EXPR => 1,
-        node::FUNCTION_DEF => 1,
-        node::EXPR_BLOCK => 1,
-        node::INDEX_PATTERN => 1,
+        node::ASSIGNMENT => if form == FUN { 0 } else { 1 },
+        node::IF_EXPR | node::FUNCTION_DEF | node::EXPR_BLOCK | node::INDEX_PATTERN => 1,
         _ => 0,
     }
 }

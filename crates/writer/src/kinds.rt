@@ -9,15 +9,15 @@ use tree::node;
 pub fn target_atom(kind: u64) -> bool
     ensures { result ≡ target_atom_def kind }
 {
-    match kind {
-        node::NIL => true,
-        node::IDENTIFIER => true,
-        node::BOOLEAN_LITERAL => true,
-        node::INTEGER_LITERAL => true,
-        node::FLOAT_LITERAL => true,
-        node::STRING_LITERAL => true,
-        _ => false,
-    }
+    matches!(
+        kind,
+        node::NIL
+            | node::IDENTIFIER
+            | node::BOOLEAN_LITERAL
+            | node::INTEGER_LITERAL
+            | node::FLOAT_LITERAL
+            | node::STRING_LITERAL
+    )
 }
 
 // A path of members and indexes goes on a target.
@@ -25,11 +25,7 @@ pub fn target_atom(kind: u64) -> bool
 pub fn target_item(kind: u64) -> bool
     ensures { result ≡ target_item_def kind }
 {
-    match kind {
-        node::ATTRIBUTE => true,
-        node::INDEX => true,
-        _ => false,
-    }
+    matches!(kind, node::ATTRIBUTE | node::INDEX)
 }
 
 // Whether a signature's name, 0 or 1 + it, is 1 + this one.
@@ -37,10 +33,7 @@ pub fn target_item(kind: u64) -> bool
 fn name_is(value: u64, name: u64) -> bool
     ensures { result ≡ name_is_def value name }
 {
-    if name == 0 {
-        return false;
-    }
-    name - 1 == value
+    name.checked_sub(1) == Some(value)
 }
 
 // Whether a signature's name, 0 or 1 + it, is the one that a target of this kind and value gives.
@@ -49,9 +42,10 @@ pub fn gives_name(kind: u64, value: u64, name: u64) -> bool
     ensures { result ≡ gives_name_def kind value name }
 {
     if kind == node::IDENTIFIER_PATTERN {
-        return name_is(value, name);
+        name_is(value, name)
+    } else {
+        name == 0
     }
-    name == 0
 }
 
 // Whether a node begins with its first child, where a label could be the first token.
@@ -59,12 +53,7 @@ pub fn gives_name(kind: u64, value: u64, name: u64) -> bool
 pub fn passes(kind: u64) -> bool
     ensures { result ≡ passes_def kind }
 {
-    match kind {
-        node::LIST => true,
-        node::BINARY_OP => true,
-        node::TUPLE => true,
-        _ => false,
-    }
+    matches!(kind, node::LIST | node::BINARY_OP | node::TUPLE)
 }
 
 // Whether the children of a node may not begin with a label: what begins a statement, and the value of a break without one.
@@ -73,9 +62,8 @@ pub fn unlabelled(kind: u64, value: u64) -> bool
     ensures { result ≡ unlabelled_def kind value }
 {
     match kind {
-        node::EXPRESSION => true,
+        node::EXPRESSION | node::EXPR_BLOCK => true,
         node::BREAK => value == 0,
-        node::EXPR_BLOCK => true,
         _ => false,
     }
 }
@@ -85,11 +73,8 @@ pub fn unlabelled(kind: u64, value: u64) -> bool
 pub fn closed(kind: u64) -> bool
     ensures { result ≡ closed_def kind }
 {
-    match kind {
-        node::LIST => true,
-        node::ASSIGNMENT => true,
-        node::DEFAULT_DEF => true,
-        node::GROUP => true,
-        _ => false,
-    }
+    matches!(
+        kind,
+        node::LIST | node::ASSIGNMENT | node::DEFAULT_DEF | node::GROUP
+    )
 }

@@ -9,7 +9,6 @@ ghost use Rattle.writer.specs.Stack.{Here};
 ghost use Rattle.writer.specs.Verdict.{Whole, Legal};
 
 mod children;
-mod choice;
 mod class;
 mod demand;
 mod edges;

@@ -11,20 +11,15 @@ use tree::word::CHILD;
 pub fn shape(records: &[u64]) -> bool
     ensures { Shape records.now result }
 {
-    let mut i = 0;
     let mut h: u64 = 0;
-    while i < records.len() {
-        if records.len() - i < 2 {
-            return false;
-        }
-        let n = records[i] / CHILD;
+    for i in 0..records.len() / 2 {
+        let n = records[2 * i] / CHILD;
         if h < n {
             return false;
         }
         h = h - n + 1;
-        i += 2;
     }
-    h == 1
+    records.len() % 2 == 0 && h == 1
 }
 
 // The kind of the tree that ends at p.
@@ -95,11 +90,9 @@ pub fn kid_of(records: &[u64], p: usize, j: u64) -> usize
     if n < j {
         return 0;
     }
-    let mut i = n;
     let mut q = p - 2;
-    while j < i {
+    for _ in j..n {
         q = skip(records, q);
-        i -= 1;
     }
     q
 }

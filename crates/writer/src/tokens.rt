@@ -82,9 +82,7 @@ pub fn first_token(kind: u64, value: u64, form: u64) -> Option<u64>
 {
     match kind {
         node::LIST => (form == BRANCHES).then_some(kind::IF),
-        node::LOOP => label_token(value),
-        node::WHILE_LOOP => label_token(value),
-        node::FOR_LOOP => label_token(value),
+        node::LOOP | node::WHILE_LOOP | node::FOR_LOOP => label_token(value),
         node::ASSERT => Some(kind::ASSERT),
         node::CONTINUE => Some(kind::CONTINUE),
         node::BREAK => Some(kind::BREAK),
@@ -95,9 +93,7 @@ pub fn first_token(kind: u64, value: u64, form: u64) -> Option<u64>
         node::BLOCK => label_token(value),
         node::FUNCTION_DEF => (form != TARGETED).then_some(kind::FUN),
         node::SIGNATURE_DEF => Some(kind::OPEN_PAREN),
-        node::PARAM_DEF => access_token(value),
-        node::DEFAULT_DEF => access_token(value),
-        node::FIELD_ATTRIBUTE => access_token(value),
+        node::PARAM_DEF | node::DEFAULT_DEF | node::FIELD_ATTRIBUTE => access_token(value),
         node::FIELD_INDEX => Some(kind::OPEN_SQUARE),
         _ => later_first_token(kind, value, form),
     }
@@ -112,12 +108,9 @@ pub fn second_token(kind: u64, value: u64) -> Option<u64>
         node::LOOP => Some(kind::LOOP),
         node::WHILE_LOOP => Some(kind::WHILE),
         node::FOR_LOOP => Some(kind::FOR),
-        node::CONTINUE => label_token(value),
-        node::BREAK => label_token(value),
+        node::CONTINUE | node::BREAK => label_token(value),
         node::BLOCK => Some(kind::BEGIN),
-        node::PARAM_DEF => Some(kind::IDENTIFIER),
-        node::DEFAULT_DEF => Some(kind::IDENTIFIER),
-        node::FIELD_ATTRIBUTE => Some(kind::IDENTIFIER),
+        node::PARAM_DEF | node::DEFAULT_DEF | node::FIELD_ATTRIBUTE => Some(kind::IDENTIFIER),
         node::EMPTY_TUPLE => Some(kind::CLOSE_PAREN),
         node::GROUP => modifier_token(value),
         node::ATTRIBUTE => Some(kind::IDENTIFIER),
@@ -198,14 +191,10 @@ pub fn behind_token(kind: u64, form: u64) -> Option<u64>
     ensures { result ≡ token_in (behind_token_def kind form) }
 {
     match kind {
-        node::LOOP => Some(kind::END),
-        node::WHILE_LOOP => Some(kind::END),
-        node::FOR_LOOP => Some(kind::END),
+        node::LOOP | node::WHILE_LOOP | node::FOR_LOOP => Some(kind::END),
         node::UNPACK => Some(kind::ELLIPSIS),
         node::TABLE => Some(kind::CLOSE_BRACE),
-        node::IF_EXPR => Some(kind::END),
-        node::BLOCK => Some(kind::END),
-        node::FUNCTION_DEF => Some(kind::END),
+        node::IF_EXPR | node::BLOCK | node::FUNCTION_DEF => Some(kind::END),
         node::EXPR_BLOCK => (form != 0).then_some(kind::SEMICOLON),
         node::SIGNATURE_DEF => (form == 2).then_some(kind::ELLIPSIS),
         node::FIELD_INDEX => Some(kind::CLOSE_SQUARE),
@@ -241,9 +230,7 @@ fn name_in(kind: u64, value: u64) -> u64
     ensures { result ≡ name_in_def kind value }
 {
     match kind {
-        node::PARAM_DEF => value / 2,
-        node::DEFAULT_DEF => value / 2,
-        node::FIELD_ATTRIBUTE => value / 2,
+        node::PARAM_DEF | node::DEFAULT_DEF | node::FIELD_ATTRIBUTE => value / 2,
         _ => value,
     }
 }
