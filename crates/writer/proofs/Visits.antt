@@ -34,9 +34,6 @@ module _ {L : List ℕ} {p m : ℕ} {r : Option Kids} (w : KidsFit L p m r) wher
     pub fit_begins : Skipped L p k.begin
     fit_begins = record { how = λ t s a. (kids_at fit t s a).1 }
 
-    pub fit_first : First L p k.first
-    fit_first = record { how = λ t s a. (kids_at fit t s a).2 }
-
     pub fit_items : Items L p k.items
     fit_items = record { how = λ t s a. (kids_at fit t s a).3 }
 
