@@ -16,6 +16,9 @@ use Rattle.tables.proofs.Same.Depth.{deeper_base}
 use Rattle.writer.specs.Post.{StepAs, WroteTree}
 use Rattle.writer.specs.Stack.{At, Says}
 use Rattle.tables.specs.Children.{kind_in, value_in, children_in}
+use Rattle.writer.specs.declared.form.Form.{Form}
+use Rattle.writer.specs.declared.form.Place.{Place}
+use Rattle.writer.specs.Form.{place_number, form_number, FormAt}
 use Rattle.writer.specs.Text.{Put, Opened}
 use Rattle.output.specs.Text.{Holds}
 use Rattle.tables.specs.Tokens.{after_token}
@@ -24,6 +27,8 @@ use Rattle.std.specs.declared.result.Result.TheVariants.{Ok, Err}
 use Rattle.writer.specs.declared.Step.{Step}
 use Rattle.writer.specs.declared.TooDeep.{TooDeep}
 use Rattle.writer.proofs.Laws.{pop, back_append, length_back}
+use Rattle.writer.proofs.Places.{stands}
+use Rattle.writer.proofs.Keeping.{says_one}
 use Rattle.writer.proofs.Kids.{from_first, from_last, test_back}
 use Rattle.writer.proofs.Writing.{under_top}
 
@@ -79,6 +84,11 @@ base_deep {L} {p} {b} {d} place (node k v f) s at e h =
     let x = pop at in
     let g : b ≡ base k = rw x.kind at e in
     within_node k v place d f ∙ rw (lt-leb (base k) d (rw (← g) h))
+
+-- the form that was found, by the number that the tables have for it
+pub form_says : {L : List ℕ} {p : ℕ} {place : Place} {form : Form} {t : Tree} {s : List Tree} → FormAt L p place form → At L p (t ∷ s)
+    → Says L p (λ x. form_of (kind_in x) (value_in x) (children_in x) (place_number place)) (form_number (get_or L (p - 2) 0 % 256) form)
+form_says {L} {p} {form = form} {t = node k v f} {s} x a = says_one a (ap (λ (n : ℕ). form_number n form) (pop a).kind ∙ x.how (just (node k v f)) s (stands a))
 
 -- all children are left
 pub left_start : {L : List ℕ} {p b d m a : ℕ} {O : List ℕ} (place : ℕ) (t : Tree) (s : List Tree) (X : List ℕ) → At L p (t ∷ s) → b ≡ base (get_or L (p - 2) 0 % 256) → b ≤ d

@@ -19,7 +19,7 @@ use Rattle.std.specs.declared.option.Option.TheVariants.{Some, None}
 use Rattle.writer.specs.declared.legal.Kids.{Kids}
 use Rattle.writer.specs.Stack.{At, Skipped}
 use Rattle.writer.specs.Standing.{serves, no_word, far, word, entry, Entry, Kept, On, AtNode, Keeps, Tells}
-use Rattle.writer.specs.Verdict.{First, Items, KidsFitAs, KidsFit, VisitedAs, Visited, Whole}
+use Rattle.writer.specs.Verdict.{Items, KidsFitAs, KidsFit, VisitedAs, Visited, Whole}
 use Rattle.writer.proofs.Laws.{at_many, length_back}
 use Rattle.writer.proofs.Places.{class_same}
 use Rattle.writer.proofs.Keeping.{at_one, at_each, kept_back, keeps_right, keeps_room}

@@ -14,6 +14,7 @@
 ghost use Rattle.std.specs.Prelude.{◌≡◌};
 ghost use Rattle.tables.specs.Class.{binary_class as binary_class_def, keyword_class as keyword_class_def, named_class as named_class_def, assignment_class as assignment_class_def, body_class as body_class_def, later_class as later_class_def, class as class_def, default_list as default_list_def, plain_list as plain_list_def, argument_list as argument_list_def, list_class as list_class_def};
 
+use crate::mode;
 use crate::operators::{LEVELS, level};
 use tree::node;
 
@@ -147,8 +148,8 @@ fn body_class(mode: u64) -> u64
     ensures { result ≡ body_class_def mode }
 {
     match mode {
-        0 => OPEN_BODY,
-        1 => PLAIN_BODY,
+        mode::OPEN => OPEN_BODY,
+        mode::PLAIN => PLAIN_BODY,
         _ => ENDED_BODY,
     }
 }

@@ -4,6 +4,7 @@ ghost use Rattle.std.specs.Prelude.{◌≡◌};
 ghost use Rattle.tables.specs.Demand.{of_members as of_members_def, left_side as left_side_def, right_side as right_side_def, assigned as assigned_def, inside as inside_def, defaults as defaults_def, first_demand as first_demand_def, second_demand as second_demand_def, third_demand as third_demand_def, demand as demand_def, fits as fits_def};
 
 use crate::class;
+use crate::mode::BOTH;
 use crate::operators::level;
 use tree::node;
 
@@ -157,7 +158,7 @@ fn inside(value: u64, mode: u64) -> u64
 fn defaults(mode: u64) -> u64
     ensures { result ≡ defaults_def mode }
 {
-    if mode == 3 {
+    if mode == BOTH {
         return class::NOTHING;
     }
     DEFAULTS

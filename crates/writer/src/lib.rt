@@ -4,6 +4,7 @@
 ghost use Rattle.std.specs.Prelude.{length};
 ghost use Rattle.grammar.specs.Contract.{Writes};
 ghost use Rattle.output.specs.Text.{Held};
+ghost use Rattle.writer.specs.Form.{place_number};
 ghost use Rattle.writer.specs.Post.{WroteTree, RanOut};
 ghost use Rattle.writer.specs.Stack.{Here};
 ghost use Rattle.writer.specs.Verdict.{Whole, Legal};
@@ -25,7 +26,7 @@ mod target;
 mod text;
 mod tokens;
 
-use crate::form::{OWN, base, deeper, place_of};
+use crate::form::{Place, base, deeper, place_of};
 use crate::legal::legal;
 use crate::mode::form_at;
 use crate::operators::op_token;
@@ -62,22 +63,22 @@ fn write_tree(
     records: &[u64],
     output: &mut [u64],
     depth: u64,
-    place: u64,
+    place: Place,
     from: usize,
     end: usize,
 ) -> Result<Step, TooDeep>
     requires { Here records.now from × Held end output.old }
-    ensures { WroteTree records.now depth place from end output.old output.new result }
+    ensures { WroteTree records.now depth (place_number place) from end output.old output.new result }
 {
     let mut at = place;
     let mut p = from;
     let mut a = end;
     while records[p - 2] == BINARY_OP {
         let number = records[p - 1];
-        let side = write_tree(records, output, depth, OWN, p - 2, a)?;
+        let side = write_tree(records, output, depth, Place::Own, p - 2, a)?;
         a = put(output, side.words, op_token(number), 0);
         p = side.records;
-        at = OWN;
+        at = Place::Own;
     }
     write_node(records, output, depth, at, p, a)
 }
@@ -89,12 +90,12 @@ fn write_node(
     records: &[u64],
     output: &mut [u64],
     depth: u64,
-    place: u64,
+    place: Place,
     p: usize,
     end: usize,
 ) -> Result<Step, TooDeep>
     requires { Here records.now p × Held end output.old }
-    ensures { WroteTree records.now depth place p end output.old output.new result }
+    ensures { WroteTree records.now depth (place_number place) p end output.old output.new result }
 {
     let word = records[p - 2];
     let value = records[p - 1];
@@ -127,7 +128,7 @@ fn run_out(records: &[u64], output: &mut [u64]) -> Written
 {
     let a = put(output, output.len() + 2, Some(kind::SEMICOLON), 0);
     let n = records.len();
-    match write_tree(records, output, DEPTH, OWN, n, a) {
+    match write_tree(records, output, DEPTH, Place::Own, n, a) {
         Ok(step) => written(output, step.words),
         Err(TooDeep) => {
             clear(output, 0);

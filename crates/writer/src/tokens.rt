@@ -1,9 +1,15 @@
 // The tokens of a node: before its children, behind each and behind all. A token is named by its kind.
 ghost use Rattle.std.specs.Prelude.{◌≡◌};
 ghost use Rattle.tables.specs.Tokens.{label_token as label_token_def, access_token as access_token_def, modifier_token as modifier_token_def, assignment_token as assignment_token_def, later_first_token as later_first_token_def, first_token as first_token_def, second_token as second_token_def, third_token as third_token_def, between as between_def, assigns as assigns_def, first_after as first_after_def, after_token as after_token_def, behind_token as behind_token_def, last_token as last_token_def, name_in as name_in_def, label_in as label_in_def, carried as carried_def};
+ghost use Rattle.token.specs.Kind;
+ghost use Rattle.tables.specs.Choice.{where_is};
+ghost use Rattle.tables.specs.Form.{Branches, Targeted};
+ghost use Rattle.tables.specs.Operators.{NoToken};
+ghost use Rattle.writer.specs.Form.{place_number, assignment_number, form_number};
 ghost use Rattle.writer.specs.Text.{token_in, ForToken};
 
-use crate::form::{BRANCHES, COMMAS, FUN, LEADING, MEMBERS, OWN, SUITE, TARGETED};
+use crate::form::{Form, Place};
+use crate::mode::VARIADIC;
 use crate::operators::{assign_token, keyword_of, op_token, unary_token};
 use token::kind;
 use tree::node;
@@ -36,22 +42,22 @@ fn modifier_token(value: u64) -> Option<u64>
 
 // What an assignment begins with: `fun`, or its keyword where it stands by itself and its action has one.
 #[tactic(auto, unfolding(tables::specs::Tokens::assignment_token, tables::specs::Choice::where_zero, crate::specs::Text::token_in))]
-fn assignment_token(value: u64, form: u64) -> Option<u64>
-    ensures { result ≡ token_in (assignment_token_def value form) }
+fn assignment_token(value: u64, form: Form) -> Option<u64>
+    ensures { result ≡ token_in (assignment_token_def value (assignment_number form)) }
 {
-    if form == FUN {
+    if form.told != 0 {
         return Some(kind::FUN);
     }
-    if form == OWN {
-        return (value % 4 != 0).then_some(keyword_of(value % 4));
+    match form.place {
+        Place::Own => (value % 4 != 0).then_some(keyword_of(value % 4)),
+        _ => None,
     }
-    None
 }
 
 // The first token before the children, of atoms, access items and patterns.
 #[tactic(auto, unfolding(tables::specs::Tokens::later_first_token, tables::specs::Choice::where_is, tables::specs::Choice::where_zero, crate::specs::Text::token_in))]
-fn later_first_token(kind: u64, value: u64, form: u64) -> Option<u64>
-    ensures { result ≡ token_in (later_first_token_def kind value form) }
+fn later_first_token(kind: u64, value: u64, form: Form) -> Option<u64>
+    ensures { result ≡ token_in (later_first_token_def kind value (form_number kind form)) }
 {
     match kind {
         node::NIL => Some(kind::NIL),
@@ -69,19 +75,41 @@ fn later_first_token(kind: u64, value: u64, form: u64) -> Option<u64>
         node::INVOKE_TABLE => Some(kind::OPEN_BRACE),
         node::IDENTIFIER_PATTERN => Some(kind::IDENTIFIER),
         node::TUPLE_PATTERN => Some(kind::OPEN_PAREN),
-        node::PACK => (form == node::PACK).then_some(kind::OPEN_PAREN),
+        node::PACK => (form.told == node::PACK).then_some(kind::OPEN_PAREN),
         node::MODIFIER => Some(kind::OPEN_PAREN),
         _ => None,
     }
 }
 
+// What a list begins with: its branches do.
+#[tactic(auto, unfolding(tables::specs::Choice::where_is, crate::specs::Text::token_in))]
+fn list_token(place: Place) -> Option<u64>
+    ensures { result ≡ token_in (where_is (place_number place) Branches Kind.If NoToken) }
+{
+    match place {
+        Place::Branches => Some(kind::IF),
+        _ => None,
+    }
+}
+
+// What a function begins with, but behind a target.
+#[tactic(auto, unfolding(tables::specs::Choice::where_is, crate::specs::Text::token_in))]
+fn function_token(place: Place) -> Option<u64>
+    ensures { result ≡ token_in (where_is (place_number place) Targeted NoToken Kind.Fun) }
+{
+    match place {
+        Place::Targeted => None,
+        _ => Some(kind::FUN),
+    }
+}
+
 // The same of any kind.
 #[tactic(auto, unfolding(tables::specs::Tokens::first_token, tables::specs::Choice::where_is, crate::specs::Text::token_in))]
-pub fn first_token(kind: u64, value: u64, form: u64) -> Option<u64>
-    ensures { result ≡ token_in (first_token_def kind value form) }
+pub fn first_token(kind: u64, value: u64, form: Form) -> Option<u64>
+    ensures { result ≡ token_in (first_token_def kind value (form_number kind form)) }
 {
     match kind {
-        node::LIST => (form == BRANCHES).then_some(kind::IF),
+        node::LIST => list_token(form.place),
         node::LOOP | node::WHILE_LOOP | node::FOR_LOOP => label_token(value),
         node::ASSERT => Some(kind::ASSERT),
         node::CONTINUE => Some(kind::CONTINUE),
@@ -91,7 +119,7 @@ pub fn first_token(kind: u64, value: u64, form: u64) -> Option<u64>
         node::ASSIGNMENT => assignment_token(value, form),
         node::TABLE => Some(kind::OPEN_BRACE),
         node::BLOCK => label_token(value),
-        node::FUNCTION_DEF => (form != TARGETED).then_some(kind::FUN),
+        node::FUNCTION_DEF => function_token(form.place),
         node::SIGNATURE_DEF => Some(kind::OPEN_PAREN),
         node::PARAM_DEF | node::DEFAULT_DEF | node::FIELD_ATTRIBUTE => access_token(value),
         node::FIELD_INDEX => Some(kind::OPEN_SQUARE),
@@ -129,24 +157,24 @@ pub fn third_token(kind: u64) -> Option<u64>
 
 // The token behind the member number j of n of a list.
 #[tactic(auto, unfolding(tables::specs::Tokens::between, tables::specs::Choice::where_is, crate::specs::Text::token_in))]
-fn between(form: u64, n: u64, j: u64) -> Option<u64>
-    ensures { result ≡ token_in (between_def form n j) }
+fn between(place: Place, n: u64, j: u64) -> Option<u64>
+    ensures { result ≡ token_in (between_def (place_number place) n j) }
 {
-    match form {
-        COMMAS => (j != n).then_some(kind::COMMA),
-        MEMBERS => (j != n || n == 1).then_some(kind::COMMA),
-        SUITE => Some(kind::SEMICOLON),
-        BRANCHES => (j != n).then_some(kind::ELIF),
-        LEADING => Some(kind::COMMA),
+    match place {
+        Place::Commas => (j != n).then_some(kind::COMMA),
+        Place::Members => (j != n || n == 1).then_some(kind::COMMA),
+        Place::Suite => Some(kind::SEMICOLON),
+        Place::Branches => (j != n).then_some(kind::ELIF),
+        Place::Leading => Some(kind::COMMA),
         _ => None,
     }
 }
 
 #[tactic(auto, unfolding(tables::specs::Tokens::assigns, tables::specs::Choice::where_is, crate::specs::Text::token_in))]
-fn assigns(value: u64, form: u64) -> Option<u64>
-    ensures { result ≡ token_in (assigns_def value form) }
+fn assigns(value: u64, form: Form) -> Option<u64>
+    ensures { result ≡ token_in (assigns_def value (assignment_number form)) }
 {
-    if form == FUN {
+    if form.told != 0 {
         return None;
     }
     assign_token(value / 4)
@@ -154,15 +182,15 @@ fn assigns(value: u64, form: u64) -> Option<u64>
 
 // The token behind the first child of a node that is no list.
 #[tactic(auto, unfolding(tables::specs::Tokens::first_after, tables::specs::Choice::where_zero, crate::specs::Text::token_in))]
-fn first_after(kind: u64, value: u64, form: u64) -> Option<u64>
-    ensures { result ≡ token_in (first_after_def kind value form) }
+fn first_after(kind: u64, value: u64, form: Form) -> Option<u64>
+    ensures { result ≡ token_in (first_after_def kind value (form_number kind form)) }
 {
     match kind {
         node::WHILE_LOOP => Some(kind::DO),
         node::FOR_LOOP => Some(kind::IN),
         node::BINARY_OP => op_token(value),
         node::ASSIGNMENT => assigns(value, form),
-        node::IF_EXPR => (form != 0).then_some(kind::ELSE),
+        node::IF_EXPR => (form.told != 0).then_some(kind::ELSE),
         node::TABLE_ITEM => Some(kind::OP_ASSIGN),
         node::CONDITIONAL_BRANCH => Some(kind::THEN),
         node::INDEX_PATTERN => Some(kind::OPEN_SQUARE),
@@ -172,11 +200,11 @@ fn first_after(kind: u64, value: u64, form: u64) -> Option<u64>
 
 // The token behind the child number j of n.
 #[tactic(auto, unfolding(tables::specs::Tokens::after_token, tables::specs::Choice::where_is, crate::specs::Text::token_in))]
-pub fn after_token(kind: u64, value: u64, form: u64, n: u64, j: u64) -> Option<u64>
-    ensures { result ≡ token_in (after_token_def kind value form n j) }
+pub fn after_token(kind: u64, value: u64, form: Form, n: u64, j: u64) -> Option<u64>
+    ensures { result ≡ token_in (after_token_def kind value (form_number kind form) n j) }
 {
     if kind == node::LIST {
-        return between(form, n, j);
+        return between(form.place, n, j);
     }
     match j {
         1 => first_after(kind, value, form),
@@ -187,16 +215,16 @@ pub fn after_token(kind: u64, value: u64, form: u64, n: u64, j: u64) -> Option<u
 
 // The first token behind all children.
 #[tactic(auto, unfolding(tables::specs::Tokens::behind_token, tables::specs::Choice::where_is, tables::specs::Choice::where_zero, crate::specs::Text::token_in))]
-pub fn behind_token(kind: u64, form: u64) -> Option<u64>
-    ensures { result ≡ token_in (behind_token_def kind form) }
+pub fn behind_token(kind: u64, form: Form) -> Option<u64>
+    ensures { result ≡ token_in (behind_token_def kind (form_number kind form)) }
 {
     match kind {
         node::LOOP | node::WHILE_LOOP | node::FOR_LOOP => Some(kind::END),
         node::UNPACK => Some(kind::ELLIPSIS),
         node::TABLE => Some(kind::CLOSE_BRACE),
         node::IF_EXPR | node::BLOCK | node::FUNCTION_DEF => Some(kind::END),
-        node::EXPR_BLOCK => (form != 0).then_some(kind::SEMICOLON),
-        node::SIGNATURE_DEF => (form == 2).then_some(kind::ELLIPSIS),
+        node::EXPR_BLOCK => (form.told != 0).then_some(kind::SEMICOLON),
+        node::SIGNATURE_DEF => (form.told == VARIADIC).then_some(kind::ELLIPSIS),
         node::FIELD_INDEX => Some(kind::CLOSE_SQUARE),
         node::GROUP => Some(kind::CLOSE_PAREN),
         node::INDEX => Some(kind::CLOSE_SQUARE),
@@ -205,7 +233,7 @@ pub fn behind_token(kind: u64, form: u64) -> Option<u64>
         node::ATTRIBUTE_PATTERN => Some(kind::OP_ACCESS),
         node::INDEX_PATTERN => Some(kind::CLOSE_SQUARE),
         node::TUPLE_PATTERN => Some(kind::CLOSE_PAREN),
-        node::PACK => (form == node::PACK).then_some(kind::CLOSE_PAREN),
+        node::PACK => (form.told == node::PACK).then_some(kind::CLOSE_PAREN),
         node::MODIFIER => Some(kind::CLOSE_PAREN),
         _ => None,
     }

@@ -10,7 +10,7 @@ use Rattle.writer.specs.Stack.{At}
 use Rattle.writer.proofs.Laws.{at_many}
 use Rattle.writer.proofs.Places.{some_place}
 use Rattle.writer.proofs.Writing.{under_top, wrote_deep}
-use Rattle.writer.proofs.Nodes.{below_base, base_deep, left_start, last, last_done, last_deep, left_end}
+use Rattle.writer.proofs.Nodes.{form_says, below_base, base_deep, left_start, last, last_done, last_deep, left_end}
 use Rattle.writer.proofs.Sides.{sides, side_written, side_done, side_deep}
 use Rattle.writer.proofs.+write_node_write_tree.Goals as goal
 
@@ -40,7 +40,8 @@ pub write_node-overflow_sub-q : goal.write_node-overflow_sub-q
 write_node-overflow_sub-q t c = omega (arith, inside c.requires.0.here)
 
 pub write_node-loop-j-init : goal.write_node-loop-j-init
-write_node-loop-j-init t c = record { go = λ u s X a h. left_start _ u s X a c.base.ensures c.if-depth-base.false c.form_at-form.ensures h; kept = refl }
+write_node-loop-j-init t c =
+    record { go = λ u s X a h. left_start _ u s X a c.base.ensures c.if-depth-base.false (form_says c.form_at-form.ensures a) h; kept = refl }
 
 -- in each of the next, `y` is what the call asks, and the children that are left stand before the text that stood there
 pub write_node-put-b-requires : goal.write_node-put-b-requires
