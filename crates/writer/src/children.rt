@@ -11,12 +11,13 @@ ghost use Rattle.writer.specs.Stack.{Says, Skipped, kid_in};
 ghost use Rattle.writer.specs.Standing.{TreeAt, NodeAt, SoundAt, Tells, serves as serves_def};
 ghost use Rattle.writer.specs.Verdict.{First, Items};
 
-use crate::class::{EMPTY, NAMED, NOTHING, list_class};
+use crate::class;
+use crate::class::{EMPTY, NOTHING, list_class};
 use crate::kinds::{passes, target_atom};
 use crate::mode::inner_mode;
 use crate::records::{count_at, kind_at, value_at};
 use crate::standing::Standing;
-use crate::target::{function_serves, target_receiver};
+use crate::target::{NAMED, NOT_GIVEN, UNNAMED, function_serves, target_receiver};
 use tree::node;
 
 impl Standing<'_> {
@@ -40,19 +41,19 @@ impl Standing<'_> {
     {
         let function = p - 2;
         if kind_at(self.records, function) != node::FUNCTION_DEF {
-            return 0;
+            return NOT_GIVEN;
         }
         if !self.serves_of(h - 1, function) {
-            return 0;
+            return NOT_GIVEN;
         }
         let target = self.begin_of(h - 1, function);
         if !self.target_by(h - 2, target) {
-            return 0;
+            return NOT_GIVEN;
         }
-        if self.class_of(h - 1, function) == NAMED {
-            return 2;
+        if self.class_of(h - 1, function) == class::NAMED {
+            return NAMED;
         }
-        1
+        UNNAMED
     }
 
     // The mode of the list that ends at p: its class, by its last member.

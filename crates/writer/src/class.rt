@@ -16,6 +16,7 @@ ghost use Rattle.tables.specs.Class.{binary_class as binary_class_def, keyword_c
 
 use crate::mode;
 use crate::operators::{LEVELS, level};
+use crate::target::{NOT_GIVEN, UNNAMED};
 use tree::node;
 
 // `...` alone.
@@ -133,8 +134,8 @@ fn assignment_class(value: u64, mode: u64) -> u64
     ensures { result ≡ assignment_class_def value mode }
 {
     match mode {
-        0 => keyword_class(value),
-        1 => if value == 2 {
+        NOT_GIVEN => keyword_class(value),
+        UNNAMED => if value == 2 {
             TIGHT
         } else {
             keyword_class(value)

@@ -6,6 +6,7 @@ ghost use Rattle.tables.specs.Demand.{of_members as of_members_def, left_side as
 use crate::class;
 use crate::mode::BOTH;
 use crate::operators::level;
+use crate::target::NOT_GIVEN;
 use tree::node;
 
 // Any expression, or Absent; the same but for `...` alone, as in a statement.
@@ -127,7 +128,7 @@ fn right_side(value: u64) -> u64
 fn assigned(value: u64, mode: u64) -> u64
     ensures { result ≡ assigned_def value mode }
 {
-    if mode == 0 {
+    if mode == NOT_GIVEN {
         return EXPR;
     }
     if value < 4 {

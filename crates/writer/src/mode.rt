@@ -8,7 +8,7 @@ ghost use Rattle.writer.specs.Form.{by_fun, FormAt};
 use crate::class::{NOTHING, class, list_class};
 use crate::form::{Form, Place, fun_gives};
 use crate::records::{count_at, kid_of, kind_at, last_of, value_at};
-use crate::target::function_form;
+use crate::target::{NOT_GIVEN, function_form};
 use tree::node;
 
 // A statement list: without control, whose last statement is an expression; any other without control; with control.
@@ -127,7 +127,7 @@ fn given_by_fun(records: &[u64], p: usize, place: Place) -> bool
     requires { Somewhere records.now p }
     ensures { Says records.now p (λ m. by_fun place (value_in m) (children_in m)) result }
 {
-    fun_gives(place, value_at(records, p)) && function_form(records, p) != 0
+    fun_gives(place, value_at(records, p)) && function_form(records, p) != NOT_GIVEN
 }
 
 // How the node that ends at p is written at a place.

@@ -14,6 +14,13 @@ use crate::kinds::{gives_name, target_atom, target_item};
 use crate::records::{count_at, kid_of, kind_at, skip, value_at};
 use tree::node;
 
+// The modes of an assignment: `fun` with a target can't give it, whatever its action; it can, and the signature has no name; it can, and the signature has one.
+pub const NOT_GIVEN: u64 = 0;
+
+pub const UNNAMED: u64 = 1;
+
+pub const NAMED: u64 = 2;
+
 // Whether the items of a path, the children of the list that ends at p, are members and indexes; and where the path begins.
 fn target_items(records: &[u64], p: usize) -> Option<usize>
     requires { Here records.now p }
@@ -67,33 +74,32 @@ pub fn gives_name_at(records: &[u64], p: usize, name: u64) -> bool
     gives_name(kind_at(records, p), value_at(records, p), name)
 }
 
-// The assignment that ends at p. 0: `fun` with a target can't give it, whatever its action; 1: it can, and the signature has no name;
-// 2: it can, and the signature has one.
+// Whether `fun` with a target can give the assignment that ends at p, whatever its action.
 pub fn function_form(records: &[u64], p: usize) -> u64
     requires { Somewhere records.now p }
     ensures { Says records.now p (λ m. function_form_def (children_in m)) result }
 {
     let function = kid_of(records, p, 2);
     if kind_at(records, function) != node::FUNCTION_DEF {
-        return 0;
+        return NOT_GIVEN;
     }
     let signature = kid_of(records, function, 1);
     if signature == 0 {
-        return 0;
+        return NOT_GIVEN;
     }
     // the function's records begin where its signature's do
     let target = skip(records, signature);
     let name = value_at(records, signature);
     if !gives_name_at(records, target, name) {
-        return 0;
+        return NOT_GIVEN;
     }
     if !is_target(records, target) {
-        return 0;
+        return NOT_GIVEN;
     }
     if name == 0 {
-        return 1;
+        return UNNAMED;
     }
-    2
+    NAMED
 }
 
 // Whether the function that ends at p, whose signature has the name and which begins at b, has the name that the tree before it gives as a target.
