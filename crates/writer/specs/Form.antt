@@ -11,6 +11,7 @@ use Rattle.tree.specs.Tree.{Tree, Forest}
 use Rattle.tree.specs.Maybe.{Maybe}
 use Rattle.writer.specs.Stack.{Spot}
 use Rattle.writer.specs.declared.form.Form.{Form}
+use Rattle.writer.specs.declared.form.Head.{Head}
 use Rattle.writer.specs.declared.form.Place.{Place}
 
 abbrev pub place_number : Place → ℕ
@@ -41,6 +42,10 @@ form_number kind form =
     when eqb kind NodeKind.SignatureDef then form.told else
     when eqb kind NodeKind.Pack then form.told else
     place_number form.place
+
+-- the form of a node
+abbrev pub form_of_head : Head → ℕ
+form_of_head head = form_number head.kind head.form
 
 -- the form of the node at p at a place
 pub record FormAt (L : List ℕ) (p : ℕ) (place : Place) (form : Form) : Type 0 where

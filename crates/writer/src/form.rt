@@ -2,7 +2,7 @@
 ghost use Rattle.std.specs.Prelude.{◌≡◌};
 ghost use Rattle.tree.specs.NodeKind;
 ghost use Rattle.tables.specs.Form.{fun_gives as fun_gives_def, first_place as first_place_def, second_place as second_place_def, place_of as place_of_def, base as base_def, first_deeper as first_deeper_def, second_deeper as second_deeper_def, deeper as deeper_def};
-ghost use Rattle.writer.specs.Form.{place_number, form_number};
+ghost use Rattle.writer.specs.Form.{place_number, form_of_head};
 
 use tree::node;
 
@@ -38,6 +38,14 @@ pub struct Form {
     pub told: u64,
 }
 
+// A node as it is written: its kind and value, and its form.
+#[derive(Clone, Copy, Debug, PartialEq, Eq)]
+pub struct Head {
+    pub kind: u64,
+    pub value: u64,
+    pub form: Form,
+}
+
 // Whether `fun` gives an assignment's action at its place: `let`, or that of the group around it.
 #[tactic(auto, unfolding(tables::specs::Form::fun_gives))]
 pub fn fun_gives(place: Place, value: u64) -> bool
@@ -47,59 +55,6 @@ pub fn fun_gives(place: Place, value: u64) -> bool
         Place::Own => value == 2,
         Place::Modified => value < 4,
         _ => false,
-    }
-}
-
-#[tactic(auto, unfolding(tables::specs::Form::first_place, tables::specs::Choice::where_zero))]
-fn first_place(kind: u64, value: u64, form: Form) -> Place
-    ensures { place_number result ≡ first_place_def kind value (form_number kind form) }
-{
-    match kind {
-        node::STMT_LIST => Place::Suite,
-        node::TUPLE => Place::Members,
-        node::TABLE => Place::Commas,
-        node::IF_EXPR => Place::Branches,
-        node::SIGNATURE_DEF => if form.told == 0 {
-            Place::Commas
-        } else {
-            Place::Leading
-        },
-        node::GROUP => if value == 0 {
-            Place::Own
-        } else {
-            Place::Modified
-        },
-        node::INVOKE | node::INVOKE_TABLE => Place::Commas,
-        node::TUPLE_PATTERN => Place::Members,
-        _ => Place::Own,
-    }
-}
-
-#[tactic(auto, unfolding(tables::specs::Form::second_place, tables::specs::Choice::where_is))]
-fn second_place(kind: u64, form: Form) -> Place
-    ensures { place_number result ≡ second_place_def kind (form_number kind form) }
-{
-    match kind {
-        node::PRIMARY => Place::Row,
-        node::ASSIGNMENT => if form.told == 0 {
-            Place::Own
-        } else {
-            Place::Targeted
-        },
-        node::SIGNATURE_DEF => Place::Commas,
-        _ => Place::Own,
-    }
-}
-
-// The place of the child number j, from 1.
-#[tactic(auto, unfolding(tables::specs::Form::place_of))]
-pub fn place_of(kind: u64, value: u64, form: Form, j: u64) -> Place
-    ensures { place_number result ≡ place_of_def kind value (form_number kind form) j }
-{
-    match j {
-        1 => first_place(kind, value, form),
-        2 => second_place(kind, form),
-        _ => Place::Own,
     }
 }
 
@@ -135,48 +90,103 @@ pub fn base(kind: u64) -> u64
     }
 }
 
-#[tactic(auto, unfolding(tables::specs::Form::first_deeper, tables::specs::Choice::where_is))]
-fn first_deeper(kind: u64, form: Form) -> u64
-    ensures { result ≡ first_deeper_def kind (form_number kind form) }
-{
-    match kind {
-        node::STMT_LIST
-        | node::UNARY_OP
-        | node::TABLE
-        | node::IF_EXPR
-        | node::BLOCK
-        | node::FUNCTION_DEF
-        | node::GROUP
-        | node::INDEX
-        | node::INVOKE
-        | node::INVOKE_TABLE
-        | node::TUPLE_PATTERN => 1,
-        node::PACK => if form.told == node::PACK { 1 } else { 0 },
-        node::MODIFIER => 1,
-        _ => 0,
+impl Head {
+    #[tactic(auto, unfolding(tables::specs::Form::first_place, tables::specs::Choice::where_zero))]
+    fn first_place(self) -> Place
+        ensures { place_number result ≡ first_place_def self.kind self.value (form_of_head self) }
+    {
+        match self.kind {
+            node::STMT_LIST => Place::Suite,
+            node::TUPLE => Place::Members,
+            node::TABLE => Place::Commas,
+            node::IF_EXPR => Place::Branches,
+            node::SIGNATURE_DEF => if self.form.told == 0 {
+                Place::Commas
+            } else {
+                Place::Leading
+            },
+            node::GROUP => if self.value == 0 {
+                Place::Own
+            } else {
+                Place::Modified
+            },
+            node::INVOKE | node::INVOKE_TABLE => Place::Commas,
+            node::TUPLE_PATTERN => Place::Members,
+            _ => Place::Own,
+        }
     }
-}
 
-#[tactic(auto, unfolding(tables::specs::Form::second_deeper, tables::specs::Choice::where_is))]
-fn second_deeper(kind: u64, form: Form) -> u64
-    ensures { result ≡ second_deeper_def kind (form_number kind form) }
-{
-    match kind {
-        node::STMT_LIST => 1,
-        node::ASSIGNMENT => if form.told == 0 { 1 } else { 0 },
-        node::IF_EXPR | node::FUNCTION_DEF | node::EXPR_BLOCK | node::INDEX_PATTERN => 1,
-        _ => 0,
+    #[tactic(auto, unfolding(tables::specs::Form::second_place, tables::specs::Choice::where_is))]
+    fn second_place(self) -> Place
+        ensures { place_number result ≡ second_place_def self.kind (form_of_head self) }
+    {
+        match self.kind {
+            node::PRIMARY => Place::Row,
+            node::ASSIGNMENT => if self.form.told == 0 {
+                Place::Own
+            } else {
+                Place::Targeted
+            },
+            node::SIGNATURE_DEF => Place::Commas,
+            _ => Place::Own,
+        }
     }
-}
 
-// How much deeper the child number j is: never more than the node's base.
-#[tactic(auto, unfolding(tables::specs::Form::deeper))]
-pub fn deeper(kind: u64, form: Form, j: u64) -> u64
-    ensures { result ≡ deeper_def kind (form_number kind form) j }
-{
-    match j {
-        1 => first_deeper(kind, form),
-        2 => second_deeper(kind, form),
-        _ => 0,
+    // The place of the child number j, from 1.
+    #[tactic(auto, unfolding(tables::specs::Form::place_of))]
+    pub fn place_of(self, j: u64) -> Place
+        ensures { place_number result ≡ place_of_def self.kind self.value (form_of_head self) j }
+    {
+        match j {
+            1 => self.first_place(),
+            2 => self.second_place(),
+            _ => Place::Own,
+        }
+    }
+
+    #[tactic(auto, unfolding(tables::specs::Form::first_deeper, tables::specs::Choice::where_is))]
+    fn first_deeper(self) -> u64
+        ensures { result ≡ first_deeper_def self.kind (form_of_head self) }
+    {
+        match self.kind {
+            node::STMT_LIST
+            | node::UNARY_OP
+            | node::TABLE
+            | node::IF_EXPR
+            | node::BLOCK
+            | node::FUNCTION_DEF
+            | node::GROUP
+            | node::INDEX
+            | node::INVOKE
+            | node::INVOKE_TABLE
+            | node::TUPLE_PATTERN => 1,
+            node::PACK => if self.form.told == node::PACK { 1 } else { 0 },
+            node::MODIFIER => 1,
+            _ => 0,
+        }
+    }
+
+    #[tactic(auto, unfolding(tables::specs::Form::second_deeper, tables::specs::Choice::where_is))]
+    fn second_deeper(self) -> u64
+        ensures { result ≡ second_deeper_def self.kind (form_of_head self) }
+    {
+        match self.kind {
+            node::STMT_LIST => 1,
+            node::ASSIGNMENT => if self.form.told == 0 { 1 } else { 0 },
+            node::IF_EXPR | node::FUNCTION_DEF | node::EXPR_BLOCK | node::INDEX_PATTERN => 1,
+            _ => 0,
+        }
+    }
+
+    // How much deeper the child number j is: never more than the node's base.
+    #[tactic(auto, unfolding(tables::specs::Form::deeper))]
+    pub fn deeper(self, j: u64) -> u64
+        ensures { result ≡ deeper_def self.kind (form_of_head self) j }
+    {
+        match j {
+            1 => self.first_deeper(),
+            2 => self.second_deeper(),
+            _ => 0,
+        }
     }
 }

@@ -26,13 +26,12 @@ mod target;
 mod text;
 mod tokens;
 
-use crate::form::{Place, base, deeper, place_of};
+use crate::form::{Head, Place, base};
 use crate::legal::legal;
 use crate::mode::form_at;
 use crate::operators::op_token;
 use crate::records::shape;
-use crate::text::{closing, opening, put};
-use crate::tokens::after_token;
+use crate::text::put;
 use grammar::{Written, limit};
 use output::written;
 use token::kind;
@@ -98,26 +97,28 @@ fn write_node(
     ensures { WroteTree records.now depth (place_number place) p end output.old output.new result }
 {
     let word = records[p - 2];
-    let value = records[p - 1];
     let kind = word % CHILD;
     if depth < base(kind) {
         return Err(TooDeep);
     }
-    let form = form_at(records, p, place);
+    let head = Head {
+        kind,
+        value: records[p - 1],
+        form: form_at(records, p, place),
+    };
     let n = word / CHILD;
     let mut q = p - 2;
-    let mut a = closing(output, end, kind, value, form);
+    let mut a = head.closing(output, end);
     for j in (1..=n).rev() {
-        let b = put(output, a, after_token(kind, value, form, n, j), 0);
-        let below = depth - deeper(kind, form, j);
-        let its = place_of(kind, value, form, j);
-        let kid = write_tree(records, output, below, its, q, b)?;
+        let b = put(output, a, head.after_token(n, j), 0);
+        let below = depth - head.deeper(j);
+        let kid = write_tree(records, output, below, head.place_of(j), q, b)?;
         q = kid.records;
         a = kid.words;
     }
     Ok(Step {
         records: q,
-        words: opening(output, a, kind, value, form),
+        words: head.opening(output, a),
     })
 }
 

@@ -24,8 +24,8 @@ write_node-overflow_sub-word t c = omega (arith, inside c.requires.0.here)
 pub write_node-bounds-records-p : goal.write_node-bounds-records-p
 write_node-bounds-records-p t c = omega (arith, inside c.requires.0.here)
 
-pub write_node-overflow_sub-value : goal.write_node-overflow_sub-value
-write_node-overflow_sub-value t c = omega (arith, inside c.requires.0.here)
+pub write_node-overflow_sub-head : goal.write_node-overflow_sub-head
+write_node-overflow_sub-head t c = omega (arith, inside c.requires.0.here)
 
 pub write_node-bounds-records-p-2 : goal.write_node-bounds-records-p-2
 write_node-bounds-records-p-2 t c = omega (arith, inside c.requires.0.here)
@@ -33,15 +33,15 @@ write_node-bounds-records-p-2 t c = omega (arith, inside c.requires.0.here)
 pub write_node-returns-then-depth-base : goal.write_node-returns-then-depth-base
 write_node-returns-then-depth-base t c = record { how = λ u s X a h. base_deep _ u s a c.base.ensures c.if-depth-base.true }
 
-pub write_node-form_at-form-requires : goal.write_node-form_at-form-requires
-write_node-form_at-form-requires t c = some_place c.requires.0
+pub write_node-form_at-requires : goal.write_node-form_at-requires
+write_node-form_at-requires t c = some_place c.requires.0
 
 pub write_node-overflow_sub-q : goal.write_node-overflow_sub-q
 write_node-overflow_sub-q t c = omega (arith, inside c.requires.0.here)
 
 pub write_node-loop-j-init : goal.write_node-loop-j-init
 write_node-loop-j-init t c =
-    record { go = λ u s X a h. left_start _ u s X a c.base.ensures c.if-depth-base.false (form_says c.form_at-form.ensures a) h; kept = refl }
+    record { go = λ u s X a h. left_start _ u s X a c.base.ensures c.if-depth-base.false (form_says c.form_at.ensures a) h; kept = refl }
 
 -- in each of the next, `y` is what the call asks, and the children that are left stand before the text that stood there
 pub write_node-put-b-requires : goal.write_node-put-b-requires
@@ -62,11 +62,11 @@ write_node-write_tree-requires t c =
 
 pub write_node-returns-in_err-kid : goal.write_node-returns-in_err-kid
 write_node-returns-in_err-kid t c =
-    wrote_deep c.from_residual.ensures.0 λ u s X a h. last_deep (last (c.loop-j.invariant.go u s X a (c.closing-a.ensures.how X h)) c.loop-j-test.true) c.place_of-its.ensures c.deeper.ensures (c.put-b.ensures _ c.after_token.ensures) c.write_tree.ensures c.in_err-kid.was
+    wrote_deep c.from_residual.ensures.0 λ u s X a h. last_deep (last (c.loop-j.invariant.go u s X a (c.closing-a.ensures.how X h)) c.loop-j-test.true) c.place_of.ensures c.deeper.ensures (c.put-b.ensures _ c.after_token.ensures) c.write_tree.ensures c.in_err-kid.was
 
 pub write_node-loop-j-preserved : goal.write_node-loop-j-preserved
 write_node-loop-j-preserved t c = record {
-  go = λ u s X a h. last_done (last (c.loop-j.invariant.go u s X a h) c.loop-j-test.true) c.place_of-its.ensures c.deeper.ensures (c.put-b.ensures _ c.after_token.ensures) c.write_tree.ensures c.in_ok-kid.was;
+  go = λ u s X a h. last_done (last (c.loop-j.invariant.go u s X a h) c.loop-j-test.true) c.place_of.ensures c.deeper.ensures (c.put-b.ensures _ c.after_token.ensures) c.write_tree.ensures c.in_ok-kid.was;
   kept = omega (arith, c.loop-j.invariant.kept);
 }
 

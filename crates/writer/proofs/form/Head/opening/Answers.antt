@@ -1,6 +1,6 @@
--- `writer::text::opening` meets its contract: one token after another. Assumes nothing.
+-- `writer::form::Head::opening` meets its contract: one token after another. Assumes nothing.
 use Rattle.writer.proofs.Texts.{opened_puts}
-use Rattle.writer.proofs.text.opening.Goals as goal
+use Rattle.writer.proofs.form.Head.opening.Goals as goal
 
 pub returns : goal.returns
 returns c = let second = c.second_token-second.ensures in

@@ -1,6 +1,6 @@
--- `writer::text::closing` meets its contract: one token after another. Assumes nothing.
+-- `writer::form::Head::closing` meets its contract: one token after another. Assumes nothing.
 use Rattle.writer.proofs.Texts.{closed_puts}
-use Rattle.writer.proofs.text.closing.Goals as goal
+use Rattle.writer.proofs.form.Head.closing.Goals as goal
 
 pub returns : goal.returns
 returns c = let last = c.last_token-last.ensures in
