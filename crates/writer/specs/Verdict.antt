@@ -1,5 +1,5 @@
 -- What is said of a tree with all its children, and what the pass over the nodes says of a child, of a node and of the whole. Definitions; they assume nothing.
-use Rattle.std.specs.Prelude.{◌≡◌, Bool, true, false, not, ◌&&◌, List, [], ◌∷◌, ℕ, length}
+use Rattle.std.specs.Prelude.{◌≡◌, Bool, true, false, not, ◌&&◌, List, [], ◌∷◌, ℕ, length, IfSome}
 use Rattle.tree.specs.Tree.{Tree, Forest, none, more}
 use Rattle.tree.specs.Maybe.{just}
 use Rattle.grammar.specs.Canonical.Write.{target_items}
@@ -10,7 +10,7 @@ use Rattle.tables.specs.Children.{kind_in, value_in, children_in}
 use Rattle.tables.specs.Demand.{fits}
 use Rattle.tables.specs.Check.{class_of, banned, kids_fit, node_fits, legal_tree}
 use Rattle.writer.specs.Stack.{At}
-use Rattle.writer.specs.Standing.{no_word, Entry}
+use Rattle.writer.specs.Standing.{Entry}
 
 -- a tree passes a test that goes over its children and begins at q; or it doesn't pass
 abbrev pub FitAs : Bool → List ℕ → List Tree → Option ℕ → Type 0
@@ -45,11 +45,11 @@ pub record KidsFit (L : List ℕ) (p m : ℕ) (r : Option Kids) : Type 0 where
   pub how : (t : Tree) (s : List Tree) → At L p (t ∷ s) → KidsFitAs L m t s r
 
 -- the node at p fits, and what is to be kept of it
-abbrev pub VisitedAs : Tree → List Tree → Option ℕ → Type 0
-VisitedAs t s (Some w) = (node_fits t ≡ true) × ((w ≡ no_word → ⊥) → Entry w t s)
+abbrev pub VisitedAs : Tree → List Tree → Option (Option ℕ) → Type 0
+VisitedAs t s (Some w) = (node_fits t ≡ true) × IfSome w (λ w. Entry w t s)
 VisitedAs t s None = node_fits t ≡ false
 
-pub record Visited (L : List ℕ) (p : ℕ) (r : Option ℕ) : Type 0 where
+pub record Visited (L : List ℕ) (p : ℕ) (r : Option (Option ℕ)) : Type 0 where
   pub how : (t : Tree) (s : List Tree) → At L p (t ∷ s) → VisitedAs t s r
 
 -- the words are those of one tree

@@ -83,8 +83,8 @@ impl Standing<'_> {
         })
     }
 
-    // Whether the node that ends at p, with h trees before it, may stand, its own place aside; if so, what is to be kept of it.
-    fn visit(&self, h: usize, p: usize) -> Option<u64>
+    // Whether the node that ends at p, with h trees before it, may stand, its own place aside; if so, what is to be kept of it, if it is kept.
+    fn visit(&self, h: usize, p: usize) -> Option<Option<u64>>
         requires { NodeAt self.now h p }
         ensures { Visited self.now.records.now p result }
     {

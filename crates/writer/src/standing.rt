@@ -19,11 +19,8 @@ const SERVES: u64 = 256;
 
 const BEGIN: u64 = 512;
 
-// A tree that begins here or behind, or is of a class that there is not, is not kept: its number might be no word, or NO_WORD.
+// A tree that begins here or behind, or is of a class that there is not, is not kept: its number might be no word.
 const FAR: usize = 18014398509481984;
-
-// Nothing is kept of a tree.
-const NO_WORD: u64 = 18446744073709551615;
 
 // The trees that stand, to be asked: the records, and what is kept from the number `base` on.
 #[derive(Clone, Copy)]
@@ -87,17 +84,14 @@ impl Standing<'_> {
     }
 }
 
-// What is kept of a tree that has a class and begins at b.
-pub fn word_of(class: u64, labelled: bool, serves: bool, b: usize) -> u64
+// What is kept of a tree that has a class and begins at b, if it is kept.
+pub fn word_of(class: u64, labelled: bool, serves: bool, b: usize) -> Option<u64>
     ensures { result ≡ word_def class labelled serves b }
 {
-    if LABELLED <= class {
-        return NO_WORD;
+    if LABELLED <= class || FAR <= b {
+        return None;
     }
-    if FAR <= b {
-        return NO_WORD;
-    }
-    class + LABELLED * u64::from(labelled) + SERVES * u64::from(serves) + BEGIN * b as u64
+    Some(class + LABELLED * u64::from(labelled) + SERVES * u64::from(serves) + BEGIN * b as u64)
 }
 
 // From which number on trees are kept with the tree number i, the last one, where there are n words: from that one on if its number is below the
@@ -114,15 +108,15 @@ fn first_kept(n: usize, base: usize, i: usize) -> usize
     base
 }
 
-// Keeps the word of the tree number i, the last one. Answers from which number on trees are kept.
-pub fn keep(kept: &mut [u64], base: usize, i: usize, word: u64) -> usize
+// Keeps the word of the tree number i, the last one, if it has one. Answers from which number on trees are kept.
+pub fn keep(kept: &mut [u64], base: usize, i: usize, word: Option<u64>) -> usize
     requires { i < 18446744073709551615 }
     ensures { Keeps kept.old kept.new base i word result }
 {
-    if word == NO_WORD {
+    let Some(word) = word else {
         return i + 1;
-    }
-    if kept.len() == 0 {
+    };
+    if kept.is_empty() {
         return i + 1;
     }
     let from = first_kept(kept.len(), base, i);
