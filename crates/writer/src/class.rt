@@ -179,17 +179,24 @@ pub fn class(kind: u64, value: u64, mode: u64) -> u64
     match kind {
         node::ABSENT => ABSENT,
         node::LIST => mode,
-        node::EXPRESSION | node::LOOP | node::WHILE_LOOP | node::FOR_LOOP | node::ASSERT =>
-            STATEMENT,
+        node::EXPRESSION => STATEMENT,
+        node::LOOP => STATEMENT,
+        node::WHILE_LOOP => STATEMENT,
+        node::FOR_LOOP => STATEMENT,
+        node::ASSERT => STATEMENT,
         node::STMT_LIST => body_class(mode),
-        node::CONTINUE | node::BREAK | node::RETURN => CONTROL,
+        node::CONTINUE => CONTROL,
+        node::BREAK => CONTROL,
+        node::RETURN => CONTROL,
         node::PRIMARY => if mode == 0 { BARE } else { PRIMARY },
         node::UNARY_OP => UNARY,
         node::BINARY_OP => binary_class(value),
         node::ASSIGNMENT => assignment_class(value, mode),
         node::UNPACK => if mode == 0 { LONE } else { TIGHT },
         node::TUPLE => TUPLE,
-        node::TABLE | node::IF_EXPR | node::BLOCK => TIGHT,
+        node::TABLE => TIGHT,
+        node::IF_EXPR => TIGHT,
+        node::BLOCK => TIGHT,
         node::FUNCTION_DEF => if mode == 0 { TIGHT } else { NAMED },
         node::TABLE_ITEM => TABLE_ITEM,
         node::EXPR_BLOCK => BLOCK,
@@ -197,7 +204,8 @@ pub fn class(kind: u64, value: u64, mode: u64) -> u64
         node::SIGNATURE_DEF => SIGNATURE,
         node::PARAM_DEF => PARAM,
         node::DEFAULT_DEF => DEFAULT,
-        node::FIELD_ATTRIBUTE | node::FIELD_INDEX => FIELD,
+        node::FIELD_ATTRIBUTE => FIELD,
+        node::FIELD_INDEX => FIELD,
         _ => later_class(kind),
     }
 }
@@ -233,7 +241,8 @@ fn argument_list(c: u64) -> u64
     ensures { result ≡ argument_list_def c }
 {
     match c {
-        LOCAL | KEYWORD => ARGUMENT,
+        LOCAL => ARGUMENT,
+        KEYWORD => ARGUMENT,
         _ => NOTHING,
     }
 }

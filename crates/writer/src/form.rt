@@ -64,28 +64,28 @@ pub fn base(kind: u64) -> u64
     ensures { result ≡ base_def kind }
 {
     match kind {
-        node::ABSENT
-        | node::LIST
-        | node::EXPRESSION
-        | node::LOOP
-        | node::WHILE_LOOP
-        | node::FOR_LOOP
-        | node::ASSERT
-        | node::CONTINUE
-        | node::BREAK
-        | node::RETURN
-        | node::PRIMARY
-        | node::BINARY_OP
-        | node::TUPLE
-        | node::TABLE_ITEM
-        | node::CONDITIONAL_BRANCH
-        | node::SIGNATURE_DEF
-        | node::PARAM_DEF
-        | node::DEFAULT_DEF
-        | node::FIELD_ATTRIBUTE
-        | node::FIELD_INDEX
-        | node::ATTRIBUTE
-        | node::ATTRIBUTE_PATTERN => 0,
+        node::ABSENT => 0,
+        node::LIST => 0,
+        node::EXPRESSION => 0,
+        node::LOOP => 0,
+        node::WHILE_LOOP => 0,
+        node::FOR_LOOP => 0,
+        node::ASSERT => 0,
+        node::CONTINUE => 0,
+        node::BREAK => 0,
+        node::RETURN => 0,
+        node::PRIMARY => 0,
+        node::BINARY_OP => 0,
+        node::TUPLE => 0,
+        node::TABLE_ITEM => 0,
+        node::CONDITIONAL_BRANCH => 0,
+        node::SIGNATURE_DEF => 0,
+        node::PARAM_DEF => 0,
+        node::DEFAULT_DEF => 0,
+        node::FIELD_ATTRIBUTE => 0,
+        node::FIELD_INDEX => 0,
+        node::ATTRIBUTE => 0,
+        node::ATTRIBUTE_PATTERN => 0,
         _ => 1,
     }
 }
@@ -110,7 +110,8 @@ impl Head {
             } else {
                 Place::Modified
             },
-            node::INVOKE | node::INVOKE_TABLE => Place::Commas,
+            node::INVOKE => Place::Commas,
+            node::INVOKE_TABLE => Place::Commas,
             node::TUPLE_PATTERN => Place::Members,
             _ => Place::Own,
         }
@@ -149,17 +150,17 @@ impl Head {
         ensures { result ≡ first_deeper_def self.kind (form_of_head self) }
     {
         match self.kind {
-            node::STMT_LIST
-            | node::UNARY_OP
-            | node::TABLE
-            | node::IF_EXPR
-            | node::BLOCK
-            | node::FUNCTION_DEF
-            | node::GROUP
-            | node::INDEX
-            | node::INVOKE
-            | node::INVOKE_TABLE
-            | node::TUPLE_PATTERN => 1,
+            node::STMT_LIST => 1,
+            node::UNARY_OP => 1,
+            node::TABLE => 1,
+            node::IF_EXPR => 1,
+            node::BLOCK => 1,
+            node::FUNCTION_DEF => 1,
+            node::GROUP => 1,
+            node::INDEX => 1,
+            node::INVOKE => 1,
+            node::INVOKE_TABLE => 1,
+            node::TUPLE_PATTERN => 1,
             node::PACK => if self.form.told == node::PACK { 1 } else { 0 },
             node::MODIFIER => 1,
             _ => 0,
@@ -173,7 +174,10 @@ impl Head {
         match self.kind {
             node::STMT_LIST => 1,
             node::ASSIGNMENT => if self.form.told == 0 { 1 } else { 0 },
-            node::IF_EXPR | node::FUNCTION_DEF | node::EXPR_BLOCK | node::INDEX_PATTERN => 1,
+            node::IF_EXPR => 1,
+            node::FUNCTION_DEF => 1,
+            node::EXPR_BLOCK => 1,
+            node::INDEX_PATTERN => 1,
             _ => 0,
         }
     }

@@ -5,19 +5,20 @@ ghost use Rattle.tables.specs.Kinds.{target_item as target_item_def, name_is as 
 
 use tree::node;
 
+// Stays an arm for each kind, here and in the other tables: joined by `|`, or in `matches!`, they make the writer take a tenth more time.
 // An atom that is no group can begin a target.
 pub fn target_atom(kind: u64) -> bool
     ensures { result ≡ target_atom_def kind }
 {
-    matches!(
-        kind,
-        node::NIL
-            | node::IDENTIFIER
-            | node::BOOLEAN_LITERAL
-            | node::INTEGER_LITERAL
-            | node::FLOAT_LITERAL
-            | node::STRING_LITERAL
-    )
+    match kind {
+        node::NIL => true,
+        node::IDENTIFIER => true,
+        node::BOOLEAN_LITERAL => true,
+        node::INTEGER_LITERAL => true,
+        node::FLOAT_LITERAL => true,
+        node::STRING_LITERAL => true,
+        _ => false,
+    }
 }
 
 // A path of members and indexes goes on a target.
@@ -25,7 +26,11 @@ pub fn target_atom(kind: u64) -> bool
 pub fn target_item(kind: u64) -> bool
     ensures { result ≡ target_item_def kind }
 {
-    matches!(kind, node::ATTRIBUTE | node::INDEX)
+    match kind {
+        node::ATTRIBUTE => true,
+        node::INDEX => true,
+        _ => false,
+    }
 }
 
 // Whether a signature's name, 0 or 1 + it, is 1 + this one.
@@ -53,7 +58,12 @@ pub fn gives_name(kind: u64, value: u64, name: u64) -> bool
 pub fn passes(kind: u64) -> bool
     ensures { result ≡ passes_def kind }
 {
-    matches!(kind, node::LIST | node::BINARY_OP | node::TUPLE)
+    match kind {
+        node::LIST => true,
+        node::BINARY_OP => true,
+        node::TUPLE => true,
+        _ => false,
+    }
 }
 
 // Whether the children of a node may not begin with a label: what begins a statement, and the value of a break without one.
@@ -62,7 +72,8 @@ pub fn unlabelled(kind: u64, value: u64) -> bool
     ensures { result ≡ unlabelled_def kind value }
 {
     match kind {
-        node::EXPRESSION | node::EXPR_BLOCK => true,
+        node::EXPRESSION => true,
+        node::EXPR_BLOCK => true,
         node::BREAK => value == 0,
         _ => false,
     }
@@ -73,8 +84,11 @@ pub fn unlabelled(kind: u64, value: u64) -> bool
 pub fn closed(kind: u64) -> bool
     ensures { result ≡ closed_def kind }
 {
-    matches!(
-        kind,
-        node::LIST | node::ASSIGNMENT | node::DEFAULT_DEF | node::GROUP
-    )
+    match kind {
+        node::LIST => true,
+        node::ASSIGNMENT => true,
+        node::DEFAULT_DEF => true,
+        node::GROUP => true,
+        _ => false,
+    }
 }

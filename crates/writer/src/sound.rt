@@ -20,17 +20,25 @@ fn top(kind: u64) -> u64
     ensures { result ≡ top_def kind }
 {
     match kind {
-        node::LOOP | node::WHILE_LOOP | node::FOR_LOOP | node::CONTINUE | node::BREAK => LABEL,
+        node::LOOP => LABEL,
+        node::WHILE_LOOP => LABEL,
+        node::FOR_LOOP => LABEL,
+        node::CONTINUE => LABEL,
+        node::BREAK => LABEL,
         node::UNARY_OP => 3,
         node::BINARY_OP => LAST_BINARY,
         node::ASSIGNMENT => 43,
         node::BLOCK => LABEL,
-        node::PARAM_DEF | node::DEFAULT_DEF | node::FIELD_ATTRIBUTE => NAMED,
+        node::PARAM_DEF => NAMED,
+        node::DEFAULT_DEF => NAMED,
+        node::FIELD_ATTRIBUTE => NAMED,
         node::IDENTIFIER => NAME,
         node::BOOLEAN_LITERAL => 1,
         node::STRING_LITERAL => NAME,
         node::GROUP => 4,
-        node::ATTRIBUTE | node::IDENTIFIER_PATTERN | node::ATTRIBUTE_PATTERN => NAME,
+        node::ATTRIBUTE => NAME,
+        node::IDENTIFIER_PATTERN => NAME,
+        node::ATTRIBUTE_PATTERN => NAME,
         node::MODIFIER => 3,
         _ => 0,
     }
@@ -42,7 +50,9 @@ fn exceeds(kind: u64, value: u64) -> bool
     ensures { result ≡ exceeds_def kind value }
 {
     match kind {
-        node::SIGNATURE_DEF | node::INTEGER_LITERAL | node::FLOAT_LITERAL => false,
+        node::SIGNATURE_DEF => false,
+        node::INTEGER_LITERAL => false,
+        node::FLOAT_LITERAL => false,
         _ => top(kind) < value,
     }
 }
@@ -58,26 +68,26 @@ fn arity(kind: u64) -> u64
         node::FOR_LOOP => 3,
         node::STMT_LIST => 2,
         node::CONTINUE => 0,
-        node::PRIMARY
-        | node::BINARY_OP
-        | node::ASSIGNMENT
-        | node::IF_EXPR
-        | node::FUNCTION_DEF
-        | node::TABLE_ITEM
-        | node::EXPR_BLOCK
-        | node::CONDITIONAL_BRANCH => 2,
+        node::PRIMARY => 2,
+        node::BINARY_OP => 2,
+        node::ASSIGNMENT => 2,
+        node::IF_EXPR => 2,
+        node::FUNCTION_DEF => 2,
+        node::TABLE_ITEM => 2,
+        node::EXPR_BLOCK => 2,
+        node::CONDITIONAL_BRANCH => 2,
         node::SIGNATURE_DEF => 3,
-        node::PARAM_DEF
-        | node::FIELD_ATTRIBUTE
-        | node::NIL
-        | node::EMPTY_TUPLE
-        | node::IDENTIFIER
-        | node::BOOLEAN_LITERAL
-        | node::INTEGER_LITERAL
-        | node::FLOAT_LITERAL
-        | node::STRING_LITERAL
-        | node::ATTRIBUTE
-        | node::IDENTIFIER_PATTERN => 0,
+        node::PARAM_DEF => 0,
+        node::FIELD_ATTRIBUTE => 0,
+        node::NIL => 0,
+        node::EMPTY_TUPLE => 0,
+        node::IDENTIFIER => 0,
+        node::BOOLEAN_LITERAL => 0,
+        node::INTEGER_LITERAL => 0,
+        node::FLOAT_LITERAL => 0,
+        node::STRING_LITERAL => 0,
+        node::ATTRIBUTE => 0,
+        node::IDENTIFIER_PATTERN => 0,
         node::INDEX_PATTERN => 2,
         _ => 1,
     }

@@ -145,7 +145,9 @@ impl Head {
     {
         match self.kind {
             node::LIST => list_token(self.form.place),
-            node::LOOP | node::WHILE_LOOP | node::FOR_LOOP => label_token(self.value),
+            node::LOOP => label_token(self.value),
+            node::WHILE_LOOP => label_token(self.value),
+            node::FOR_LOOP => label_token(self.value),
             node::ASSERT => Some(kind::ASSERT),
             node::CONTINUE => Some(kind::CONTINUE),
             node::BREAK => Some(kind::BREAK),
@@ -156,7 +158,9 @@ impl Head {
             node::BLOCK => label_token(self.value),
             node::FUNCTION_DEF => function_token(self.form.place),
             node::SIGNATURE_DEF => Some(kind::OPEN_PAREN),
-            node::PARAM_DEF | node::DEFAULT_DEF | node::FIELD_ATTRIBUTE => access_token(self.value),
+            node::PARAM_DEF => access_token(self.value),
+            node::DEFAULT_DEF => access_token(self.value),
+            node::FIELD_ATTRIBUTE => access_token(self.value),
             node::FIELD_INDEX => Some(kind::OPEN_SQUARE),
             _ => self.later_first_token(),
         }
@@ -171,9 +175,12 @@ impl Head {
             node::LOOP => Some(kind::LOOP),
             node::WHILE_LOOP => Some(kind::WHILE),
             node::FOR_LOOP => Some(kind::FOR),
-            node::CONTINUE | node::BREAK => label_token(self.value),
+            node::CONTINUE => label_token(self.value),
+            node::BREAK => label_token(self.value),
             node::BLOCK => Some(kind::BEGIN),
-            node::PARAM_DEF | node::DEFAULT_DEF | node::FIELD_ATTRIBUTE => Some(kind::IDENTIFIER),
+            node::PARAM_DEF => Some(kind::IDENTIFIER),
+            node::DEFAULT_DEF => Some(kind::IDENTIFIER),
+            node::FIELD_ATTRIBUTE => Some(kind::IDENTIFIER),
             node::EMPTY_TUPLE => Some(kind::CLOSE_PAREN),
             node::GROUP => modifier_token(self.value),
             node::ATTRIBUTE => Some(kind::IDENTIFIER),
@@ -229,10 +236,14 @@ impl Head {
         ensures { result ≡ token_in (behind_token_def self.kind (form_of_head self)) }
     {
         match self.kind {
-            node::LOOP | node::WHILE_LOOP | node::FOR_LOOP => Some(kind::END),
+            node::LOOP => Some(kind::END),
+            node::WHILE_LOOP => Some(kind::END),
+            node::FOR_LOOP => Some(kind::END),
             node::UNPACK => Some(kind::ELLIPSIS),
             node::TABLE => Some(kind::CLOSE_BRACE),
-            node::IF_EXPR | node::BLOCK | node::FUNCTION_DEF => Some(kind::END),
+            node::IF_EXPR => Some(kind::END),
+            node::BLOCK => Some(kind::END),
+            node::FUNCTION_DEF => Some(kind::END),
             node::EXPR_BLOCK => (self.form.told != 0).then_some(kind::SEMICOLON),
             node::SIGNATURE_DEF => (self.form.told == VARIADIC).then_some(kind::ELLIPSIS),
             node::FIELD_INDEX => Some(kind::CLOSE_SQUARE),
@@ -268,7 +279,9 @@ impl Head {
         ensures { result ≡ name_in_def self.kind self.value }
     {
         match self.kind {
-            node::PARAM_DEF | node::DEFAULT_DEF | node::FIELD_ATTRIBUTE => self.value / 2,
+            node::PARAM_DEF => self.value / 2,
+            node::DEFAULT_DEF => self.value / 2,
+            node::FIELD_ATTRIBUTE => self.value / 2,
             _ => self.value,
         }
     }
