@@ -6,6 +6,7 @@ ghost use Rattle.writer.specs.Text.{ForToken, Put, Opened, Closed};
 use crate::form::Head;
 
 // A token before the text that begins at a - 2. Where a is below 2 the text had no room, and where this one has none the answer is 0.
+// Stays a number and no Option: crate output takes it so, where what has no room is answered.
 pub fn put(output: &mut [u64], a: usize, token: Option<u64>, value: u64) -> usize
     requires { a ≤ length output.old + 2 }
     ensures { ForToken token (λ c. Put c value a result output.old output.new) }
