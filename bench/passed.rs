@@ -7,7 +7,7 @@
 use grammar::Written;
 use labels::behind::BEHIND;
 use labels::entries::COMPARED;
-use labels::Labels;
+use labels::FlatLabels;
 use std::io::Read;
 use writer::records::{PASS, PASSED};
 
@@ -25,13 +25,6 @@ fn written(answer: Written) -> u64 {
     }
 }
 
-fn checked(answer: Labels) -> u64 {
-    match answer {
-        Labels::Fine => 0,
-        Labels::Refused(n, _) => n,
-    }
-}
-
 // What is passed over in both passes of the writer, and the answer, with an output of so many words.
 fn passed(records: &[u64], words: usize) -> ([u64; 2], u64) {
     unsafe {
@@ -46,7 +39,7 @@ fn main() {
     let records = words();
     let n = records.len() / 2;
     if std::env::args().nth(1).as_deref() == Some("labels") {
-        let answer = checked(labels::check_labels(&records));
+        let answer = FlatLabels::from(labels::check_labels(&records)).number;
         let (decision, entries, behind) = unsafe { (PASSED[0], COMPARED, BEHIND) };
         println!("{n} {decision} {entries} {behind} {answer}");
     } else {

@@ -2,7 +2,7 @@
 use crate::answer::{Case, Said};
 use crate::tally::count_one;
 use crate::trial::{Host, Outcome, Place, Trial};
-use labels::{Labels, check_labels};
+use labels::{FlatLabels, check_labels};
 use std::io;
 
 // What the check answers: a number, 0 where nothing is wrong, and the number of the record that it is for.
@@ -35,19 +35,16 @@ impl Verdict {
     }
 }
 
-impl From<Labels> for Verdict {
-    fn from(answer: Labels) -> Verdict {
-        match answer {
-            Labels::Fine => FINE,
-            Labels::Refused(number, record) => Verdict::new(number, record as u64),
-        }
+impl From<FlatLabels> for Verdict {
+    fn from(answer: FlatLabels) -> Verdict {
+        Verdict::new(answer.number, answer.record_number)
     }
 }
 
 impl<R: Host> Trial<'_, R> {
     // Records get this answer.
     pub fn is_checked(&mut self, place: Place, records: &[u64], want: Verdict) -> io::Result<()> {
-        let got = Verdict::from(check_labels(records));
+        let got = Verdict::from(FlatLabels::from(check_labels(records)));
         count_one(&mut self.group.checks);
         let number = Outcome {
             place,

@@ -7,21 +7,21 @@ use lib.ListN.{length}
 use Rattle.tree.specs.Tree.{Tree}
 use Rattle.tree.specs.Maybe.{nothing, just}
 use Rattle.tree.specs.Decode.{decode}
-use Rattle.grammar.specs.Reading.Limit.{no_statement}
 use Rattle.grammar.specs.Reading.Result.{ifb}
 use Rattle.tables.specs.Check.{legal_tree}
 use Rattle.tables.proofs.Answer.{readable_is}
 use Rattle.writer.specs.Stack.{At}
 use Rattle.writer.proofs.Entry.{at_small}
-use Rattle.labels.specs.declared.Labels.TheVariants.{Refused}
+use Rattle.std.specs.declared.result.Result.TheVariants.{Err}
+use Rattle.labels.specs.declared.Refusal.TheVariants.{NoStatement}
 use Rattle.labels.specs.Offences.{offences, first, check_labels}
 
-pub no_tree : (L : List ℕ) → decode L ≡ nothing → check_labels L ≡ Refused no_statement 0
+pub no_tree : (L : List ℕ) → decode L ≡ nothing → check_labels L ≡ Err NoStatement
 unfolding check_labels
 no_tree L e = rw e
 
 module _ {L : List ℕ} {t : Tree} (d : decode L ≡ just t) (a : At L (length L) (t ∷ [])) where
-  pub illegal : legal_tree t ≡ false → check_labels L ≡ Refused no_statement 0
+  pub illegal : legal_tree t ≡ false → check_labels L ≡ Err NoStatement
   unfolding check_labels ifb
   illegal e = rw (d, readable_is t (at_small a), e)
 

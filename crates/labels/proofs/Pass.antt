@@ -14,9 +14,10 @@ use Rattle.grammar.proofs.Laws.Facts.{by_test}
 use Rattle.writer.specs.Stack.{At}
 use Rattle.writer.specs.Verdict.{Whole}
 use Rattle.writer.proofs.Entry.{at_small}
-use Rattle.labels.specs.declared.Labels.{Labels}
-use Rattle.labels.specs.declared.Labels.TheVariants.{Fine}
-use Rattle.labels.specs.Offences.{offence, inside, first, noted}
+use Rattle.std.specs.declared.option.Option.{Option}
+use Rattle.std.specs.declared.result.Result.TheVariants.{Ok}
+use Rattle.labels.specs.declared.Offence.{Offence}
+use Rattle.labels.specs.Offences.{Labels, offence, inside, first, noted}
 use Rattle.labels.specs.Behind.{enclosing, behind, Found}
 use Rattle.labels.specs.Entries.{Entry, held, around, standing, Full, entered, Entered, Stands, Round}
 use Rattle.labels.proofs.Words.{passed, last_child, other_child, two_words, behind_records}
@@ -100,7 +101,7 @@ pub record Going (L F : List ℕ) (p pending n : ℕ) (found : Labels) : Type 0 
   pub enclosed : Enclosed (length F) (held F n) pending (drop p L)
   pub so_far : found ≡ first (p / 2) (behind (drop p L))
 
-pub going_start : (L F : List ℕ) → Whole L → Going L F (length L) 1 0 Fine
+pub going_start : (L F : List ℕ) → Whole L → Going L F (length L) 1 0 (Ok tt)
 unfolding rows width SmallRow stack_records StackSmall held standing around enclosing first behind
 going_start L F w = record {
   within = omega arith;
@@ -110,57 +111,62 @@ going_start L F w = record {
   so_far = rw drop-length;
 }
 
--- the record before p, and the trees that are pending before it
-pub record Ahead (L : List ℕ) (p pending : ℕ) : Type 0 where
+-- the last of i records, and the trees that are pending before it
+pub record Ahead (L : List ℕ) (i pending : ℕ) : Type 0 where
   pub some : 1 ≤ pending
-  pub two : 2 ≤ p
-  pub rest : Trees [] (take (p - 2) L) (pending - 1 + get_or L (p - 2) 0 / 256)
-  pub fewer : 2 * (pending - 1 + get_or L (p - 2) 0 / 256) ≤ p - 2
+  pub within : 2 * (i - 1) + 2 ≤ length L
+  pub rest : Trees [] (take (2 * (i - 1)) L) (pending - 1 + get_or L (2 * (i - 1)) 0 / 256)
+  pub fewer : 2 * (pending - 1 + get_or L (2 * (i - 1)) 0 / 256) ≤ 2 * (i - 1)
 
-pub ahead : {L F : List ℕ} {p pending n : ℕ} {found : Labels} → Going L F p pending n found → 0 < p → Ahead L p pending
-ahead {L} {F} {p} {pending} g l = go pending g.trees
+pub ahead : {L F : List ℕ} {i pending n : ℕ} {found : Labels} → Going L F (2 * i) pending n found → 0 < i → Ahead L i pending
+ahead {L} {F} {i} {pending} g l = go pending g.trees
   where
-    go : (m : ℕ) → Trees [] (take p L) m → Ahead L p m
-    go zero t = absurd (omega (arith, (ended [] L p zero g.within t refl).at))
+    go : (m : ℕ) → Trees [] (take (2 * i) L) m → Ahead L i m
+    go zero t = absurd (omega (arith, (ended [] L (2 * i) zero g.within t refl).at))
     go (suc m) t =
-        let s = scan_step [] L p (suc m) g.within t (omega arith) in
+        let s = scan_step [] L (2 * i) (suc m) g.within t (omega arith) in
+        let e : 2 * i - 2 ≡ 2 * (i - 1) = omega arith in
         let r = s.room in
-        let i = g.within in
-        record { some = omega arith; two = omega arith; rest = s.rest; fewer = omega (arith, enough [] L (p - 2) _ (omega arith) s.rest) }
+        let w = g.within in
+        let rest : Trees [] (take (2 * (i - 1)) L) (suc m - 1 + get_or L (2 * (i - 1)) 0 / 256) = rw e at s.rest in
+        record { some = omega arith; within = omega arith; rest = rest; fewer = omega (arith, enough [] L (2 * (i - 1)) _ (omega arith) rest) }
 
--- what encloses the record before p is kept
-pub round_at : {L F : List ℕ} {p pending n r : ℕ} {found : Labels} → Going L F p pending n found → 0 < p → Stands F n pending r → Round L F r p
-round_at {L} {F} {p} {pending} {n} {r} g l s =
+-- what encloses the last of i records is kept
+pub round_at : {L F : List ℕ} {i pending n r : ℕ} {found : Labels} → Going L F (2 * i) pending n found → 0 < i → Stands F n pending r → Round L F r (2 * (i - 1) + 2)
+round_at {L} {F} {i} {pending} {n} {r} g l s =
     let a = ahead g l in
     let m = s.fewer in
     let b = g.room in
+    let e : 2 * (i - 1) + 2 ≡ 2 * i = omega arith in
     record {
-      two = a.two;
-      inside = g.within;
+      two = omega arith;
+      inside = a.within;
       room = omega arith;
-      known = λ f. ap around s.words ∙ sym (g.enclosed 1 pending (omega arith) (omega arith) (at_hand (length F) pending (held F n) (λ y. f (rw s.words y))));
+      known = λ f. ap around s.words ∙ rw e (sym (g.enclosed 1 pending (omega arith) (omega arith) (at_hand (length F) pending (held F n) (λ y. f (rw s.words y)))));
     }
 
 -- one record further
-pub going_next : {L F F' : List ℕ} {p pending n r q o : ℕ} {found : Labels} → Going L F p pending n found → 0 < p → Stands F n pending r
-    → o ≡ offence (enclosing 1 (drop p L)) (get_or L (p - 2) 0 % 256) (get_or L (p - 1) 0)
-    → Entered F F' r (get_or L (p - 2) 0 % 256) (get_or L (p - 2 + 1) 0) (get_or L (p - 2) 0 / 256) (pending - 1 + get_or L (p - 2) 0 / 256) q → length F' ≡ length F
-    → Going L F' (p - 2) (pending - 1 + get_or L (p - 2) 0 / 256) q (noted ((p - 2) / 2) o found)
+pub going_next : {L F F' : List ℕ} {i pending n r q : ℕ} {o : Option Offence} {found : Labels} → Going L F (2 * i) pending n found → 0 < i → Stands F n pending r
+    → o ≡ offence (enclosing 1 (drop (2 * (i - 1) + 2) L)) (get_or L (2 * (i - 1) + 2 - 2) 0 % 256) (get_or L (2 * (i - 1) + 2 - 1) 0)
+    → Entered F F' r (get_or L (2 * (i - 1)) 0 % 256) (get_or L (2 * (i - 1) + 1) 0) (get_or L (2 * (i - 1)) 0 / 256) (pending - 1 + get_or L (2 * (i - 1)) 0 / 256) q → length F' ≡ length F
+    → Going L F' (2 * (i - 1)) (pending - 1 + get_or L (2 * (i - 1)) 0 / 256) q (noted (i - 1) o found)
 unfolding behind first
-going_next {L} {F} {F'} {p} {pending} {n} {r} {q} {o} {found} g l s e t m =
+going_next {L} {F} {F'} {i} {pending} {n} {r} {q} {o} {found} g l s e t m =
     let a = ahead g l in
-    let two = a.two in
-    let i = g.within in
-    let x : p - 2 + 1 ≡ p - 1 = omega arith in
-    let y : p - 2 + 2 ≡ p = omega arith in
-    let z : suc ((p - 2) / 2) ≡ p / 2 = omega arith in
-    let d : drop (p - 2) L ≡ get_or L (p - 2) 0 ∷ get_or L (p - 2 + 1) 0 ∷ drop p L = two_words L (p - 2) (omega arith) ∙ rw y in
+    let w = a.within in
+    let x : 2 * (i - 1) + 2 - 2 ≡ 2 * (i - 1) = omega arith in
+    let x' : 2 * (i - 1) + 2 - 1 ≡ 2 * (i - 1) + 1 = omega arith in
+    let y : 2 * (i - 1) + 2 ≡ 2 * i = omega arith in
+    let z : 2 * (i - 1) / 2 ≡ i - 1 = omega arith in
+    let u : suc (i - 1) ≡ 2 * i / 2 = omega arith in
+    let d : drop (2 * (i - 1)) L ≡ get_or L (2 * (i - 1)) 0 ∷ get_or L (2 * (i - 1) + 1) 0 ∷ drop (2 * i) L = two_words L (2 * (i - 1)) (omega arith) ∙ rw y in
+    let found_here : o ≡ offence (enclosing 1 (drop (2 * i) L)) (get_or L (2 * (i - 1)) 0 % 256) (get_or L (2 * (i - 1) + 1) 0) = rw (x, x', y) at e in
     record {
       within = omega arith;
       trees = a.rest;
       room = t.room;
-      enclosed = rw (m, d, t.words, s.words) (further (length F) pending (get_or L (p - 2) 0) (get_or L (p - 2 + 1) 0) (held F n) (drop p L) a.some g.enclosed);
-      so_far = rw (d, x, z, e, g.so_far);
+      enclosed = rw (m, d, t.words, s.words) (further (length F) pending (get_or L (2 * (i - 1)) 0) (get_or L (2 * (i - 1) + 1) 0) (held F n) (drop (2 * i) L) a.some g.enclosed);
+      so_far = rw (d, z, u, found_here, g.so_far);
     }
 
 -- the end

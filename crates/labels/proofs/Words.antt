@@ -1,11 +1,14 @@
 -- What encloses a tree by the words behind it is what encloses it in the tree above it: the offences of a tree's records are the tree's. Assumes nothing.
-use Rattle.std.specs.Prelude.{◌≡◌, refl, true, false, List, [], ◌∷◌, ◌++◌, ℕ, suc, ◌+◌, ◌*◌, ◌-◌, ◌/◌, ◌%◌, ◌≤◌, ◌<◌, eqb, ltb, length, get_or, drop}
+use Rattle.std.specs.Prelude.{◌≡◌, refl, true, false, List, [], ◌∷◌, ◌++◌, ℕ, suc, ◌+◌, ◌*◌, ◌-◌, ◌/◌, ◌%◌, ◌≤◌, ◌<◌, eqb, ltb, length, get_or, take, drop}
 use Rattle.std.proofs.Common.{sym, ap, ◌∙◌, append_assoc, append-nil, arith, drop-cons}
+use lib.Seq.{take-length}
 use borrow.Author.Tests.{lt-ltb, le-ltb, ltb-true, ne_eqb, eqb-true}
 use Rattle.tree.specs.Tree.{Tree, Forest, node, none, more, count, records, all_records}
 use Rattle.tree.specs.Records.{Small, Smalls}
 use Rattle.grammar.specs.Reading.Result.{ifb}
 use Rattle.grammar.proofs.Laws.Facts.{by_test}
+use Rattle.std.specs.declared.option.Option.{Option}
+use Rattle.labels.specs.declared.Offence.{Offence}
 use Rattle.labels.specs.Offences.{Enclosing, inside, offences, all_offences}
 use Rattle.labels.specs.Behind.{further, is_last, enclosing, behind}
 
@@ -57,6 +60,17 @@ two_words L q l =
     let d : q + 2 ≡ suc (suc q) = omega arith in
     rw (c, d) (drop-cons L q 0 a ∙ ap (λ (y : List ℕ). get_or L q 0 ∷ y) (drop-cons L (suc q) 0 b))
 
+-- the words behind a first record
+abbrev pub after : List ℕ → List ℕ
+after L = take (length L - 2) (drop 2 L)
+
+pub first_two : (L : List ℕ) → 2 ≤ length L → (L ≡ get_or L 0 0 ∷ get_or L 1 0 ∷ after L) × (length (after L) + 2 ≡ length L)
+first_two [] l = absurd (omega arith)
+first_two (w ∷ []) l = absurd (omega arith)
+first_two (w ∷ v ∷ x) l =
+    let n : suc (suc (length x)) - 2 ≡ length x = omega arith in
+    (rw (n, take-length x), rw (n, take-length x) (omega arith))
+
 -- ---------------------------------------------------------------- one tree further
 mutual
   unfolding records count Small
@@ -96,7 +110,7 @@ mutual
       let e = over_trees (more u f) s.1 1 X (omega arith) ∙ other_child w v x (1 + count (more u f)) (omega arith) (omega arith) in
       ap behind (append_assoc (records t) (all_records (more u f)) X) ∙ behind_tree t s.0 (all_records (more u f) ++ X)
       ∙ ap (λ (r : List Enclosing). offences r t ++ behind (all_records (more u f) ++ X)) e
-      ∙ ap (λ (y : List ℕ). offences (enclosing 1 x) t ++ y) (behind_trees (more u f) s.1 w v x (omega arith))
+      ∙ ap (λ (y : List (Option Offence)). offences (enclosing 1 x) t ++ y) (behind_trees (more u f) s.1 w v x (omega arith))
       ∙ sym (append_assoc (offences (enclosing 1 x) t) (all_offences (enclosing 1 x) (inside (w % 256) v (enclosing 1 x)) (more u f)) (behind X))
 
 -- of all records of one tree

@@ -1,10 +1,13 @@
 -- What encloses a tree, by the words that stand behind it, and the offences of the records of some words. Definitions; they assume nothing.
-use Rattle.std.specs.Prelude.{◌≡◌, Bool, false, List, [], ◌∷◌, ℕ, ◌+◌, ◌-◌, ◌/◌, ◌%◌, ◌≤◌, ◌<◌, eqb, ltb, length, get_or, drop}
+use Rattle.std.specs.Prelude.{◌≡◌, Bool, false, List, [], ◌∷◌, ℕ, ◌+◌, ◌-◌, ◌/◌, ◌%◌, ◌<◌, eqb, ltb, length}
 use Rattle.tree.specs.Tree.{Tree}
 use Rattle.grammar.specs.Reading.Result.{ifb}
 use Rattle.tables.specs.Choice.{when◌then◌else◌}
-use Rattle.labels.specs.declared.Labels.{Labels}
-use Rattle.labels.specs.Offences.{Enclosing, offence, offences, inside, first}
+use Rattle.std.specs.declared.option.Option.{Option}
+use Rattle.std.specs.declared.option.Option.TheVariants.{Some, None}
+use Rattle.labels.specs.declared.Offence.{Offence}
+use Rattle.labels.specs.declared.behind.Above.{Above}
+use Rattle.labels.specs.Offences.{Enclosing, Labels, offence, offences, inside, first}
 use Rattle.writer.specs.Stack.{At}
 
 -- from a tree on h trees stand before a record with n children: how many stand behind it, from the tree on or from its parent
@@ -24,16 +27,18 @@ enclosing h (w ∷ v ∷ r) =
     enclosing (further (w / 256) h) r
 
 -- the offences of the records, as `offences` has them of a tree
-unfoldable pub behind : List ℕ → List ℕ
+unfoldable pub behind : List ℕ → List (Option Offence)
 behind [] = []
 behind (w ∷ []) = []
 behind (w ∷ v ∷ r) = offence (enclosing 1 r) (w % 256) v ∷ behind r
 
--- the nearest node that has the tree before p in its last child ends at r; r is 0 where there is none
-pub record Next (L : List ℕ) (p r : ℕ) : Type 0 where
-  pub none : r ≡ 0 → enclosing 1 (drop p L) ≡ []
-  pub above : 0 < r → (p + 2 ≤ r) × (r ≤ length L)
-  pub here : 0 < r → enclosing 1 (drop p L) ≡ inside (get_or L (r - 2) 0 % 256) (get_or L (r - 1) 0) (enclosing 1 (drop r L))
+-- the nearest node that has the tree before the words in its last child, if there is one: what it encloses it with, and fewer words stand behind it
+abbrev pub NextAs : List ℕ → Option Above → Type 0
+NextAs L None = enclosing 1 L ≡ []
+NextAs L (Some a) = (enclosing 1 L ≡ inside a.kind a.label (enclosing 1 a.behind.now)) × (length a.behind.now < length L)
+
+pub record Next (L : List ℕ) (r : Option Above) : Type 0 where
+  pub how : NextAs L r
 
 -- the first offender of the tree whose records the words are
 pub record Found (L : List ℕ) (answer : Labels) : Type 0 where

@@ -1,8 +1,7 @@
 -- What each entry promises, for all inputs: its contract says this by name. Definitions; they assume nothing.
 use Rattle.std.specs.Prelude.{◌≡◌, List, ℕ}
-use Rattle.labels.specs.declared.Labels.{Labels}
 use Rattle.labels.specs.declared.FlatLabels.{FlatLabels}
-use Rattle.labels.specs.Offences.{check_labels, number, record_number}
+use Rattle.labels.specs.Offences.{Labels, check_labels, number, record_number}
 
 -- the check, of a statement's records: what it answers
 abbrev pub Checks : List ℕ → Labels → Type 0

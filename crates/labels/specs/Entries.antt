@@ -2,8 +2,15 @@
 use Rattle.std.specs.Prelude.{◌≡◌, Bool, true, false, not, ◌&&◌, List, [], ◌∷◌, ℕ, zero, suc, ◌+◌, ◌*◌, ◌-◌, ◌≤◌, ◌<◌, eqb, ltb, length, get_or, drop}
 use Rattle.tree.specs.NodeKind
 use Rattle.tables.specs.Choice.{when◌then◌else◌}
+use Rattle.labels.specs.declared.entries.JumpKind.{JumpKind}
+use Rattle.labels.specs.declared.entries.JumpKind.TheVariants.{Break, Continue}
 use Rattle.labels.specs.Offences.{Enclosing, means, inside}
 use Rattle.labels.specs.Behind.{enclosing}
+
+-- the kind of node that a jump is
+abbrev pub kind_of : JumpKind → ℕ
+kind_of Break = NodeKind.Break
+kind_of Continue = NodeKind.Continue
 
 -- a node whose last child stands inside it: its kind and value, and how many trees stood before its own record, the last child on top
 pub record Entry : Type 0 where

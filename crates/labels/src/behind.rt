@@ -1,12 +1,21 @@
 // What encloses a tree, sought in the records behind it: from the tree on, h trees stand before the next record. A record with fewer children passes over the tree; one with as
 // many or more is its parent's, and the tree is its last child if it is the only one that stands.
-ghost use Rattle.std.specs.Prelude.{◌≡◌, ◌≤◌, ◌<◌, length, drop};
+ghost use Rattle.std.specs.Prelude.{◌≡◌, ◌<◌};
 ghost use Rattle.labels.specs.Offences.{any_serves};
+ghost use Rattle.labels.specs.Entries.{kind_of};
 ghost use Rattle.labels.specs.Behind.{enclosing, further as further_def, is_last as is_last_def, Next};
 
-use crate::entries::node_serves;
+use crate::entries::{Jump, node_serves};
 use tree::node;
 use tree::word::CHILD;
+
+// A node that has a tree in its last child, and the records behind it.
+#[derive(Clone, Copy)]
+pub struct Above<'a> {
+    pub kind: u64,
+    pub label: u64,
+    pub behind: &'a [u64],
+}
 
 // How many trees stand from the tree on behind a record with n children, or from its parent on.
 #[tactic(auto, unfolding(crate::specs::Behind::further))]
@@ -14,10 +23,7 @@ fn further(n: u64, h: u64) -> u64
     requires { h < 18446744073709551615 }
     ensures { result ≡ further_def n h }
 {
-    if n < h {
-        return h - n + 1;
-    }
-    1
+    if n < h { h - n + 1 } else { 1 }
 }
 
 // Whether the tree is the last child of a node with n children.
@@ -25,45 +31,43 @@ fn further(n: u64, h: u64) -> u64
 fn is_last(n: u64, h: u64) -> bool
     ensures { result ≡ is_last_def n h }
 {
-    if h == 1 {
-        return 0 < n;
-    }
-    false
+    h == 1 && 0 < n
 }
 
-// Where the record ends of the nearest node that has the tree that ends at p in its last child; 0 where there is none.
-fn next_above(records: &[u64], p: usize) -> usize
-    requires { p ≤ length records.now }
-    ensures { Next records.now p result }
+// The nearest node that has the tree before these records in its last child.
+fn next_above(records: &[u64]) -> Option<Above>
+    ensures { Next records.now result }
 {
-    let mut q = p;
+    let mut rest = records;
     let mut h: u64 = 1;
-    while 2 <= records.len() - q {
-        let n = records[q] / CHILD;
-        q += 2;
+    while let [word, value, behind @ ..] = rest {
+        let n = *word / CHILD;
         if is_last(n, h) {
-            return q;
+            return Some(Above {
+                kind: *word % CHILD,
+                label: *value,
+                behind,
+            });
         }
         h = further(n, h);
+        rest = behind;
     }
-    0
+    None
 }
 
-// Whether something that encloses the tree that ends at p serves a break or continue, up to the nearest function.
-pub fn any_behind(records: &[u64], p: usize, jump: u64, label: u64) -> bool
-    requires { p ≤ length records.now }
-    ensures { result ≡ any_serves jump label (enclosing 1 (drop p records.now)) }
+// Whether something that encloses the tree before these records serves a break or continue, up to the nearest function.
+pub fn any_behind(records: &[u64], jump: Jump) -> bool
+    ensures { result ≡ any_serves (kind_of jump.kind) jump.label (enclosing 1 records.now) }
 {
-    let mut q = next_above(records, p);
-    while 0 < q {
-        let kind = records[q - 2] % CHILD;
-        if kind == node::FUNCTION_DEF {
+    let mut rest = records;
+    while let Some(node) = next_above(rest) {
+        if node.kind == node::FUNCTION_DEF {
             return false;
         }
-        if node_serves(jump, label, kind, records[q - 1]) {
+        if node_serves(jump, node.kind, node.label) {
             return true;
         }
-        q = next_above(records, q);
+        rest = node.behind;
     }
     false
 }

@@ -1,21 +1,26 @@
 // The check behind a function of lent words alone, which crates/labels_c exports to C and Rust. An exported function can give back no enum, so an answer is two numbers.
-ghost use Rattle.std.specs.Prelude.{◌≡◌};
-ghost use Rattle.labels.specs.Contract.{ExportsChecking, flat_labels};
+ghost use Rattle.labels.specs.Contract.{ExportsChecking};
 
-use crate::{FlatLabels, Labels, check_labels};
+use crate::{FlatLabels, Offence, Refusal, check_labels};
+use grammar::limit;
 
-fn flatten(answer: Labels) -> FlatLabels
-    ensures { result ≡ flat_labels answer }
-{
-    match answer {
-        Labels::Fine => FlatLabels {
-            number: 0,
-            record_number: 0,
-        },
-        Labels::Refused(n, i) => FlatLabels {
-            number: n,
-            record_number: i as u64,
-        },
+impl From<Result<(), Refusal>> for FlatLabels {
+    ghost use Rattle.std.specs.Prelude.{◌≡◌};
+    ghost use Rattle.labels.specs.Contract.{flat_labels};
+
+    ghost from_gives = { λ answer flat. flat ≡ flat_labels answer };
+
+    fn from(answer: Result<(), Refusal>) -> FlatLabels {
+        let (number, record_number) = match answer {
+            Ok(()) => (0, 0),
+            Err(Refusal::NoStatement) => (limit::NO_STATEMENT, 0),
+            Err(Refusal::Offends(Offence::Labelled, i)) => (limit::OFFENDER_LABELLED, i),
+            Err(Refusal::Offends(Offence::Unlabelled, i)) => (limit::OFFENDER_UNLABELLED, i),
+        };
+        FlatLabels {
+            number,
+            record_number: record_number as u64,
+        }
     }
 }
 
@@ -24,5 +29,5 @@ fn flatten(answer: Labels) -> FlatLabels
 pub fn leatherlava_check_labels(records: &[u64]) -> FlatLabels
     ensures { ExportsChecking records.now result }
 {
-    flatten(check_labels(records))
+    FlatLabels::from(check_labels(records))
 }

@@ -19,9 +19,6 @@ use Rattle.writer.proofs.Laws.{at_many}
 pub record Down (L : List ℕ) (p q : ℕ) (what : Maybe Tree → Bool) : Type 0 where
   pub how : (m : Maybe Tree) (s : List Tree) → Spot L p m s → (n : Maybe Tree) × (u : List Tree) × Spot L q n u × (what m ≡ what n)
 
-pub down_start : {L : List ℕ} {p : ℕ} {what : Maybe Tree → Bool} → Down L p p what
-down_start = record { how = λ m s h. (m, s, h, refl) }
-
 module _ {L : List ℕ} {p q : ℕ} {what : Maybe Tree → Bool} (w : Down L p q what) where
   pub down_place : Somewhere L p → Somewhere L q
   down_place y =

@@ -2,12 +2,13 @@
 use mathlib.Core.Path.{◌≡◌}
 use mathlib.Core.Bool.{Bool, true, false}
 use mathlib.Core.List.{List, [], ◌∷◌}
-use Prim.Native.Nat.{ℕ}
-use lib.ListN.{length}
-use Rattle.tree.specs.Tree.{Tree}
+use Prim.Native.Nat.{ℕ, ◌*◌}
+use native.Mathlib.Omega.{arith}
+use lib.ListN.{length, length-append}
+use Rattle.tree.specs.Tree.{Tree, records}
 use Rattle.tree.specs.Maybe.{nothing, just}
 use Rattle.tree.specs.Decode.{decode}
-use Rattle.tree.specs.Records.{Small, StackSmall}
+use Rattle.tree.specs.Records.{Small, StackSmall, size, records_length, stack_records}
 use Rattle.grammar.specs.Reading.Limit.{no_statement}
 use Rattle.grammar.specs.Canonical.Writing.{bare, write_stmt}
 use Rattle.grammar.specs.declared.Written.TheVariants.{Refused}
@@ -15,6 +16,8 @@ use Rattle.tables.specs.Check.{legal_tree}
 use Rattle.tables.specs.Answer.{run_out}
 use Rattle.tables.proofs.Answer.{illegal_tree, legal_run}
 use Rattle.writer.specs.Stack.{At, ShapeAs, Shape}
+use Rattle.writer.specs.Verdict.{Whole}
+use Rattle.writer.proofs.Laws.{at_length}
 
 -- what the shape says
 pub shape_at : {L : List ℕ} {r b : Bool} → Shape L r → r ≡ b → ShapeAs L b
@@ -23,6 +26,11 @@ shape_at h e = rw e at h.how
 pub at_small : {L : List ℕ} {p : ℕ} {t : Tree} → At L p (t ∷ []) → Small t
 unfolding StackSmall
 at_small a = a.small.0
+
+-- each record has two words
+pub whole_even : {L : List ℕ} → Whole L → (n : ℕ) × (length L ≡ 2 * n)
+unfolding stack_records
+whole_even w = (size w.top, omega (arith, at_length w.here, length-append [] (records w.top), records_length w.top))
 
 -- ---------------------------------------------------------------- the three ways of the entry
 pub no_tree : (L : List ℕ) (m : ℕ) → decode L ≡ nothing → write_stmt L m ≡ bare m (Refused no_statement)

@@ -8,7 +8,11 @@ use lib.Dec.{eqb, ltb, leb}
 use native.Mathlib.Decide.{ℕ_discrete}
 use borrow.Author.Tests.{eq-eqb, ne_eqb, eqb-true, ltb-false, leb-false}
 use lib.ListN.{length, get_or, set, take, length-append, length-set}
+use mir.Val.{bool_byte}
 use lib.Seq.{take-take, take-append_seam, get_or-set_same, get_or-set_other}
+use Rattle.std.specs.Prelude.{IfSome, MatchOption}
+use Rattle.std.specs.declared.option.Option.{Option}
+use Rattle.std.specs.declared.option.Option.TheVariants.{Some, None}
 use Rattle.tree.specs.NodeKind
 use Rattle.tree.specs.Tree.{Tree, Forest, node, none, more, count, records}
 use Rattle.tree.specs.Maybe.{Maybe, nothing, just}
@@ -19,7 +23,7 @@ use Rattle.tables.specs.Sound.{exceeds, arity, sound}
 use Rattle.tables.specs.Check.{class_of, begins_labelled, first_labelled}
 use Rattle.tables.specs.Children.{kind_in, count_in, value_in, children_in, first_tree, last_tree}
 use Rattle.writer.specs.Stack.{At, Here, Skipped, SpotAs, Spot, Somewhere, Says}
-use Rattle.writer.specs.Standing.{first_of, first_kept, keep_from, keep_in, no_word, name_serves, serves_as, serves, one, entry, Entry, Kept, Keeps, On, AtNode, SoundAt, Tells}
+use Rattle.writer.specs.Standing.{first_of, first_kept, keep_from, keep_in, name_serves, serves_as, serves, one, entry, Entry, Kept, Keeps, On, AtNode, SoundAt, Tells}
 use Rattle.writer.specs.Verdict.{FirstAs, First}
 use Rattle.writer.proofs.Laws.{at_many, at_length, length_back, pop}
 use Rattle.writer.proofs.Spots.{back_last}
@@ -74,6 +78,11 @@ pub under_place : {L : List ℕ} {b : ℕ} {s : List Tree} → At L b s → Some
 under_place {s = s} a = let x = under_spot s a in record { tree = first_of s; rest = x.0; spot = x.1 }
 
 -- ---------------------------------------------------------------- a word of what is kept
+-- a flag as the code has it
+pub byte_is : (b : Bool) → bool_byte b ≡ one b
+byte_is true = refl
+byte_is false = refl
+
 pub one_is : (b : Bool) → (one b ≤ 1) × (eqb (one b) 1 ≡ b)
 one_is true = (omega arith, refl)
 one_is false = (omega arith, refl)
@@ -101,11 +110,17 @@ module _ {w : ℕ} {t : Tree} {s : List Tree} (e : Entry w t s) where
 
 -- ---------------------------------------------------------------- the trees that are kept
 module _ {L F : List ℕ} {base i q : ℕ} (y : On L F base i q) where
-  pub on_entry : base ≤ i → Entry (get_or F (i - base) 0) y.top y.rest
+  on_entry : base ≤ i → Entry (get_or F (i - base) 0) y.top y.rest
   unfolding Kept
   on_entry h =
       let m = y.many in
       subst (λ (n : ℕ). Entry (get_or F (n - base) 0) y.top y.rest) m (y.kept.0 (omega arith))
+
+  -- what was found to be kept of the tree
+  pub word_found : {r : Option ℕ} {w : ℕ} → MatchOption r (i < base) (λ (w : ℕ). (base ≤ i) × (w ≡ get_or F (i - base) 0)) → r ≡ Some w → Entry w y.top y.rest
+  word_found found e =
+      let f = rw e at found in
+      rw f.1 (on_entry f.0)
 
   pub on_here : Here L q
   on_here = record { top = y.top; rest = y.rest; here = y.here }
@@ -288,24 +303,24 @@ keep_stored F base i w t s l z e k = go (from_is (length F) base i)
     go (others h n) = ((λ (b : base ≤ length s). rw (l, get_or-set_same F (i - base) w 0 n) e), kept_set F base (i - base) w s (omega arith) k)
 
 -- what is kept is right then, and there is room for it
-module _ {F F' : List ℕ} {base i w r : ℕ} (x : Keeps F F' base i w r) where
-  pub keeps_right : (t : Tree) (s : List Tree) → length s ≡ i → ((w ≡ no_word → ⊥) → Entry w t s) → Kept F base s → Kept F' r (t ∷ s)
+module _ {F F' : List ℕ} {base i r : ℕ} {w : Option ℕ} (x : Keeps F F' base i w r) where
+  pub keeps_right : (t : Tree) (s : List Tree) → length s ≡ i → IfSome w (λ w. Entry w t s) → Kept F base s → Kept F' r (t ∷ s)
   unfolding keep_from keep_in
-  keeps_right t s l e k = rw (x.from, x.words) (go (ℕ_discrete w no_word) (ℕ_discrete (length F) 0))
+  keeps_right t s l e k = rw (x.from, x.words) (go w e (ℕ_discrete (length F) 0))
     where
       none_kept : {n : ℕ} (G : List ℕ) → n ≡ i + 1 → Kept G n (t ∷ s)
       none_kept {n} G z = kept_none G n (t ∷ s) (omega arith)
 
-      go : Dec (w ≡ no_word) → Dec (length F ≡ 0) → Kept (keep_in F base i w) (keep_from (length F) base i w) (t ∷ s)
-      go (yes a) d = rw (eq-eqb w no_word a) (none_kept F refl)
-      go (no a) (yes b) = rw (ne_eqb w no_word a, eq-eqb (length F) 0 b) (none_kept F refl)
-      go (no a) (no b) = rw (ne_eqb w no_word a, ne_eqb (length F) 0 b) (keep_stored F base i w t s l (omega arith) (e a) k)
+      go : (w : Option ℕ) → IfSome w (λ w. Entry w t s) → Dec (length F ≡ 0) → Kept (keep_in F base i w) (keep_from (length F) base i w) (t ∷ s)
+      go None e d = none_kept F refl
+      go (Some w) e (yes b) = rw (eq-eqb (length F) 0 b) (none_kept F refl)
+      go (Some w) e (no b) = rw (ne_eqb (length F) 0 b) (keep_stored F base i w t s l (omega arith) e k)
 
   pub keeps_room : i + 1 ≤ r + length F'
   unfolding keep_from keep_in
-  keeps_room = rw (x.from, x.words) (go (ℕ_discrete w no_word) (ℕ_discrete (length F) 0))
+  keeps_room = rw (x.from, x.words) (go w (ℕ_discrete (length F) 0))
     where
-      go : Dec (w ≡ no_word) → Dec (length F ≡ 0) → i + 1 ≤ keep_from (length F) base i w + length (keep_in F base i w)
-      go (yes a) d = rw (eq-eqb w no_word a) (omega arith)
-      go (no a) (yes b) = rw (ne_eqb w no_word a, eq-eqb (length F) 0 b) (omega arith)
-      go (no a) (no b) = rw (ne_eqb w no_word a, ne_eqb (length F) 0 b) (simp length-set (omega (arith, from_room base {n = length F} {i = i} refl (omega arith))))
+      go : (w : Option ℕ) → Dec (length F ≡ 0) → i + 1 ≤ keep_from (length F) base i w + length (keep_in F base i w)
+      go None d = omega arith
+      go (Some w) (yes b) = rw (eq-eqb (length F) 0 b) (omega arith)
+      go (Some w) (no b) = rw (ne_eqb (length F) 0 b) (simp length-set (omega (arith, from_room base {n = length F} {i = i} refl (omega arith))))

@@ -91,13 +91,6 @@ over_step {L} {q} {left} {s} o h = go o.open_ones o.at o.many
         let g : get_or L (q - 2) 0 / 256 ≡ count f = w.kids in
         (w.two, record { open_ones = back f u; at = subst (λ (x : List Tree). At L (q - 2) x) (back_append f u s) w.under; many = omega arith })
 
-pub over_end : {L : List ℕ} {q left : ℕ} {s : List Tree} → Over L q left s → left ≡ 0 → At L q s
-over_end {L} {q} {left} {s} o h = go o.open_ones o.at o.many
-  where
-    go : (u : List Tree) → At L q (u ++ s) → length u ≡ left → At L q s
-    go [] a m = a
-    go (t ∷ u) a m = absurd (omega arith)
-
 pub over_bound : {L : List ℕ} {q left : ℕ} {s : List Tree} → Over L q left s → 2 * left ≤ q
 over_bound {L} {q} {left} {s} o = omega (arith, at_many o.at, length-append o.open_ones s, o.many)
 

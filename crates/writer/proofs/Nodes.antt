@@ -16,12 +16,19 @@ use Rattle.tables.proofs.Same.Depth.{deeper_base}
 use Rattle.writer.specs.Post.{StepAs, WroteTree}
 use Rattle.writer.specs.Stack.{At, Says}
 use Rattle.tables.specs.Children.{kind_in, value_in, children_in}
+use Rattle.writer.specs.declared.form.Form.{Form}
+use Rattle.writer.specs.declared.form.Place.{Place}
+use Rattle.writer.specs.Form.{place_number, form_number, FormAt}
 use Rattle.writer.specs.Text.{Put, Opened}
 use Rattle.output.specs.Text.{Holds}
 use Rattle.tables.specs.Tokens.{after_token}
+use Rattle.std.specs.declared.result.Result.{Result}
+use Rattle.std.specs.declared.result.Result.TheVariants.{Ok, Err}
 use Rattle.writer.specs.declared.Step.{Step}
-use Rattle.writer.specs.declared.Step.TheVariants.{Done, Deep}
+use Rattle.writer.specs.declared.TooDeep.{TooDeep}
 use Rattle.writer.proofs.Laws.{pop, back_append, length_back}
+use Rattle.writer.proofs.Places.{stands}
+use Rattle.writer.proofs.Keeping.{says_one}
 use Rattle.writer.proofs.Kids.{from_first, from_last, test_back}
 use Rattle.writer.proofs.Writing.{under_top}
 
@@ -78,6 +85,11 @@ base_deep {L} {p} {b} {d} place (node k v f) s at e h =
     let g : b ≡ base k = rw x.kind at e in
     within_node k v place d f ∙ rw (lt-leb (base k) d (rw (← g) h))
 
+-- the form that was found, by the number that the tables have for it
+pub form_says : {L : List ℕ} {p : ℕ} {place : Place} {form : Form} {t : Tree} {s : List Tree} → FormAt L p place form → At L p (t ∷ s)
+    → Says L p (λ x. form_of (kind_in x) (value_in x) (children_in x) (place_number place)) (form_number (get_or L (p - 2) 0 % 256) form)
+form_says {L} {p} {form = form} {t = node k v f} {s} x a = says_one a (ap (λ (n : ℕ). form_number n form) (pop a).kind ∙ x.how (just (node k v f)) s (stands a))
+
 -- all children are left
 pub left_start : {L : List ℕ} {p b d m a : ℕ} {O : List ℕ} (place : ℕ) (t : Tree) (s : List Tree) (X : List ℕ) → At L p (t ∷ s) → b ≡ base (get_or L (p - 2) 0 % 256) → b ≤ d
     → Says L p (λ x. form_of (kind_in x) (value_in x) (children_in x) place) m → Holds a O (closed (get_or L (p - 2) 0 % 256) (get_or L (p - 1) 0) m X)
@@ -132,13 +144,13 @@ last {L} {s} {Y} {enough} {d} {k} {v} {m} {n} {p} {O} {j} {q} {a} w h = go w.kid
 
 module _ {L : List ℕ} {s : List Tree} {Y : List ℕ} {enough : Bool} {d k v m n p : ℕ} {O : List ℕ} {j q a : ℕ} (w : Last L s Y enough d k v m n p O j q a) {its below : ℕ} (pe : its ≡ place_of k v m j) (de : below ≡ deeper k m j) where
   -- what a call says of it
-  called : {O₁ O₂ : List ℕ} {c b : ℕ} {r : Step} → c ≡ after_token k v m n j → Put c 0 a b O O₁ → WroteTree L (d - below) its q b O₁ O₂ r
+  called : {O₁ O₂ : List ℕ} {b : ℕ} {r : Result Step TooDeep} → Put (after_token k v m n j) 0 a b O O₁ → WroteTree L (d - below) its q b O₁ O₂ r
       → StepAs (enough_for k v m d j w.top) L (w.others ++ s) (text w.top (place_of k v m j) (emit (after_token k v m n j) 0 w.words)) O₂ r
-  called ce put x = rw (← pe, ← de, ← ce) (x.how w.top (w.others ++ s) _ w.here (put.how w.words w.holds))
+  called put x = rw (← pe, ← de) (x.how w.top (w.others ++ s) _ w.here (put.how w.words w.holds))
 
-  pub last_done : {O₁ O₂ : List ℕ} {c b e q₂ : ℕ} {r : Step} → c ≡ after_token k v m n j → Put c 0 a b O O₁ → WroteTree L (d - below) its q b O₁ O₂ r → r ≡ Done q₂ e → Left L s Y enough d k v m n p O₂ (j - 1) q₂ e
-  last_done ce put x re =
-      let t = rw re at (called ce put x) in
+  pub last_done : {O₁ O₂ : List ℕ} {b : ℕ} {step : Step} {r : Result Step TooDeep} → Put (after_token k v m n j) 0 a b O O₁ → WroteTree L (d - below) its q b O₁ O₂ r → r ≡ Ok step → Left L s Y enough d k v m n p O₂ (j - 1) step.records step.words
+  last_done put x re =
+      let t = rw re at (called put x) in
       let y = under_top w.here t.1 in
       let z = w.below in
       record {
@@ -152,13 +164,13 @@ module _ {L : List ℕ} {s : List Tree} {Y : List ℕ} {enough : Bool} {d k v m 
         below = omega arith;
       }
 
-  pub last_deep : {O₁ O₂ : List ℕ} {c b : ℕ} {r : Step} → c ≡ after_token k v m n j → Put c 0 a b O O₁ → WroteTree L (d - below) its q b O₁ O₂ r → r ≡ Deep → enough ≡ false
-  last_deep ce put x re =
-      let t = rw re at (called ce put x) in
+  pub last_deep : {O₁ O₂ : List ℕ} {b : ℕ} {r : Result Step TooDeep} {e : TooDeep} → Put (after_token k v m n j) 0 a b O O₁ → WroteTree L (d - below) its q b O₁ O₂ r → r ≡ Err e → enough ≡ false
+  last_deep put x re =
+      let t = rw re at (called put x) in
       w.deep ∙ rw t
 
 -- no child is left
-pub left_end : {L : List ℕ} {s : List Tree} {Y : List ℕ} {enough : Bool} {d k v m n p : ℕ} {O O' : List ℕ} {j q a b : ℕ} → Left L s Y enough d k v m n p O j q a → j ≤ 0 → Opened k v m a b O O' → (enough ≡ true) × At L q s × Holds b O' Y
+pub left_end : {L : List ℕ} {s : List Tree} {Y : List ℕ} {enough : Bool} {d k v m n p : ℕ} {O O' : List ℕ} {j q a b : ℕ} → Left L s Y enough d k v m n p O j q a → j ≡ 0 → Opened k v m a b O O' → (enough ≡ true) × At L q s × Holds b O' Y
 unfolding textR from_last
 left_end {L} {s} {Y} {enough} {d} {k} {v} {m} {n} {p} {O} {O'} {j} {q} {a} {b} w h o = go w.kids w.here w.many w.same w.deep
   where

@@ -18,8 +18,10 @@ use Rattle.writer.specs.Stack.{At}
 use Rattle.writer.specs.Text.{Put}
 use Rattle.output.specs.Text.{Holds}
 use Rattle.tables.specs.Tokens.{first_token, later_first_token, second_token, third_token, after_token, first_after, behind_token, last_token}
+use Rattle.std.specs.declared.result.Result.{Result}
+use Rattle.std.specs.declared.result.Result.TheVariants.{Ok, Err}
 use Rattle.writer.specs.declared.Step.{Step}
-use Rattle.writer.specs.declared.Step.TheVariants.{Done, Deep}
+use Rattle.writer.specs.declared.TooDeep.{TooDeep}
 use Rattle.writer.proofs.Laws.{pop}
 use Rattle.writer.proofs.Writing.{under_top, wrote_at}
 
@@ -79,14 +81,14 @@ sides {L} {s} {Y} {enough} {d} {from} {O} {at} {p} {a} w h = go w.top w.here w.s
         }
     go (node k v (more t (more u (more x f)))) here e g = absurd (omega (arith, (pop here).kids))
 
-module _ {L : List ℕ} {s : List Tree} {Y : List ℕ} {enough : Bool} {d from : ℕ} {O : List ℕ} {at p a : ℕ} (w : Sides L s Y enough d from O at p a) {O₁ : List ℕ} {r : Step} (x : WroteTree L d Own (p - 2) a O O₁ r) where
+module _ {L : List ℕ} {s : List Tree} {Y : List ℕ} {enough : Bool} {d from : ℕ} {O : List ℕ} {at p a : ℕ} (w : Sides L s Y enough d from O at p a) {O₁ : List ℕ} {r : Result Step TooDeep} (x : WroteTree L d Own (p - 2) a O O₁ r) where
   -- the right side is written
-  pub side_written : {q e : ℕ} → r ≡ Done q e → (within w.right Own d ≡ true) × At L q (w.left ∷ s) × Holds e O₁ (text w.right Own w.words)
+  pub side_written : {step : Step} → r ≡ Ok step → (within w.right Own d ≡ true) × At L step.records (w.left ∷ s) × Holds step.words O₁ (text w.right Own w.words)
   side_written re = wrote_at x re w.right (w.left ∷ s) w.words w.here w.holds
 
   -- on with the left side
-  pub side_done : {O₂ : List ℕ} {c q e b : ℕ} → r ≡ Done q e → c ≡ op_token (get_or L (p - 1) 0) → Put c 0 e b O₁ O₂ → Stage L s Y enough d from O₂ Own q b
-  side_done re ce put =
+  pub side_done : {O₂ : List ℕ} {step : Step} {b : ℕ} → r ≡ Ok step → Put (op_token (get_or L (p - 1) 0)) 0 step.words b O₁ O₂ → Stage L s Y enough d from O₂ Own step.records b
+  side_done re put =
       let t = side_written re in
       let y = under_top w.here t.1 in
       let z = w.below in
@@ -94,11 +96,11 @@ module _ {L : List ℕ} {s : List Tree} {Y : List ℕ} {enough : Bool} {d from :
         top = w.left;
         words = emit (op_token (get_or L (p - 1) 0)) 0 (text w.right Own w.words);
         here = t.1;
-        holds = rw (← ce) (put.how (text w.right Own w.words) t.2);
+        holds = put.how (text w.right Own w.words) t.2;
         same = w.same;
         deep = w.deep ∙ rw (t.0, and-true (within w.left Own d));
         below = omega arith;
       }
 
-  pub side_deep : r ≡ Deep → enough ≡ false
+  pub side_deep : {e : TooDeep} → r ≡ Err e → enough ≡ false
   side_deep re = w.deep ∙ rw (wrote_at x re w.right (w.left ∷ s) w.words w.here w.holds, and-false (within w.left Own d))

@@ -3,18 +3,13 @@ use mathlib.Core.Path.{◌≡◌, refl, subst}
 use mathlib.Core.List.{List, [], ◌∷◌}
 use Prim.Native.Nat.{ℕ, ◌-◌, ◌/◌, ◌%◌, ◌≤◌, ◌<◌}
 use native.Mathlib.Omega.{arith}
-use lib.ListN.{length, get_or}
+use lib.ListN.{get_or}
 use Rattle.tree.specs.Tree.{Tree, Forest, node, none, more, count}
 use Rattle.tree.specs.Maybe.{Maybe, nothing, just}
 use Rattle.tree.specs.Records.{back}
 use Rattle.writer.specs.Stack.{At, Spot}
 use Rattle.tables.specs.Children.{kind_in, count_in, value_in, last_tree, last_in}
 use Rattle.writer.proofs.Laws.{at_many, pop}
-
--- a place lies in the records
-pub spot_bound : {L : List ℕ} {p : ℕ} {m : Maybe Tree} {s : List Tree} → Spot L p m s → p ≤ length L
-spot_bound {m = nothing} h = omega (arith, h.how)
-spot_bound {m = just t} h = h.how.inside
 
 -- below 2 there is no tree
 pub spot_none : {L : List ℕ} {p : ℕ} (m : Maybe Tree) (s : List Tree) → p < 2 → Spot L p m s → m ≡ nothing

@@ -13,8 +13,8 @@ use Rattle.tree.specs.Maybe.{Maybe, nothing, just}
 use Rattle.grammar.specs.Canonical.Write.{tail_of, target_atom, target_items, target_path, target_receiver, is_target, has_function}
 use Rattle.grammar.specs.Reading.Function.{target_name}
 use Rattle.tables.specs.Kinds.{target_item, name_is, gives_name}
-use Rattle.writer.specs.declared.target.Fitting.{Fitting}
-use Rattle.writer.specs.declared.target.Fitting.TheVariants.{From, Not}
+use Rattle.std.specs.declared.option.Option.{Option}
+use Rattle.std.specs.declared.option.Option.TheVariants.{Some, None}
 use Rattle.writer.specs.Stack.{Skipped, SpotAs, Spot, Somewhere, Says, KidOf, nth_tree, kid_in, push, maybe}
 use Rattle.tables.specs.Children.{kind_in, value_in, children_in, first_tree}
 use Rattle.tables.specs.Check.{name_given, function_form}
@@ -55,8 +55,8 @@ no_path (more (node k v f) g) e =
     absurd (omega arith)
 
 -- the receiver's path ends at q, and its items were tested one by one
-module _ {L : List ℕ} {p q : ℕ} (path : KidOf L p 2 q) (some : q ≡ 0 → ⊥) {r : Fitting} (w : Fit L q (λ t. target_items (children_in (just t))) r) where
-  pub bad_path : r ≡ Not → (m : Maybe Tree) (s : List Tree) → Spot L p m s → target_path (tail_of (children_in m)) ≡ false
+module _ {L : List ℕ} {p q : ℕ} (path : KidOf L p 2 q) (some : q ≡ 0 → ⊥) {r : Option ℕ} (w : Fit L q (λ t. target_items (children_in (just t))) r) where
+  pub bad_path : r ≡ None → (m : Maybe Tree) (s : List Tree) → Spot L p m s → target_path (tail_of (children_in m)) ≡ false
   bad_path e m s h = go (children_in m) (path.how m s h).how
     where
       go : (f : Forest) → SpotAs L q (nth_tree 1 f) (push 1 f s) → target_path (tail_of f) ≡ false
@@ -65,7 +65,7 @@ module _ {L : List ℕ} {p q : ℕ} (path : KidOf L p 2 q) (some : q ≡ 0 → �
       go (more x (more (node k v g) f)) a = fit_at w (node k v g) _ a e
 
   -- the atom ends where the path begins
-  pub good_path : {b : ℕ} → r ≡ From b → (m : Maybe Tree) (s : List Tree) → Spot L p m s → (target_path (tail_of (children_in m)) ≡ true) × Spot L b (kid_in 1 m) s
+  pub good_path : {b : ℕ} → r ≡ Some b → (m : Maybe Tree) (s : List Tree) → Spot L p m s → (target_path (tail_of (children_in m)) ≡ true) × Spot L b (kid_in 1 m) s
   good_path {b} e m s h = go (children_in m) (path.how m s h).how
     where
       go : (f : Forest) → SpotAs L q (nth_tree 1 f) (push 1 f s) → (target_path (tail_of f) ≡ true) × Spot L b (first_tree f) s

@@ -4,18 +4,40 @@ use mathlib.Core.List.{List, [], ◌∷◌}
 use Prim.Native.Nat.{ℕ, zero, suc, ◌+◌, ◌-◌, ◌≤◌, ◌<◌}
 use native.Mathlib.Numerals.{add-two}
 use native.Mathlib.Omega.{arith}
-use borrow.Author.Tests.{ne_eqb}
+use lib.Dec.{eqb}
+use borrow.Author.Tests.{ne_eqb, eqb-true, eqb-false}
 use lib.ListN.{length, drop, get_or, set, length-set, length-drop}
 use lib.Seq.{get_or-set_same, get_or-set_other, drop-set-lt, drop-length}
+use Rattle.std.specs.declared.option.Option.TheVariants.{Some, None}
+use Rattle.grammar.proofs.Laws.Facts.{by_test}
 use Rattle.tables.specs.Operators.{NoToken}
 use Rattle.output.specs.Text.{HoldsAs, Holds}
-use Rattle.writer.specs.Text.{Put, Opened, Closed}
+use Rattle.writer.specs.Text.{token_in, Put, Opened, Closed}
 use Rattle.tables.specs.Layout.{emit, opened, closed}
 use Rattle.tables.specs.Tokens.{first_token, second_token, third_token, behind_token, last_token, carried}
 use Rattle.writer.proofs.Shaping.{drop_two}
 
 pub holds_all : (S : List ℕ) → Holds (length S + 2) S []
 holds_all S = rw (add-two (length S)) (record { how = (omega arith, drop-length S) })
+
+-- the kind of no token, and that of one
+pub kind_none : {c : ℕ} → None ≡ token_in c → c ≡ NoToken
+unfolding token_in
+kind_none {c} e =
+    by_test (eqb c NoToken) (λ x. eqb-true c NoToken x) λ x.
+    let clash : None ≡ Some c = e ∙ rw x in
+    absurd cc
+
+pub kind_some : {c k : ℕ} → Some k ≡ token_in c → (k ≡ c) × (c ≡ NoToken → ⊥)
+unfolding token_in
+kind_some {c} {k} e =
+    by_test (eqb c NoToken)
+    (λ x.
+    let clash : Some k ≡ None = e ∙ rw x in
+    absurd cc)
+    (λ x.
+    let same : Some k ≡ Some c = e ∙ rw x in
+    (cc, eqb-false c NoToken x))
 
 -- a text has room for its token or not, at most two words before it
 pub put_none : {a c v : ℕ} {S : List ℕ} → c ≡ NoToken → a ≤ length S + 2 → Put c v a a S S
@@ -61,21 +83,21 @@ pub put_full : {a c v : ℕ} {S : List ℕ} → (c ≡ NoToken → ⊥) → 4 �
 put_full {a} {c} {v} {S} n l b = record { how = λ X h. rw (emitted c v X n) (full_as a c v S X l h); long = length-set (set S (a - 4) c) (a - 3) v ∙ length-set S (a - 4) c; room = omega arith }
 
 -- ---------------------------------------------------------------- the tokens behind a node's children and before them
-pub closed_puts : {kind value form a b e last held behind : ℕ} {S S₁ S₂ : List ℕ} → last ≡ last_token kind → held ≡ carried kind value last → behind ≡ behind_token kind form
-    → Put last held a b S S₁ → Put behind 0 b e S₁ S₂ → Closed kind value form a e S S₂
+pub closed_puts : {kind value form a b e held : ℕ} {S S₁ S₂ : List ℕ} → held ≡ carried kind value (last_token kind)
+    → Put (last_token kind) held a b S S₁ → Put (behind_token kind form) 0 b e S₁ S₂ → Closed kind value form a e S S₂
 unfolding closed
-closed_puts l h d p q =
+closed_puts h p q =
     let m = p.long in
     let n = q.long in
     let r = q.room in
-    record { how = λ X x. rw (← d, ← l, ← h) (q.how _ (p.how X x)); long = n ∙ m; room = omega arith }
+    record { how = λ X x. rw (← h) (q.how _ (p.how X x)); long = n ∙ m; room = omega arith }
 
-pub opened_puts : {kind value form a b e i first held second held₂ third : ℕ} {S S₁ S₂ S₃ : List ℕ} → third ≡ third_token kind → second ≡ second_token kind value → held₂ ≡ carried kind value second
-    → first ≡ first_token kind value form → held ≡ carried kind value first → Put third 0 a b S S₁ → Put second held₂ b e S₁ S₂ → Put first held e i S₂ S₃ → Opened kind value form a i S S₃
+pub opened_puts : {kind value form a b e i held held₂ : ℕ} {S S₁ S₂ S₃ : List ℕ} → held₂ ≡ carried kind value (second_token kind value)
+    → held ≡ carried kind value (first_token kind value form) → Put (third_token kind) 0 a b S S₁ → Put (second_token kind value) held₂ b e S₁ S₂ → Put (first_token kind value form) held e i S₂ S₃ → Opened kind value form a i S S₃
 unfolding opened
-opened_puts t s g f h p q r =
+opened_puts g h p q r =
     let m = p.long in
     let n = q.long in
     let o = r.long in
     let w = r.room in
-    record { how = λ X x. rw (← f, ← h, ← s, ← g, ← t) (r.how _ (q.how _ (p.how X x))); long = o ∙ n ∙ m; room = omega arith }
+    record { how = λ X x. rw (← h, ← g) (r.how _ (q.how _ (p.how X x))); long = o ∙ n ∙ m; room = omega arith }

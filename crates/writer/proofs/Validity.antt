@@ -20,10 +20,14 @@ use Rattle.writer.proofs.Laws.{pop, at_many, at_length}
 use Rattle.writer.proofs.Kids.{from_first}
 
 -- ---------------------------------------------------------------- one child
+not_or : (a b : Bool) → not (a || b) ≡ not a && not b
+not_or true b = refl
+not_or false b = refl
+
 -- by what was asked in turn: the class, how it begins, how it ends
 pub kid_is : (t : Tree) (asked k v : ℕ) {c : ℕ} {g a b : Bool} → c ≡ class_of t → g ≡ fits asked c → a ≡ unlabelled k v && begins_labelled t
-    → b ≡ not (closed k) && maybe false ends_single (just t) → g && not (a || b) ≡ fits asked (class_of t) && not (banned k v t)
-kid_is t asked k v ce ge ae be = rw (ge, ae, be, ce)
+    → b ≡ not (closed k) && maybe false ends_single (just t) → g && (not a && not b) ≡ fits asked (class_of t) && not (banned k v t)
+kid_is t asked k v {a = a} {b = b} ce ge ae be = rw (← not_or a b, ge, ae, be, ce)
 
 -- ---------------------------------------------------------------- one node
 abbrev pub kid_test : ℕ → ℕ → ℕ → ℕ → Tree → Bool

@@ -7,8 +7,6 @@ use native.Mathlib.Omega.{arith}
 use lib.Dec.{eqb, leb}
 use borrow.Author.Tests.{leb-false}
 use lib.ListN.{length}
-use types.Run.{OneOf}
-use denote.Enum.Declared.{tag_of}
 use Rattle.tree.specs.Tree.{Tree, node, count}
 use Rattle.tree.specs.Maybe.{just}
 use Rattle.tree.specs.Records.{stack_records, back}
@@ -16,53 +14,42 @@ use Rattle.tables.specs.Class as Class
 use Rattle.tables.specs.Class.{class}
 use Rattle.tables.specs.Children.{kind_in, value_in, children_in}
 use Rattle.tables.specs.Check.{class_of, mode_of, begins_labelled, legal_tree}
-use Rattle.writer.specs.declared.legal.Children.{Children}
-use Rattle.writer.specs.declared.legal.Judged.{Judged}
+use Rattle.std.specs.Prelude.{IfSome}
+use Rattle.std.specs.declared.option.Option.{Option}
+use Rattle.std.specs.declared.option.Option.TheVariants.{Some, None}
+use Rattle.writer.specs.declared.legal.Kids.{Kids}
 use Rattle.writer.specs.Stack.{At, Skipped}
-use Rattle.writer.specs.Standing.{serves, no_word, far, word, entry, Entry, Kept, On, AtNode, Keeps, Tells}
-use Rattle.writer.specs.Verdict.{First, Items, KidsFitAs, KidsFit, VisitedAs, Visited, Whole}
-use Rattle.writer.specs.contracts.legal.Children as children_type
-use Rattle.writer.specs.contracts.legal.Judged as judged_type
+use Rattle.writer.specs.Standing.{serves, far, word, entry, Entry, Kept, On, AtNode, Keeps, Tells}
+use Rattle.writer.specs.Verdict.{Items, KidsFitAs, KidsFit, VisitedAs, Visited, Whole}
 use Rattle.writer.proofs.Laws.{at_many, length_back}
 use Rattle.writer.proofs.Places.{class_same}
 use Rattle.writer.proofs.Keeping.{at_one, at_each, kept_back, keeps_right, keeps_room}
 use Rattle.writer.proofs.Validity.{Passed, Next, way_at, passed_start, passed_next, passed_end, whole_bad, whole_good}
 
 -- ---------------------------------------------------------------- by the answers
-pub kids_not : (r : Children) → OneOf (1 ∷ []) (tag_of children_type.the_type r) → r ≡ Children.Not
-kids_not (Children.Stand b e items) o = absurd (omega arith)
-kids_not Children.Not o = refl
-
-pub judged_not : (r : Judged) → OneOf (1 ∷ []) (tag_of judged_type.the_type r) → r ≡ Judged.Not
-judged_not (Judged.Fits w) o = absurd (omega arith)
-judged_not Judged.Not o = refl
-
-module _ {L : List ℕ} {p m : ℕ} {r : Children} (w : KidsFit L p m r) where
-  pub kids_at : {x : Children} → r ≡ x → (t : Tree) (s : List Tree) → At L p (t ∷ s) → KidsFitAs L m t s x
+module _ {L : List ℕ} {p m : ℕ} {r : Option Kids} (w : KidsFit L p m r) where
+  pub kids_at : {x : Option Kids} → r ≡ x → (t : Tree) (s : List Tree) → At L p (t ∷ s) → KidsFitAs L m t s x
   kids_at e t s a = rw e at (w.how t s a)
 
-  module _ {b e : ℕ} {items : Bool} (fit : r ≡ Children.Stand b e items) where
-    pub fit_begins : Skipped L p b
+  module _ {k : Kids} (fit : r ≡ Some k) where
+    pub fit_begins : Skipped L p k.begin
     fit_begins = record { how = λ t s a. (kids_at fit t s a).1 }
 
-    pub fit_first : First L p e
-    fit_first = record { how = λ t s a. (kids_at fit t s a).2 }
-
-    pub fit_items : Items L p items
+    pub fit_items : Items L p k.items
     fit_items = record { how = λ t s a. (kids_at fit t s a).3 }
 
 -- ---------------------------------------------------------------- what is to be kept of a node
 pub class_found : (t : Tree) {k v m c : ℕ} → k ≡ kind_in (just t) → v ≡ value_in (just t) → m ≡ mode_of (kind_in (just t)) (children_in (just t)) → c ≡ class k v m → c ≡ class_of t
 class_found t ke ve me ce = ce ∙ rw (ke, ve, me) (class_same t)
 
-pub entry_made : (t : Tree) (s : List Tree) {c b w : ℕ} {l x : Bool} → c ≡ class_of t → l ≡ begins_labelled t → x ≡ serves t s → b ≡ length (stack_records s) → w ≡ word c l x b → (w ≡ no_word → ⊥) → Entry w t s
+pub entry_made : (t : Tree) (s : List Tree) {c b : ℕ} {l x : Bool} {w : Option ℕ} → c ≡ class_of t → l ≡ begins_labelled t → x ≡ serves t s → b ≡ length (stack_records s) → w ≡ word c l x b → IfSome w (λ w. Entry w t s)
 unfolding entry word
-entry_made t s {c} {b} {w} {l} {x} ce le xe be e n = go (leb 128 c) (leb far b) refl refl
+entry_made t s {c} {b} {l} {x} {w} ce le xe be e = go (leb 128 c) (leb far b) refl refl
   where
-    go : (y z : Bool) → leb 128 c ≡ y → leb far b ≡ z → Entry w t s
-    go true z f g = absurd (n (e ∙ rw f))
-    go false true f g = absurd (n (e ∙ rw (f, g)))
-    go false false f g = record { small = rw ce at (leb-false 128 c f); same = e ∙ rw (f, g, ce, le, xe, be) }
+    go : (y z : Bool) → leb 128 c ≡ y → leb far b ≡ z → IfSome w (λ w. Entry w t s)
+    go true z f g = rw (e, f) tt
+    go false true f g = rw (e, f, g) tt
+    go false false f g = rw (e, f, g) (record { small = rw ce at (leb-false 128 c f); same = rw (ce, le, xe, be) })
 
 -- ---------------------------------------------------------------- where the pass stands: h trees before p, and what is kept of them
 pub record Going (L F : List ℕ) (p h base : ℕ) : Type 0 where
@@ -96,17 +83,17 @@ module _ {L F : List ℕ} {p h base : ℕ} (g : Going L F p h base) (z : p < len
       let many = g.many in
       record { kind = n.kind; value = n.value; kids = n.kids; rest = n.rest; here = n.at; many = omega arith; kept = subst (λ (s : List Tree). Kept F base s) n.is g.kept; room = g.room }
 
-  module _ {r : Judged} (w : Visited L (p + 2) r) where
-    pub next_bad : r ≡ Judged.Not → (t : Tree) → At L (length L) (t ∷ []) → false ≡ legal_tree t
+  module _ {r : Option (Option ℕ)} (w : Visited L (p + 2) r) where
+    pub next_bad : r ≡ None → (t : Tree) → At L (length L) (t ∷ []) → false ≡ legal_tree t
     next_bad e t a =
         let n = next_one in
         let f = w.how (node n.kind n.value n.kids) n.rest n.at in
         at_each g.whole.here (λ u s. false ≡ legal_tree u) (sym (whole_bad g.whole.top (n.bad (rw e at f)))) t [] a
 
-    pub next_good : {word i base' : ℕ} {F' : List ℕ} → r ≡ Judged.Fits word → i + count next_node.kids ≡ h → Keeps F F' base i word base' → Going L F' (p + 2) (i + 1) base'
+    pub next_good : {word : Option ℕ} {i base' : ℕ} {F' : List ℕ} → r ≡ Some word → i + count next_node.kids ≡ h → Keeps F F' base i word base' → Going L F' (p + 2) (i + 1) base'
     next_good {word} {i} {base'} {F'} e number keeps =
         let n = next_one in
-        let v : VisitedAs (node n.kind n.value n.kids) n.rest (Judged.Fits word) = rw e at (w.how _ _ n.at) in
+        let v : VisitedAs (node n.kind n.value n.kids) n.rest (Some word) = rw e at (w.how _ _ n.at) in
         let x = n.fits v.0 in
         let y = next_node in
         let l : length n.rest ≡ i = omega (arith, y.many) in

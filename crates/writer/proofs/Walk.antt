@@ -13,7 +13,9 @@ use Rattle.tables.specs.Children.{kind_in, first_tree}
 use Rattle.tables.specs.Kinds.{target_item}
 use Rattle.tables.specs.Demand.{demand}
 use Rattle.tables.specs.Check.{kids_fit}
-use Rattle.writer.specs.declared.legal.Children.{Children}
+use Rattle.std.specs.declared.option.Option.{Option}
+use Rattle.std.specs.declared.option.Option.TheVariants.{Some, None}
+use Rattle.writer.specs.declared.legal.Kids.{Kids}
 use Rattle.writer.specs.Stack.{At, Skipped}
 use Rattle.writer.specs.Standing.{Kept, On, AtNode, Tells}
 use Rattle.writer.specs.Verdict.{KidFits, FirstAs, KidsFitAs, KidsFit}
@@ -24,7 +26,7 @@ use Rattle.writer.proofs.Validity.{kid_test, kids_all}
 use Rattle.writer.proofs.Keeping.{at_each}
 
 -- what is told of the node at p holds for every tree that ends there
-kids_one : {L : List ℕ} {p m : ℕ} {t : Tree} {s : List Tree} {r : Children} → At L p (t ∷ s) → KidsFitAs L m t s r → KidsFit L p m r
+kids_one : {L : List ℕ} {p m : ℕ} {t : Tree} {s : List Tree} {r : Option Kids} → At L p (t ∷ s) → KidsFitAs L m t s r → KidsFit L p m r
 kids_one {L} {m = m} {r = r} a w = record { how = at_each a (λ t s. KidsFitAs L m t s r) w }
 
 -- ---------------------------------------------------------------- the tree at the bottom
@@ -130,7 +132,7 @@ module _ {L F : List ℕ} {base h p m k v j i q first : ℕ} {items : Bool} (w :
         let n = top_many z in
         ap (from_last (kid_test k v m)) (looks z).is ∙ rw (e, ask, n)
 
-    pub walk_bad : r ≡ false → KidsFit L p m Children.Not
+    pub walk_bad : r ≡ false → KidsFit L p m None
     walk_bad e = kids_one w.node_at.here (rw (← w.kind, ← w.value, w.same, tested, e))
 
     pub walk_next : {q' : ℕ} {items' : Bool} → r ≡ true → Skipped L q q' → Tells L q (λ t s. items && target_item (kind_in (just t))) items' → Walk L F base h p m k v (j - 1) (i - 1) q' q items'
@@ -167,10 +169,10 @@ module _ {L F : List ℕ} {base h p m k v j i q first : ℕ} {items : Bool} (w :
             the_first none y = tt
             the_first (more t f) y = let e : (looks z).top ≡ t = cc in subst (λ (b : Tree). At L q (b ∷ w.node_at.rest)) e a
 
-  pub walk_end : j ≡ 0 → KidsFit L p m (Children.Stand q first items)
+  pub walk_end : j ≡ 0 → KidsFit L p m (Some (record { begin = q; first = first; items = items }))
   unfolding from_last
   walk_end z = go w.kids w.many w.at w.same w.all_items
     where
-      go : (u : List Tree) → length u ≡ j → At L q (u ++ w.node_at.rest) → kids_fit k v m 1 w.node_at.kids ≡ from_last (kid_test k v m) u → target_items w.node_at.kids ≡ items && from_last item u → KidsFit L p m (Children.Stand q first items)
+      go : (u : List Tree) → length u ≡ j → At L q (u ++ w.node_at.rest) → kids_fit k v m 1 w.node_at.kids ≡ from_last (kid_test k v m) u → target_items w.node_at.kids ≡ items && from_last item u → KidsFit L p m (Some (record { begin = q; first = first; items = items }))
       go [] l a s e = kids_one w.node_at.here (rw (← w.kind, ← w.value) s, a, w.ended z, sym (e ∙ and-true items))
       go (t ∷ u) l a s e = absurd (omega arith)

@@ -1,5 +1,7 @@
 -- The trees that stand: finished, and their parents not yet visited. What their parents ask of them, and what is kept of them. Definitions; they assume nothing.
 use Rattle.std.specs.Prelude.{◌≡◌, Bool, true, false, cond, ◌&&◌, List, [], ◌∷◌, ℕ, ◌+◌, ◌*◌, ◌-◌, ◌≤◌, ◌<◌, eqb, ltb, leb, length, get_or, set}
+use Rattle.std.specs.declared.option.Option.{Option}
+use Rattle.std.specs.declared.option.Option.TheVariants.{Some, None}
 use Rattle.tree.specs.NodeKind
 use Rattle.tree.specs.Tree.{Tree, Forest, node, none, more, count, head_kind}
 use Rattle.tree.specs.Maybe.{Maybe, nothing, just}
@@ -10,6 +12,7 @@ use Rattle.tables.specs.Children.{kind_in, count_in, value_in}
 use Rattle.tables.specs.Kinds.{gives_name}
 use Rattle.tables.specs.Sound.{sound}
 use Rattle.tables.specs.Check.{class_of, begins_labelled}
+use Rattle.writer.specs.declared.standing.Standing.{Standing}
 use Rattle.writer.specs.Stack.{At}
 
 -- the tree on top of a stack, if there is one
@@ -43,18 +46,15 @@ one b = cond b 1 0
 unfoldable pub entry : Tree → List Tree → ℕ
 entry t s = class_of t + 128 * one (begins_labelled t) + 256 * one (serves t s) + 512 * length (stack_records s)
 
--- what no tree has; and what the code makes of a tree's numbers: nothing is kept of a tree whose numbers are too large for a word
-abbrev pub no_word : ℕ
-no_word = 18446744073709551615
-
+-- what the code makes of a tree's numbers: nothing is kept of a tree whose numbers are too large for a word
 abbrev pub far : ℕ
 far = 18014398509481984
 
-unfoldable pub word : ℕ → Bool → Bool → ℕ → ℕ
+unfoldable pub word : ℕ → Bool → Bool → ℕ → Option ℕ
 word class labelled serves b =
-    when leb 128 class then no_word else
-    when leb far b then no_word else
-    class + 128 * one labelled + 256 * one serves + 512 * b
+    when leb 128 class then None else
+    when leb far b then None else
+    Some (class + 128 * one labelled + 256 * one serves + 512 * b)
 
 pub record Entry (w : ℕ) (t : Tree) (s : List Tree) : Type 0 where
   pub small : class_of t < 128
@@ -85,6 +85,13 @@ pub record AtNode (L F : List ℕ) (base h p : ℕ) : Type 0 where
   pub kept : Kept F base (back kids rest)
   pub room : h ≤ base + length F
 
+-- the same of the pass's records, and of what it keeps
+abbrev pub TreeAt : Standing → ℕ → ℕ → Type 0
+TreeAt s i q = On s.records.now s.kept.now s.base i q
+
+abbrev pub NodeAt : Standing → ℕ → ℕ → Type 0
+NodeAt s h p = AtNode s.records.now s.kept.now s.base h p
+
 -- the record of the node at p is sound, so that it has the children of its kind
 pub record SoundAt (L : List ℕ) (p : ℕ) : Type 0 where
   pub how : (t : Tree) (s : List Tree) → At L p (t ∷ s) → sound (kind_in (just t)) (value_in (just t)) (count_in (just t)) ≡ true
@@ -96,20 +103,20 @@ first_kept n base i =
     when leb n (i - base) then i else
     base
 
--- the word w of that tree is kept: from which number on trees are kept then, and the words
-unfoldable pub keep_from : ℕ → ℕ → ℕ → ℕ → ℕ
-keep_from n base i w =
-    when eqb w no_word then i + 1 else
+-- the word w of that tree, if it has one, is kept: from which number on trees are kept then, and the words
+unfoldable pub keep_from : ℕ → ℕ → ℕ → Option ℕ → ℕ
+keep_from n base i None = i + 1
+keep_from n base i (Some w) =
     when eqb n 0 then i + 1 else
     first_kept n base i
 
-unfoldable pub keep_in : List ℕ → ℕ → ℕ → ℕ → List ℕ
-keep_in F base i w =
-    when eqb w no_word then F else
+unfoldable pub keep_in : List ℕ → ℕ → ℕ → Option ℕ → List ℕ
+keep_in F base i None = F
+keep_in F base i (Some w) =
     when eqb (length F) 0 then F else
     set F (i - first_kept (length F) base i) w
 
-pub record Keeps (F F' : List ℕ) (base i w r : ℕ) : Type 0 where
+pub record Keeps (F F' : List ℕ) (base i : ℕ) (w : Option ℕ) (r : ℕ) : Type 0 where
   pub from : r ≡ keep_from (length F) base i w
   pub words : F' ≡ keep_in F base i w
 

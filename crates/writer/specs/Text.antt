@@ -1,7 +1,19 @@
 -- The text at the output's end, and tokens before it. Definitions; they assume nothing.
-use Rattle.std.specs.Prelude.{◌≡◌, List, ℕ, ◌+◌, ◌≤◌, length}
+use Rattle.std.specs.Prelude.{◌≡◌, List, ℕ, ◌+◌, ◌≤◌, eqb, length}
+use Rattle.std.specs.declared.option.Option.{Option}
+use Rattle.std.specs.declared.option.Option.TheVariants.{Some, None}
+use Rattle.tables.specs.Choice.{when◌then◌else◌}
+use Rattle.tables.specs.Operators.{NoToken}
 use Rattle.tables.specs.Layout.{emit, opened, closed}
 use Rattle.output.specs.Text.{Holds}
+
+-- the token of a kind; none is the kind of no token
+unfoldable pub token_in : ℕ → Option ℕ
+token_in c = when eqb c NoToken then None else Some c
+
+-- what is said of the kind of a token
+abbrev pub ForToken : Option ℕ → (ℕ → Type 0) → Type 0
+ForToken token what = (c : ℕ) → token ≡ token_in c → what c
 
 -- whatever text stood at a, with a token before it it stands at b; the output is as long as before
 pub record Put (c v a b : ℕ) (S S' : List ℕ) : Type 0 where

@@ -1,23 +1,23 @@
 -- What is said of a tree with all its children, and what the pass over the nodes says of a child, of a node and of the whole. Definitions; they assume nothing.
-use Rattle.std.specs.Prelude.{◌≡◌, Bool, true, false, not, ◌&&◌, List, [], ◌∷◌, ℕ, length}
+use Rattle.std.specs.Prelude.{◌≡◌, Bool, true, false, not, ◌&&◌, List, [], ◌∷◌, ℕ, length, IfSome}
 use Rattle.tree.specs.Tree.{Tree, Forest, none, more}
 use Rattle.tree.specs.Maybe.{just}
 use Rattle.grammar.specs.Canonical.Write.{target_items}
-use Rattle.writer.specs.declared.target.Fitting.{Fitting}
-use Rattle.writer.specs.declared.legal.Children.{Children}
-use Rattle.writer.specs.declared.legal.Judged.{Judged}
+use Rattle.std.specs.declared.option.Option.{Option}
+use Rattle.std.specs.declared.option.Option.TheVariants.{Some, None}
+use Rattle.writer.specs.declared.legal.Kids.{Kids}
 use Rattle.tables.specs.Children.{kind_in, value_in, children_in}
 use Rattle.tables.specs.Demand.{fits}
 use Rattle.tables.specs.Check.{class_of, banned, kids_fit, node_fits, legal_tree}
 use Rattle.writer.specs.Stack.{At}
-use Rattle.writer.specs.Standing.{no_word, Entry}
+use Rattle.writer.specs.Standing.{Entry}
 
 -- a tree passes a test that goes over its children and begins at q; or it doesn't pass
-abbrev pub FitAs : Bool → List ℕ → List Tree → Fitting → Type 0
-FitAs b L s (Fitting.From q) = (b ≡ true) × At L q s
-FitAs b L s Fitting.Not = b ≡ false
+abbrev pub FitAs : Bool → List ℕ → List Tree → Option ℕ → Type 0
+FitAs b L s (Some q) = (b ≡ true) × At L q s
+FitAs b L s None = b ≡ false
 
-pub record Fit (L : List ℕ) (p : ℕ) (test : Tree → Bool) (r : Fitting) : Type 0 where
+pub record Fit (L : List ℕ) (p : ℕ) (test : Tree → Bool) (r : Option ℕ) : Type 0 where
   pub how : (t : Tree) (s : List Tree) → At L p (t ∷ s) → FitAs (test t) L s r
 
 -- the tree at q can be a child of a node
@@ -37,19 +37,19 @@ pub record Items (L : List ℕ) (p : ℕ) (r : Bool) : Type 0 where
   pub how : (t : Tree) (s : List Tree) → At L p (t ∷ s) → r ≡ target_items (children_in (just t))
 
 -- the children of the node at p, which has the mode m, fit
-abbrev pub KidsFitAs : List ℕ → ℕ → Tree → List Tree → Children → Type 0
-KidsFitAs L m t s (Children.Stand b e items) = (kids_fit (kind_in (just t)) (value_in (just t)) m 1 (children_in (just t)) ≡ true) × At L b s × FirstAs L e (children_in (just t)) s × (items ≡ target_items (children_in (just t)))
-KidsFitAs L m t s Children.Not = kids_fit (kind_in (just t)) (value_in (just t)) m 1 (children_in (just t)) ≡ false
+abbrev pub KidsFitAs : List ℕ → ℕ → Tree → List Tree → Option Kids → Type 0
+KidsFitAs L m t s (Some k) = (kids_fit (kind_in (just t)) (value_in (just t)) m 1 (children_in (just t)) ≡ true) × At L k.begin s × FirstAs L k.first (children_in (just t)) s × (k.items ≡ target_items (children_in (just t)))
+KidsFitAs L m t s None = kids_fit (kind_in (just t)) (value_in (just t)) m 1 (children_in (just t)) ≡ false
 
-pub record KidsFit (L : List ℕ) (p m : ℕ) (r : Children) : Type 0 where
+pub record KidsFit (L : List ℕ) (p m : ℕ) (r : Option Kids) : Type 0 where
   pub how : (t : Tree) (s : List Tree) → At L p (t ∷ s) → KidsFitAs L m t s r
 
 -- the node at p fits, and what is to be kept of it
-abbrev pub VisitedAs : Tree → List Tree → Judged → Type 0
-VisitedAs t s (Judged.Fits w) = (node_fits t ≡ true) × ((w ≡ no_word → ⊥) → Entry w t s)
-VisitedAs t s Judged.Not = node_fits t ≡ false
+abbrev pub VisitedAs : Tree → List Tree → Option (Option ℕ) → Type 0
+VisitedAs t s (Some w) = (node_fits t ≡ true) × IfSome w (λ w. Entry w t s)
+VisitedAs t s None = node_fits t ≡ false
 
-pub record Visited (L : List ℕ) (p : ℕ) (r : Judged) : Type 0 where
+pub record Visited (L : List ℕ) (p : ℕ) (r : Option (Option ℕ)) : Type 0 where
   pub how : (t : Tree) (s : List Tree) → At L p (t ∷ s) → VisitedAs t s r
 
 -- the words are those of one tree

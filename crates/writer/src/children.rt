@@ -8,166 +8,153 @@ ghost use Rattle.tables.specs.Children.{kind_in, count_in, value_in, children_in
 ghost use Rattle.tables.specs.Class.{list_class as list_class_def};
 ghost use Rattle.tables.specs.Check.{function_form as function_form_def, inner_class, mode_of, begins_labelled as begins_labelled_def};
 ghost use Rattle.writer.specs.Stack.{Says, Skipped, kid_in};
-ghost use Rattle.writer.specs.Standing.{On, AtNode, SoundAt, Tells, serves as serves_def};
+ghost use Rattle.writer.specs.Standing.{TreeAt, NodeAt, SoundAt, Tells, serves as serves_def};
 ghost use Rattle.writer.specs.Verdict.{First, Items};
 
-use crate::class::{EMPTY, NAMED, NOTHING, list_class};
+use crate::class;
+use crate::class::{EMPTY, NOTHING, list_class};
 use crate::kinds::{passes, target_atom};
 use crate::mode::inner_mode;
 use crate::records::{count_at, kind_at, value_at};
-use crate::standing::{begin_of, class_of, labelled_of, serves_of};
-use crate::target::{function_serves, target_receiver};
+use crate::standing::Standing;
+use crate::target::{NAMED, NOT_GIVEN, UNNAMED, function_serves, target_receiver};
 use tree::node;
 
-// Whether the tree number i, which ends at q, can be a target.
-fn target_by(records: &[u64], kept: &[u64], base: usize, i: usize, q: usize) -> bool
-    requires { On records.now kept.now base i q }
-    ensures { Tells records.now q (λ t s. is_target_def t) result }
-{
-    match kind_at(records, q) {
-        node::IDENTIFIER_PATTERN => true,
-        node::ATTRIBUTE_PATTERN => serves_of(records, kept, base, i, q),
-        node::INDEX_PATTERN => serves_of(records, kept, base, i, q),
-        _ => false,
+impl Standing<'_> {
+    // Whether the tree number i, which ends at q, can be a target.
+    fn target_by(&self, i: usize, q: usize) -> bool
+        requires { TreeAt self.now i q }
+        ensures { Tells self.now.records.now q (λ t s. is_target_def t) result }
+    {
+        match kind_at(self.records, q) {
+            node::IDENTIFIER_PATTERN => true,
+            node::ATTRIBUTE_PATTERN => self.serves_of(i, q),
+            node::INDEX_PATTERN => self.serves_of(i, q),
+            _ => false,
+        }
     }
-}
 
-// What function_form says of the assignment that ends at p.
-fn form_by(records: &[u64], kept: &[u64], base: usize, h: usize, p: usize) -> u64
-    requires { AtNode records.now kept.now base h p × Says records.now p count_in 2 }
-    ensures { Says records.now p (λ m. function_form_def (children_in m)) result }
-{
-    let function = p - 2;
-    if kind_at(records, function) != node::FUNCTION_DEF {
-        return 0;
+    // What function_form says of the assignment that ends at p.
+    fn form_by(&self, h: usize, p: usize) -> u64
+        requires { NodeAt self.now h p × Says self.now.records.now p count_in 2 }
+        ensures { Says self.now.records.now p (λ m. function_form_def (children_in m)) result }
+    {
+        let function = p - 2;
+        if kind_at(self.records, function) != node::FUNCTION_DEF {
+            return NOT_GIVEN;
+        }
+        if !self.serves_of(h - 1, function) {
+            return NOT_GIVEN;
+        }
+        let target = self.begin_of(h - 1, function);
+        if !self.target_by(h - 2, target) {
+            return NOT_GIVEN;
+        }
+        if self.class_of(h - 1, function) == class::NAMED {
+            return NAMED;
+        }
+        UNNAMED
     }
-    if !serves_of(records, kept, base, h - 1, function) {
-        return 0;
-    }
-    let target = begin_of(records, kept, base, h - 1, function);
-    if !target_by(records, kept, base, h - 2, target) {
-        return 0;
-    }
-    if class_of(records, kept, base, h - 1, function) == NAMED {
-        return 2;
-    }
-    1
-}
 
-// The mode of the list that ends at p: its class, by its last member.
-fn list_by(records: &[u64], kept: &[u64], base: usize, h: usize, p: usize) -> u64
-    requires { AtNode records.now kept.now base h p }
-    ensures { Says records.now p (λ m. list_class_def (count_in m) (inner_class (last_in m))) result }
-{
-    let n = count_at(records, p);
-    if n == 0 {
-        return EMPTY;
-    }
-    let last = p - 2;
-    if kind_at(records, last) == node::LIST {
-        return list_class(n, NOTHING);
-    }
-    list_class(n, class_of(records, kept, base, h - 1, last))
-}
-
-// The mode of the function that ends at p: its signature's name.
-fn name_by(records: &[u64], kept: &[u64], base: usize, h: usize, p: usize) -> u64
-    requires { AtNode records.now kept.now base h p × Says records.now p count_in 2 }
-    ensures { Says records.now p (λ m. value_in (kid_in 1 m)) result }
-{
-    let signature = begin_of(records, kept, base, h - 1, p - 2);
-    value_at(records, signature)
-}
-
-// The mode of the node that ends at p.
-pub fn mode_by(records: &[u64], kept: &[u64], base: usize, h: usize, p: usize) -> u64
-    requires { AtNode records.now kept.now base h p × SoundAt records.now p }
-    ensures { Says records.now p (λ m. mode_of (kind_in m) (children_in m)) result }
-{
-    match kind_at(records, p) {
-        node::LIST => list_by(records, kept, base, h, p),
-        node::ASSIGNMENT => form_by(records, kept, base, h, p),
-        node::FUNCTION_DEF => name_by(records, kept, base, h, p),
-        _ => inner_mode(records, p),
-    }
-}
-
-// Whether the node that ends at p begins with a label. Its first child, if there is one, ends at `first`.
-pub fn labelled_by(
-    records: &[u64],
-    kept: &[u64],
-    base: usize,
-    h: usize,
-    p: usize,
-    first: usize,
-) -> bool
-    requires { AtNode records.now kept.now base h p × First records.now p first }
-    ensures { Tells records.now p (λ t s. begins_labelled_def t) result }
-{
-    let kind = kind_at(records, p);
-    if passes(kind) {
-        let n = count_at(records, p) as usize;
+    // The mode of the list that ends at p: its class, by its last member.
+    fn list_by(&self, h: usize, p: usize) -> u64
+        requires { NodeAt self.now h p }
+        ensures { Says self.now.records.now p (λ m. list_class_def (count_in m) (inner_class (last_in m))) result }
+    {
+        let n = count_at(self.records, p);
         if n == 0 {
+            return EMPTY;
+        }
+        let last = p - 2;
+        if kind_at(self.records, last) == node::LIST {
+            return list_class(n, NOTHING);
+        }
+        list_class(n, self.class_of(h - 1, last))
+    }
+
+    // The mode of the function that ends at p: its signature's name.
+    fn name_by(&self, h: usize, p: usize) -> u64
+        requires { NodeAt self.now h p × Says self.now.records.now p count_in 2 }
+        ensures { Says self.now.records.now p (λ m. value_in (kid_in 1 m)) result }
+    {
+        let signature = self.begin_of(h - 1, p - 2);
+        value_at(self.records, signature)
+    }
+
+    // The mode of the node that ends at p.
+    pub fn mode_by(&self, h: usize, p: usize) -> u64
+        requires { NodeAt self.now h p × SoundAt self.now.records.now p }
+        ensures { Says self.now.records.now p (λ m. mode_of (kind_in m) (children_in m)) result }
+    {
+        match kind_at(self.records, p) {
+            node::LIST => self.list_by(h, p),
+            node::ASSIGNMENT => self.form_by(h, p),
+            node::FUNCTION_DEF => self.name_by(h, p),
+            _ => inner_mode(self.records, p),
+        }
+    }
+
+    // Whether the node that ends at p begins with a label. Its first child, if there is one, ends at `first`.
+    pub fn labelled_by(&self, h: usize, p: usize, first: usize) -> bool
+        requires { NodeAt self.now h p × First self.now.records.now p first }
+        ensures { Tells self.now.records.now p (λ t s. begins_labelled_def t) result }
+    {
+        let kind = kind_at(self.records, p);
+        if passes(kind) {
+            let n = count_at(self.records, p) as usize;
+            if n == 0 {
+                return false;
+            }
+            return self.labelled_of(h - n, first);
+        }
+        if kind == node::BLOCK {
+            return 0 < value_at(self.records, p);
+        }
+        false
+    }
+
+    // Whether the tree number i, which ends at q, can begin a target: an atom that is no group, and a path without calls.
+    fn receiver_by(&self, i: usize, q: usize) -> bool
+        requires { TreeAt self.now i q }
+        ensures { Tells self.now.records.now q (λ t s. target_atom_def (head_kind (children_in (just t))) && target_path (tail_of (children_in (just t)))) result }
+    {
+        if kind_at(self.records, q) == node::PRIMARY {
+            return self.serves_of(i, q);
+        }
+        target_receiver(self.records, q)
+    }
+
+    // The same of the primary that ends at p.
+    fn primary_by(&self, h: usize, p: usize) -> bool
+        requires { NodeAt self.now h p × Says self.now.records.now p count_in 2 }
+        ensures { Tells self.now.records.now p (λ t s. target_atom_def (head_kind (children_in (just t))) && target_path (tail_of (children_in (just t)))) result }
+    {
+        let path = p - 2;
+        if kind_at(self.records, path) != node::LIST {
+            return target_receiver(self.records, p);
+        }
+        if !self.serves_of(h - 1, path) {
             return false;
         }
-        return labelled_of(records, kept, base, h - n, first);
+        let atom = self.begin_of(h - 1, path);
+        target_atom(kind_at(self.records, atom))
     }
-    if kind == node::BLOCK {
-        return 0 < value_at(records, p);
-    }
-    false
-}
 
-// Whether the tree number i, which ends at q, can begin a target: an atom that is no group, and a path without calls.
-fn receiver_by(records: &[u64], kept: &[u64], base: usize, i: usize, q: usize) -> bool
-    requires { On records.now kept.now base i q }
-    ensures { Tells records.now q (λ t s. target_atom_def (head_kind (children_in (just t))) && target_path (tail_of (children_in (just t)))) result }
-{
-    if kind_at(records, q) == node::PRIMARY {
-        return serves_of(records, kept, base, i, q);
-    }
-    target_receiver(records, q)
-}
-
-// The same of the primary that ends at p.
-fn primary_by(records: &[u64], kept: &[u64], base: usize, h: usize, p: usize) -> bool
-    requires { AtNode records.now kept.now base h p × Says records.now p count_in 2 }
-    ensures { Tells records.now p (λ t s. target_atom_def (head_kind (children_in (just t))) && target_path (tail_of (children_in (just t)))) result }
-{
-    let path = p - 2;
-    if kind_at(records, path) != node::LIST {
-        return target_receiver(records, p);
-    }
-    if !serves_of(records, kept, base, h - 1, path) {
-        return false;
-    }
-    let atom = begin_of(records, kept, base, h - 1, path);
-    target_atom(kind_at(records, atom))
-}
-
-// Whether the node that ends at p, has the mode m and begins at b serves a `fun` with a target. `items` is whether all its children are members and indexes.
-pub fn serves_by(
-    records: &[u64],
-    kept: &[u64],
-    base: usize,
-    h: usize,
-    p: usize,
-    m: u64,
-    b: usize,
-    items: bool,
-) -> bool
-    requires { AtNode records.now kept.now base h p × SoundAt records.now p × Says records.now p (λ m. mode_of (kind_in m) (children_in m)) m × Skipped records.now p b × Items records.now p items }
-    ensures { Tells records.now p serves_def result }
-{
-    match kind_at(records, p) {
-        node::LIST => items,
-        node::PRIMARY => primary_by(records, kept, base, h, p),
-        node::ATTRIBUTE_PATTERN => receiver_by(records, kept, base, h - 1, p - 2),
-        node::INDEX_PATTERN => {
-            let receiver = begin_of(records, kept, base, h - 1, p - 2);
-            receiver_by(records, kept, base, h - 2, receiver)
+    // Whether the node that ends at p, has the mode m and begins at b serves a `fun` with a target. `items` is whether all its children are members and indexes.
+    pub fn serves_by(&self, h: usize, p: usize, m: u64, b: usize, items: bool) -> bool
+        requires { NodeAt self.now h p × SoundAt self.now.records.now p × Says self.now.records.now p (λ m. mode_of (kind_in m) (children_in m)) m × Skipped self.now.records.now p b × Items self.now.records.now p items }
+        ensures { Tells self.now.records.now p serves_def result }
+    {
+        match kind_at(self.records, p) {
+            node::LIST => items,
+            node::PRIMARY => self.primary_by(h, p),
+            node::ATTRIBUTE_PATTERN => self.receiver_by(h - 1, p - 2),
+            node::INDEX_PATTERN => {
+                let receiver = self.begin_of(h - 1, p - 2);
+                self.receiver_by(h - 2, receiver)
+            }
+            node::FUNCTION_DEF => function_serves(self.records, p, m, b),
+            _ => false,
         }
-        node::FUNCTION_DEF => function_serves(records, p, m, b),
-        _ => false,
     }
 }

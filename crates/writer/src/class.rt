@@ -10,11 +10,14 @@
 //
 // The rest is tested apart: a record's own numbers (sound.rt), and what no class says: the token that a tree begins with, and whether it ends
 // in a tuple of one member (edges.rt).
+// Stays a number: a class is computed (from a level, of a list), compared by order and kept in lent words. So does a mode, which for most kinds is a count, a
+// kind, a name or an action of the records, and a demand, which is computed.
 ghost use Rattle.std.specs.Prelude.{◌≡◌};
 ghost use Rattle.tables.specs.Class.{binary_class as binary_class_def, keyword_class as keyword_class_def, named_class as named_class_def, assignment_class as assignment_class_def, body_class as body_class_def, later_class as later_class_def, class as class_def, default_list as default_list_def, plain_list as plain_list_def, argument_list as argument_list_def, list_class as list_class_def};
 
-use crate::choice::{where_is, where_zero};
+use crate::mode;
 use crate::operators::{LEVELS, level};
+use crate::target::{NOT_GIVEN, UNNAMED};
 use tree::node;
 
 // `...` alone.
@@ -105,11 +108,11 @@ fn binary_class(value: u64) -> u64
 }
 
 // An assignment by its own keyword.
-#[tactic(auto, unfolding(tables::specs::Class::keyword_class))]
+#[tactic(auto, unfolding(tables::specs::Class::keyword_class, tables::specs::Choice::where_zero))]
 fn keyword_class(value: u64) -> u64
     ensures { result ≡ keyword_class_def value }
 {
-    where_zero(value % 4, LOCAL, KEYWORD)
+    if value % 4 == 0 { LOCAL } else { KEYWORD }
 }
 
 // One that `fun` with a target gives, and the signature has the target's name: `let` by itself, the others only under a group's modifier.
@@ -127,13 +130,17 @@ fn named_class(value: u64) -> u64
 }
 
 // An assignment with the mode that function_form gives.
-#[tactic(auto, unfolding(tables::specs::Class::assignment_class))]
+#[tactic(auto, unfolding(tables::specs::Class::assignment_class, tables::specs::Choice::where_is))]
 fn assignment_class(value: u64, mode: u64) -> u64
     ensures { result ≡ assignment_class_def value mode }
 {
     match mode {
-        0 => keyword_class(value),
-        1 => where_is(value, 2, TIGHT, keyword_class(value)),
+        NOT_GIVEN => keyword_class(value),
+        UNNAMED => if value == 2 {
+            TIGHT
+        } else {
+            keyword_class(value)
+        },
         _ => named_class(value),
     }
 }
@@ -143,8 +150,8 @@ fn body_class(mode: u64) -> u64
     ensures { result ≡ body_class_def mode }
 {
     match mode {
-        0 => OPEN_BODY,
-        1 => PLAIN_BODY,
+        mode::OPEN => OPEN_BODY,
+        mode::PLAIN => PLAIN_BODY,
         _ => ENDED_BODY,
     }
 }
@@ -166,7 +173,7 @@ fn later_class(kind: u64) -> u64
     NOTHING
 }
 
-#[tactic(auto, unfolding(tables::specs::Class::class))]
+#[tactic(auto, unfolding(tables::specs::Class::class, tables::specs::Choice::where_zero))]
 pub fn class(kind: u64, value: u64, mode: u64) -> u64
     ensures { result ≡ class_def kind value mode }
 {
@@ -182,16 +189,16 @@ pub fn class(kind: u64, value: u64, mode: u64) -> u64
         node::CONTINUE => CONTROL,
         node::BREAK => CONTROL,
         node::RETURN => CONTROL,
-        node::PRIMARY => where_zero(mode, BARE, PRIMARY),
+        node::PRIMARY => if mode == 0 { BARE } else { PRIMARY },
         node::UNARY_OP => UNARY,
         node::BINARY_OP => binary_class(value),
         node::ASSIGNMENT => assignment_class(value, mode),
-        node::UNPACK => where_zero(mode, LONE, TIGHT),
+        node::UNPACK => if mode == 0 { LONE } else { TIGHT },
         node::TUPLE => TUPLE,
         node::TABLE => TIGHT,
         node::IF_EXPR => TIGHT,
         node::BLOCK => TIGHT,
-        node::FUNCTION_DEF => where_zero(mode, TIGHT, NAMED),
+        node::FUNCTION_DEF => if mode == 0 { TIGHT } else { NAMED },
         node::TABLE_ITEM => TABLE_ITEM,
         node::EXPR_BLOCK => BLOCK,
         node::CONDITIONAL_BRANCH => BRANCH,

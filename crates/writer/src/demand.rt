@@ -3,9 +3,10 @@
 ghost use Rattle.std.specs.Prelude.{◌≡◌};
 ghost use Rattle.tables.specs.Demand.{of_members as of_members_def, left_side as left_side_def, right_side as right_side_def, assigned as assigned_def, inside as inside_def, defaults as defaults_def, first_demand as first_demand_def, second_demand as second_demand_def, third_demand as third_demand_def, demand as demand_def, fits as fits_def};
 
-use crate::choice::where_zero;
 use crate::class;
+use crate::mode::BOTH;
 use crate::operators::level;
+use crate::target::NOT_GIVEN;
 use tree::node;
 
 // Any expression, or Absent; the same but for `...` alone, as in a statement.
@@ -127,7 +128,7 @@ fn right_side(value: u64) -> u64
 fn assigned(value: u64, mode: u64) -> u64
     ensures { result ≡ assigned_def value mode }
 {
-    if mode == 0 {
+    if mode == NOT_GIVEN {
         return EXPR;
     }
     if value < 4 {
@@ -158,13 +159,13 @@ fn inside(value: u64, mode: u64) -> u64
 fn defaults(mode: u64) -> u64
     ensures { result ≡ defaults_def mode }
 {
-    if mode == 3 {
+    if mode == BOTH {
         return class::NOTHING;
     }
     DEFAULTS
 }
 
-#[tactic(auto, unfolding(tables::specs::Demand::first_demand))]
+#[tactic(auto, unfolding(tables::specs::Demand::first_demand, tables::specs::Choice::where_zero))]
 fn first_demand(kind: u64, value: u64, mode: u64) -> u64
     ensures { result ≡ first_demand_def kind value mode }
 {
@@ -188,7 +189,7 @@ fn first_demand(kind: u64, value: u64, mode: u64) -> u64
         node::BLOCK => BLOCK,
         node::FUNCTION_DEF => SIGNATURE,
         node::TABLE_ITEM => FIELD,
-        node::EXPR_BLOCK => where_zero(mode, BODY_ALONE, BODY_BEFORE),
+        node::EXPR_BLOCK => if mode == 0 { BODY_ALONE } else { BODY_BEFORE },
         node::CONDITIONAL_BRANCH => EXPR,
         node::SIGNATURE_DEF => PARAMS,
         node::DEFAULT_DEF => EXPR,

@@ -7,6 +7,7 @@ ghost use Rattle.grammar.specs.Flat.{flat_written};
 use crate::write_stmt;
 use grammar::{Flat, Written, variant};
 
+// Stays a function: both types are of crate grammar, where a `From` between them would stand.
 fn flatten(answer: Written) -> Flat
     ensures { result ≡ flat_written answer }
 {

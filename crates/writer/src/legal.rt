@@ -6,73 +6,24 @@ ghost use Rattle.tables.specs.Children.{kind_in};
 ghost use Rattle.tables.specs.Kinds.{target_item as target_item_def, unlabelled as unlabelled_def};
 ghost use Rattle.tables.specs.Check.{begins_labelled};
 ghost use Rattle.writer.specs.Stack.{Here};
-ghost use Rattle.writer.specs.Standing.{On, AtNode, Tells};
+ghost use Rattle.writer.specs.Standing.{TreeAt, NodeAt, Tells};
 ghost use Rattle.writer.specs.Verdict.{KidFits, KidsFit, Visited, Whole, Legal};
 
-use crate::children::{labelled_by, mode_by, serves_by};
 use crate::class::{STATEMENT, class};
 use crate::demand::{demand, fits};
 use crate::edges::ends_wrong;
 use crate::kinds::{target_item, unlabelled};
 use crate::records::{count_at, kind_at, value_at};
 use crate::sound::sound;
-use crate::standing::{begin_of, class_of, keep, labelled_of, word_of};
+use crate::standing::{Standing, keep, word_of};
 
-// Whether a node's children may stand where they stand; if so, where the node's tree begins, where its first child ends, and whether all are
+// What is found of a node's children that may stand where they stand: where the node's tree begins, where its first child ends, and whether all are
 // members and indexes of a path.
-#[derive(Drop)]
-pub enum Children {
-    Stand(usize, usize, bool),
-    Not,
-}
-
-// Whether a node may stand, its own place aside; if so, what is to be kept of it.
-#[derive(Drop)]
-pub enum Judged {
-    Fits(u64),
-    Not,
-}
-
-// Whether the tree number i, which ends at q, may not stand as a child of a node by how it begins.
-fn starts_wrong(
-    records: &[u64],
-    kept: &[u64],
-    base: usize,
-    i: usize,
-    q: usize,
-    kind: u64,
-    value: u64,
-) -> bool
-    requires { On records.now kept.now base i q }
-    ensures { Tells records.now q (λ t s. unlabelled_def kind value && begins_labelled t) result }
-{
-    if !unlabelled(kind, value) {
-        return false;
-    }
-    labelled_of(records, kept, base, i, q)
-}
-
-// Whether the tree number i, which ends at q, may stand as a child of a node that a class is demanded of.
-fn kid_fits(
-    records: &[u64],
-    kept: &[u64],
-    base: usize,
-    i: usize,
-    q: usize,
-    kind: u64,
-    value: u64,
-    asked: u64,
-) -> bool
-    requires { On records.now kept.now base i q }
-    ensures { KidFits records.now kind value asked q result }
-{
-    if !fits(asked, class_of(records, kept, base, i, q)) {
-        return false;
-    }
-    if starts_wrong(records, kept, base, i, q, kind, value) {
-        return false;
-    }
-    !ends_wrong(records, kind, q)
+#[derive(Clone, Copy)]
+pub struct Kids {
+    pub begin: usize,
+    pub first: usize,
+    pub items: bool,
 }
 
 // Whether the tree that ends at q is a member or an index of a path, and those behind it are.
@@ -80,56 +31,74 @@ fn item_too(records: &[u64], q: usize, items: bool) -> bool
     requires { Here records.now q }
     ensures { Tells records.now q (λ t s. items && target_item_def (kind_in (just t))) result }
 {
-    if !items {
-        return false;
-    }
-    target_item(kind_at(records, q))
+    items && target_item(kind_at(records, q))
 }
 
-// Whether the children of the node that ends at p and has the mode m may stand where they stand, from the last of the h trees to the first child.
-fn kids_fit(records: &[u64], kept: &[u64], base: usize, h: usize, p: usize, m: u64) -> Children
-    requires { AtNode records.now kept.now base h p }
-    ensures { KidsFit records.now p m result }
-{
-    let kind = kind_at(records, p);
-    let value = value_at(records, p);
-    let mut j = count_at(records, p);
-    let mut i = h;
-    let mut q = p - 2;
-    let mut first = q;
-    let mut items = true;
-    while 0 < j {
-        i -= 1;
-        let asked = demand(kind, value, m, j);
-        if !kid_fits(records, kept, base, i, q, kind, value, asked) {
-            return Children::Not;
+impl Standing<'_> {
+    // Whether the tree number i, which ends at q, may not stand as a child of a node by how it begins.
+    fn starts_wrong(&self, i: usize, q: usize, kind: u64, value: u64) -> bool
+        requires { TreeAt self.now i q }
+        ensures { Tells self.now.records.now q (λ t s. unlabelled_def kind value && begins_labelled t) result }
+    {
+        unlabelled(kind, value) && self.labelled_of(i, q)
+    }
+
+    // Whether the tree number i, which ends at q, may stand as a child of a node that a class is demanded of.
+    fn kid_fits(&self, i: usize, q: usize, kind: u64, value: u64, asked: u64) -> bool
+        requires { TreeAt self.now i q }
+        ensures { KidFits self.now.records.now kind value asked q result }
+    {
+        fits(asked, self.class_of(i, q))
+            && !self.starts_wrong(i, q, kind, value)
+            && !ends_wrong(self.records, kind, q)
+    }
+
+    // Whether the children of the node that ends at p and has the mode m may stand where they stand, from the last of the h trees to the first
+    // child; if so, what is found of them.
+    fn kids_fit(&self, h: usize, p: usize, m: u64) -> Option<Kids>
+        requires { NodeAt self.now h p }
+        ensures { KidsFit self.now.records.now p m result }
+    {
+        let kind = kind_at(self.records, p);
+        let value = value_at(self.records, p);
+        let n = count_at(self.records, p);
+        let mut i = h;
+        let mut q = p - 2;
+        let mut first = q;
+        let mut items = true;
+        for j in (1..=n).rev() {
+            i -= 1;
+            let asked = demand(kind, value, m, j);
+            if !self.kid_fits(i, q, kind, value, asked) {
+                return None;
+            }
+            items = item_too(self.records, q, items);
+            first = q;
+            q = self.begin_of(i, q);
         }
-        items = item_too(records, q, items);
-        first = q;
-        q = begin_of(records, kept, base, i, q);
-        j -= 1;
+        Some(Kids {
+            begin: q,
+            first,
+            items,
+        })
     }
-    Children::Stand(q, first, items)
-}
 
-// Whether the node that ends at p, with h trees before it, may stand, its own place aside; if so, what is to be kept of it.
-fn visit(records: &[u64], kept: &[u64], base: usize, h: usize, p: usize) -> Judged
-    requires { AtNode records.now kept.now base h p }
-    ensures { Visited records.now p result }
-{
-    let kind = kind_at(records, p);
-    let value = value_at(records, p);
-    if !sound(kind, value, count_at(records, p)) {
-        return Judged::Not;
+    // Whether the node that ends at p, with h trees before it, may stand, its own place aside; if so, what is to be kept of it, if it is kept.
+    fn visit(&self, h: usize, p: usize) -> Option<Option<u64>>
+        requires { NodeAt self.now h p }
+        ensures { Visited self.now.records.now p result }
+    {
+        let kind = kind_at(self.records, p);
+        let value = value_at(self.records, p);
+        if !sound(kind, value, count_at(self.records, p)) {
+            return None;
+        }
+        let m = self.mode_by(h, p);
+        let kids = self.kids_fit(h, p, m)?;
+        let labelled = self.labelled_by(h, p, kids.first);
+        let serves = self.serves_by(h, p, m, kids.begin, kids.items);
+        Some(word_of(class(kind, value, m), labelled, serves, kids.begin))
     }
-    let m = mode_by(records, kept, base, h, p);
-    let r = kids_fit(records, kept, base, h, p, m);
-    let Children::Stand(b, first, items) = r else {
-        return Judged::Not;
-    };
-    let labelled = labelled_by(records, kept, base, h, p, first);
-    let serves = serves_by(records, kept, base, h, p, m, b, items);
-    Judged::Fits(word_of(class(kind, value, m), labelled, serves, b))
 }
 
 // Whether the tree whose records these are is one that a clean reading can give as a statement. The words of `kept` are any; the more there are, the
@@ -138,19 +107,26 @@ pub fn legal(records: &[u64], kept: &mut [u64]) -> bool
     requires { Whole records.now }
     ensures { Legal records.now result }
 {
-    let n = records.len();
-    let mut p = 0;
     let mut h: usize = 0;
     let mut base: usize = 0;
-    while p < n {
-        p += 2;
-        let r = visit(records, kept, base, h, p);
-        let Judged::Fits(word) = r else {
+    for node in 0..records.len() / 2 {
+        let p = 2 * node + 2;
+        let standing = Standing {
+            records,
+            kept,
+            base,
+        };
+        let Some(word) = standing.visit(h, p) else {
             return false;
         };
         let i = h - count_at(records, p) as usize;
         h = i + 1;
         base = keep(kept, base, i, word);
     }
-    class_of(records, kept, base, 0, n) == STATEMENT
+    let standing = Standing {
+        records,
+        kept,
+        base,
+    };
+    standing.class_of(0, records.len()) == STATEMENT
 }

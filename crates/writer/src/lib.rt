@@ -4,12 +4,12 @@
 ghost use Rattle.std.specs.Prelude.{length};
 ghost use Rattle.grammar.specs.Contract.{Writes};
 ghost use Rattle.output.specs.Text.{Held};
+ghost use Rattle.writer.specs.Form.{place_number};
 ghost use Rattle.writer.specs.Post.{WroteTree, RanOut};
 ghost use Rattle.writer.specs.Stack.{Here};
 ghost use Rattle.writer.specs.Verdict.{Whole, Legal};
 
 mod children;
-mod choice;
 mod class;
 mod demand;
 mod edges;
@@ -26,13 +26,12 @@ mod target;
 mod text;
 mod tokens;
 
-use crate::form::{OWN, base, deeper, place_of};
+use crate::form::{Head, Place, base};
 use crate::legal::legal;
 use crate::mode::form_at;
 use crate::operators::op_token;
 use crate::records::shape;
-use crate::text::{closing, opening, put};
-use crate::tokens::after_token;
+use crate::text::put;
 use grammar::{Written, limit};
 use output::written;
 use token::kind;
@@ -45,12 +44,16 @@ const DEPTH: u64 = limit::DEPTH as u64;
 // writes (docs/DECISIONS.md).
 const ROOM: usize = 6144;
 
-// A tree was written: where its records begin, and 2 more than where its words begin (below 2: no room). Or it is too deep.
-#[derive(Drop)]
-pub enum Step {
-    Done(usize, usize),
-    Deep,
+// Where the records of a tree that was written begin, and 2 more than where its words begin (below 2: no room).
+#[derive(Clone, Copy)]
+pub struct Step {
+    pub records: usize,
+    pub words: usize,
 }
+
+// A tree is deeper than it may be.
+#[derive(Clone, Copy, Debug, PartialEq, Eq)]
+pub struct TooDeep;
 
 // The tree that ends at `from`, its words before the text that begins at end - 2. A chain of operators is a loop from its root: the right
 // side, the operator, and on with the left side.
@@ -59,25 +62,22 @@ fn write_tree(
     records: &[u64],
     output: &mut [u64],
     depth: u64,
-    place: u64,
+    place: Place,
     from: usize,
     end: usize,
-) -> Step
+) -> Result<Step, TooDeep>
     requires { Here records.now from × Held end output.old }
-    ensures { WroteTree records.now depth place from end output.old output.new result }
+    ensures { WroteTree records.now depth (place_number place) from end output.old output.new result }
 {
     let mut at = place;
     let mut p = from;
     let mut a = end;
     while records[p - 2] == BINARY_OP {
         let number = records[p - 1];
-        let r = write_tree(records, output, depth, OWN, p - 2, a);
-        let Step::Done(q, e) = r else {
-            return r;
-        };
-        a = put(output, e, op_token(number), 0);
-        p = q;
-        at = OWN;
+        let side = write_tree(records, output, depth, Place::Own, p - 2, a)?;
+        a = put(output, side.words, op_token(number), 0);
+        p = side.records;
+        at = Place::Own;
     }
     write_node(records, output, depth, at, p, a)
 }
@@ -89,37 +89,37 @@ fn write_node(
     records: &[u64],
     output: &mut [u64],
     depth: u64,
-    place: u64,
+    place: Place,
     p: usize,
     end: usize,
-) -> Step
+) -> Result<Step, TooDeep>
     requires { Here records.now p × Held end output.old }
-    ensures { WroteTree records.now depth place p end output.old output.new result }
+    ensures { WroteTree records.now depth (place_number place) p end output.old output.new result }
 {
     let word = records[p - 2];
-    let value = records[p - 1];
     let kind = word % CHILD;
     if depth < base(kind) {
-        return Step::Deep;
+        return Err(TooDeep);
     }
-    let form = form_at(records, p, place);
+    let head = Head {
+        kind,
+        value: records[p - 1],
+        form: form_at(records, p, place),
+    };
     let n = word / CHILD;
-    let mut j = n;
     let mut q = p - 2;
-    let mut a = closing(output, end, kind, value, form);
-    while 0 < j {
-        let b = put(output, a, after_token(kind, value, form, n, j), 0);
-        let below = depth - deeper(kind, form, j);
-        let its = place_of(kind, value, form, j);
-        let r = write_tree(records, output, below, its, q, b);
-        let Step::Done(q2, e) = r else {
-            return r;
-        };
-        q = q2;
-        a = e;
-        j -= 1;
+    let mut a = head.closing(output, end);
+    for j in (1..=n).rev() {
+        let b = put(output, a, head.after_token(n, j), 0);
+        let below = depth - head.deeper(j);
+        let kid = write_tree(records, output, below, head.place_of(j), q, b)?;
+        q = kid.records;
+        a = kid.words;
     }
-    Step::Done(q, opening(output, a, kind, value, form))
+    Ok(Step {
+        records: q,
+        words: head.opening(output, a),
+    })
 }
 
 // The tree whose records these are and its semicolon, at the output's front, and zeros behind them.
@@ -127,12 +127,11 @@ fn run_out(records: &[u64], output: &mut [u64]) -> Written
     requires { Here records.now (length records.now) }
     ensures { RanOut records.now output.old output.new result }
 {
-    let a = put(output, output.len() + 2, kind::SEMICOLON, 0);
+    let a = put(output, output.len() + 2, Some(kind::SEMICOLON), 0);
     let n = records.len();
-    let r = write_tree(records, output, DEPTH, OWN, n, a);
-    match r {
-        Step::Done(_, b) => written(output, b),
-        Step::Deep => {
+    match write_tree(records, output, DEPTH, Place::Own, n, a) {
+        Ok(step) => written(output, step.words),
+        Err(TooDeep) => {
             clear(output, 0);
             Written::Stopped(limit::TOO_DEEP)
         }
@@ -153,13 +152,11 @@ fn decided(records: &[u64], output: &mut [u64]) -> bool
     requires { Whole records.now }
     ensures { Legal records.now result }
 {
-    if records.len() / 2 <= output.len() {
-        return legal(records, output);
+    if records.len() / 2 <= output.len() || ROOM < output.len() {
+        legal(records, output)
+    } else {
+        decided_alone(records)
     }
-    if ROOM < output.len() {
-        return legal(records, output);
-    }
-    decided_alone(records)
 }
 
 // Writes the canonical tokens of the statement whose records these are, its semicolon included, and zeros behind them. `Writes` is the
@@ -167,13 +164,10 @@ fn decided(records: &[u64], output: &mut [u64]) -> bool
 pub fn write_stmt(records: &[u64], output: &mut [u64]) -> Written
     ensures { Writes records.now output.old result output.new }
 {
-    if !shape(records) {
+    if shape(records) && decided(records, output) {
+        run_out(records, output)
+    } else {
         clear(output, 0);
-        return Written::Refused(limit::NO_STATEMENT);
+        Written::Refused(limit::NO_STATEMENT)
     }
-    if !decided(records, output) {
-        clear(output, 0);
-        return Written::Refused(limit::NO_STATEMENT);
-    }
-    run_out(records, output)
 }

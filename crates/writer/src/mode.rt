@@ -3,45 +3,59 @@
 ghost use Rattle.writer.specs.Stack.{Somewhere, Says};
 ghost use Rattle.tables.specs.Children.{kind_in, value_in, children_in};
 ghost use Rattle.tables.specs.Check.{body_mode as body_mode_def, signature_mode as signature_mode_def, group_mode as group_mode_def, inner_mode as inner_mode_def, inner_class as inner_class_def, mode_of, class_in};
-ghost use Rattle.tables.specs.Layout.{assignment_form as assignment_form_def, form_of};
+ghost use Rattle.writer.specs.Form.{by_fun, FormAt};
 
 use crate::class::{NOTHING, class, list_class};
-use crate::form::{FUN, fun_gives};
+use crate::form::{Form, Place, fun_gives};
 use crate::records::{count_at, kid_of, kind_at, last_of, value_at};
-use crate::target::function_form;
+use crate::target::{NOT_GIVEN, function_form};
 use tree::node;
 
-// A statement list. 0: no control, and the last statement is an expression; 1: no control, and it is none; 2: with control.
+// A statement list: without control, whose last statement is an expression; any other without control; with control.
+pub const OPEN: u64 = 0;
+
+pub const PLAIN: u64 = 1;
+
+pub const ENDED: u64 = 2;
+
+// A signature: required parameters only; a default; a variadic parameter; both.
+pub const REQUIRED: u64 = 0;
+
+pub const DEFAULT: u64 = 1;
+
+pub const VARIADIC: u64 = 2;
+
+pub const BOTH: u64 = 3;
+
+// The mode of a statement list.
 fn body_mode(records: &[u64], p: usize) -> u64
     requires { Somewhere records.now p }
     ensures { Says records.now p (λ m. body_mode_def (children_in m)) result }
 {
     if kind_at(records, last_of(records, p)) != node::ABSENT {
-        return 2;
+        return ENDED;
     }
     let suite = kid_of(records, p, 1);
     if kind_at(records, last_of(records, suite)) == node::EXPRESSION {
-        return 0;
+        OPEN
+    } else {
+        PLAIN
     }
-    1
 }
 
-// A signature. 0: required parameters only; 1: a default; 2: a variadic parameter; 3: both.
+// The mode of a signature.
 fn signature_mode(records: &[u64], p: usize) -> u64
     requires { Somewhere records.now p }
     ensures { Says records.now p (λ m. signature_mode_def (children_in m)) result }
 {
     let defaults = count_at(records, kid_of(records, p, 2));
     if kind_at(records, last_of(records, p)) == node::ABSENT {
-        if defaults == 0 {
-            return 0;
-        }
-        return 1;
+        if defaults == 0 { REQUIRED } else { DEFAULT }
+    } else if defaults == 0 {
+        VARIADIC
+    } else {
+        BOTH
     }
-    if defaults == 0 {
-        return 2;
-    }
-    3
 }
 
 // A group: 0, or 1 + the action of the assignment in it.
@@ -108,30 +122,32 @@ pub fn class_at(records: &[u64], p: usize) -> u64
     class(kind_at(records, p), value_at(records, p), mode(records, p))
 }
 
-// How an assignment is written at a place: as `fun` with a target where that gives it, else as the place says.
-fn assignment_form(records: &[u64], p: usize, place: u64) -> u64
+// Whether `fun` with the target gives an assignment at a place.
+fn given_by_fun(records: &[u64], p: usize, place: Place) -> bool
     requires { Somewhere records.now p }
-    ensures { Says records.now p (λ m. assignment_form_def (value_in m) (children_in m) place) result }
+    ensures { Says records.now p (λ m. by_fun place (value_in m) (children_in m)) result }
 {
-    if !fun_gives(place, value_at(records, p)) {
-        return place;
-    }
-    if function_form(records, p) == 0 {
-        return place;
-    }
-    FUN
+    fun_gives(place, value_at(records, p)) && function_form(records, p) != NOT_GIVEN
 }
 
-pub fn form_at(records: &[u64], p: usize, place: u64) -> u64
+// How the node that ends at p is written at a place.
+pub fn form_at(records: &[u64], p: usize, place: Place) -> Form
     requires { Somewhere records.now p }
-    ensures { Says records.now p (λ m. form_of (kind_in m) (value_in m) (children_in m) place) result }
+    ensures { FormAt records.now p place result }
 {
     match kind_at(records, p) {
-        node::ASSIGNMENT => assignment_form(records, p, place),
-        node::IF_EXPR => kind_at(records, last_of(records, p)),
-        node::EXPR_BLOCK => kind_at(records, last_of(records, p)),
-        node::SIGNATURE_DEF => signature_mode(records, p),
-        node::PACK => kind_at(records, last_of(records, p)),
-        _ => place,
+        node::ASSIGNMENT => Form {
+            place,
+            told: u64::from(given_by_fun(records, p, place)),
+        },
+        node::IF_EXPR | node::EXPR_BLOCK | node::PACK => Form {
+            place,
+            told: kind_at(records, last_of(records, p)),
+        },
+        node::SIGNATURE_DEF => Form {
+            place,
+            told: signature_mode(records, p),
+        },
+        _ => Form { place, told: 0 },
     }
 }

@@ -3,12 +3,10 @@ ghost use Rattle.std.specs.Prelude.{◌≡◌};
 ghost use Rattle.tables.specs.Operators.{binary_of as binary_of_def, level as level_def};
 ghost use Rattle.operator.specs.Operator.{op_token as op_token_def, unary_token as unary_token_def, assign_token as assign_token_def};
 ghost use Rattle.grammar.specs.Canonical.Write.{keyword_of as keyword_of_def};
+ghost use Rattle.writer.specs.Text.{token_in};
 
 use operator::{BinaryOp, PRECEDENCE_START, precedence_level};
 use token::kind;
-
-// No token: one more than the lexer error's kind.
-pub const NO_TOKEN: u64 = 77;
 
 // How many levels there are, and the last operator's number: classes and demands are computed from them.
 pub const LEVELS: u64 = PRECEDENCE_START;
@@ -49,64 +47,64 @@ pub fn level(number: u64) -> u64
     precedence_level(binary_of(number))
 }
 
-#[tactic(auto, unfolding(operator::specs::Operator::op_token))]
-pub fn op_token(number: u64) -> u64
-    ensures { result ≡ op_token_def number }
+#[tactic(auto, unfolding(operator::specs::Operator::op_token, crate::specs::Text::token_in))]
+pub fn op_token(number: u64) -> Option<u64>
+    ensures { result ≡ token_in (op_token_def number) }
 {
     match number {
-        0 => kind::OP_MUL,
-        1 => kind::OP_DIV,
-        2 => kind::OP_MOD,
-        3 => kind::OP_ADD,
-        4 => kind::OP_SUB,
-        5 => kind::OP_LSHIFT,
-        6 => kind::OP_RSHIFT,
-        7 => kind::OP_AND,
-        8 => kind::OP_XOR,
-        9 => kind::OP_OR,
-        10 => kind::OP_LT,
-        11 => kind::OP_GT,
-        12 => kind::OP_LE,
-        13 => kind::OP_GE,
-        14 => kind::OP_EQ,
-        15 => kind::OP_NE,
-        16 => kind::AND,
-        17 => kind::OR,
-        _ => NO_TOKEN,
+        0 => Some(kind::OP_MUL),
+        1 => Some(kind::OP_DIV),
+        2 => Some(kind::OP_MOD),
+        3 => Some(kind::OP_ADD),
+        4 => Some(kind::OP_SUB),
+        5 => Some(kind::OP_LSHIFT),
+        6 => Some(kind::OP_RSHIFT),
+        7 => Some(kind::OP_AND),
+        8 => Some(kind::OP_XOR),
+        9 => Some(kind::OP_OR),
+        10 => Some(kind::OP_LT),
+        11 => Some(kind::OP_GT),
+        12 => Some(kind::OP_LE),
+        13 => Some(kind::OP_GE),
+        14 => Some(kind::OP_EQ),
+        15 => Some(kind::OP_NE),
+        16 => Some(kind::AND),
+        17 => Some(kind::OR),
+        _ => None,
     }
 }
 
-#[tactic(auto, unfolding(operator::specs::Operator::unary_token))]
-pub fn unary_token(number: u64) -> u64
-    ensures { result ≡ unary_token_def number }
+#[tactic(auto, unfolding(operator::specs::Operator::unary_token, crate::specs::Text::token_in))]
+pub fn unary_token(number: u64) -> Option<u64>
+    ensures { result ≡ token_in (unary_token_def number) }
 {
     match number {
-        0 => kind::OP_SUB,
-        1 => kind::OP_ADD,
-        2 => kind::OP_INV,
-        3 => kind::NOT,
-        _ => NO_TOKEN,
+        0 => Some(kind::OP_SUB),
+        1 => Some(kind::OP_ADD),
+        2 => Some(kind::OP_INV),
+        3 => Some(kind::NOT),
+        _ => None,
     }
 }
 
 // An assignment's token: the plain one, or at 1 + a binary operator's number the one with that operator.
-#[tactic(auto, unfolding(operator::specs::Operator::assign_token))]
-pub fn assign_token(place: u64) -> u64
-    ensures { result ≡ assign_token_def place }
+#[tactic(auto, unfolding(operator::specs::Operator::assign_token, crate::specs::Text::token_in))]
+pub fn assign_token(place: u64) -> Option<u64>
+    ensures { result ≡ token_in (assign_token_def place) }
 {
     match place {
-        0 => kind::OP_ASSIGN,
-        1 => kind::OP_MUL_ASSIGN,
-        2 => kind::OP_DIV_ASSIGN,
-        3 => kind::OP_MOD_ASSIGN,
-        4 => kind::OP_ADD_ASSIGN,
-        5 => kind::OP_SUB_ASSIGN,
-        6 => kind::OP_LSHIFT_ASSIGN,
-        7 => kind::OP_RSHIFT_ASSIGN,
-        8 => kind::OP_AND_ASSIGN,
-        9 => kind::OP_XOR_ASSIGN,
-        10 => kind::OP_OR_ASSIGN,
-        _ => NO_TOKEN,
+        0 => Some(kind::OP_ASSIGN),
+        1 => Some(kind::OP_MUL_ASSIGN),
+        2 => Some(kind::OP_DIV_ASSIGN),
+        3 => Some(kind::OP_MOD_ASSIGN),
+        4 => Some(kind::OP_ADD_ASSIGN),
+        5 => Some(kind::OP_SUB_ASSIGN),
+        6 => Some(kind::OP_LSHIFT_ASSIGN),
+        7 => Some(kind::OP_RSHIFT_ASSIGN),
+        8 => Some(kind::OP_AND_ASSIGN),
+        9 => Some(kind::OP_XOR_ASSIGN),
+        10 => Some(kind::OP_OR_ASSIGN),
+        _ => None,
     }
 }
 

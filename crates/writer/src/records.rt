@@ -1,6 +1,7 @@
 // Finding one's way in records. A tree is named by its end: the place behind its last record, which is its root's. A node's last child
 // ends two words before the node, and a child's next older sibling ends where the child's records begin. 0 is the end of no tree, and
 // stands for a child that is not there: its kind, the count of its children and its value are 0.
+// Stays 0 and no Option: each of the three is asked of a child that may not be there, and would be written with 0 at each place.
 ghost use Rattle.std.specs.Prelude.{◌≤◌};
 ghost use Rattle.writer.specs.Stack.{Here, Somewhere, Shape, Skipped, Says, LastOf, KidOf};
 ghost use Rattle.tables.specs.Children.{kind_in, count_in, value_in};
@@ -11,20 +12,15 @@ use tree::word::CHILD;
 pub fn shape(records: &[u64]) -> bool
     ensures { Shape records.now result }
 {
-    let mut i = 0;
     let mut h: u64 = 0;
-    while i < records.len() {
-        if records.len() - i < 2 {
-            return false;
-        }
-        let n = records[i] / CHILD;
+    for i in 0..records.len() / 2 {
+        let n = records[2 * i] / CHILD;
         if h < n {
             return false;
         }
         h = h - n + 1;
-        i += 2;
     }
-    h == 1
+    records.len() % 2 == 0 && h == 1
 }
 
 // The kind of the tree that ends at p.
@@ -95,11 +91,9 @@ pub fn kid_of(records: &[u64], p: usize, j: u64) -> usize
     if n < j {
         return 0;
     }
-    let mut i = n;
     let mut q = p - 2;
-    while j < i {
+    for _ in j..n {
         q = skip(records, q);
-        i -= 1;
     }
     q
 }

@@ -1,9 +1,9 @@
 // The trees that stand in the pass over the nodes (legal.rt): they are finished, and their parents are not yet visited. They are numbered from 0,
 // the first one, and `kept[i - base]` is what is kept of the tree number i, from the number `base` on (specs/Standing.antt: entry). What is not kept
 // is found in the records, which takes time.
-ghost use Rattle.std.specs.Prelude.{◌<◌, ◌≡◌};
+ghost use Rattle.std.specs.Prelude.{◌≡◌, ◌+◌, ◌-◌, ◌<◌, ◌≤◌, length, slice_index, MatchOption};
 ghost use Rattle.writer.specs.Stack.{Skipped};
-ghost use Rattle.writer.specs.Standing.{On, Tells, Keeps, word as word_def, first_kept as first_kept_def, one as one_def, serves as serves_def};
+ghost use Rattle.writer.specs.Standing.{TreeAt, Tells, Keeps, word as word_def, first_kept as first_kept_def, serves as serves_def};
 ghost use Rattle.tables.specs.Check.{class_of as class_of_def, begins_labelled as begins_labelled_def};
 
 use crate::edges::begins_labelled;
@@ -19,75 +19,79 @@ const SERVES: u64 = 256;
 
 const BEGIN: u64 = 512;
 
-// A tree that begins here or behind, or is of a class that there is not, is not kept: its number might be no word, or NO_WORD.
+// A tree that begins here or behind, or is of a class that there is not, is not kept: its number might be no word.
 const FAR: usize = 18014398509481984;
 
-// Nothing is kept of a tree.
-const NO_WORD: u64 = 18446744073709551615;
-
-// Where the tree number i, which ends at q, begins.
-pub fn begin_of(records: &[u64], kept: &[u64], base: usize, i: usize, q: usize) -> usize
-    requires { On records.now kept.now base i q }
-    ensures { Skipped records.now q result }
-{
-    if base <= i {
-        return (kept[i - base] / BEGIN) as usize;
-    }
-    skip(records, q)
+// The trees that stand, to be asked: the records, and what is kept from the number `base` on.
+#[derive(Clone, Copy)]
+pub struct Standing<'a> {
+    pub records: &'a [u64],
+    pub kept: &'a [u64],
+    pub base: usize,
 }
 
-pub fn class_of(records: &[u64], kept: &[u64], base: usize, i: usize, q: usize) -> u64
-    requires { On records.now kept.now base i q }
-    ensures { Tells records.now q (λ t s. class_of_def t) result }
-{
-    if base <= i {
-        return kept[i - base] % LABELLED;
+impl Standing<'_> {
+    // What is kept of the tree number i, if it is kept.
+    fn word(&self, i: usize) -> Option<u64>
+        requires { i < self.now.base + length self.now.kept.now }
+        ensures { MatchOption result (i < self.now.base) (λ w. (self.now.base ≤ i) × (w ≡ slice_index self.now.kept.now (i - self.now.base))) }
+    {
+        let place = i.checked_sub(self.base)?;
+        Some(self.kept[place])
     }
-    class_at(records, q)
+
+    // Where the tree number i, which ends at q, begins.
+    pub fn begin_of(&self, i: usize, q: usize) -> usize
+        requires { TreeAt self.now i q }
+        ensures { Skipped self.now.records.now q result }
+    {
+        match self.word(i) {
+            Some(word) => (word / BEGIN) as usize,
+            None => skip(self.records, q),
+        }
+    }
+
+    pub fn class_of(&self, i: usize, q: usize) -> u64
+        requires { TreeAt self.now i q }
+        ensures { Tells self.now.records.now q (λ t s. class_of_def t) result }
+    {
+        match self.word(i) {
+            Some(word) => word % LABELLED,
+            None => class_at(self.records, q),
+        }
+    }
+
+    // Whether it begins with a label.
+    pub fn labelled_of(&self, i: usize, q: usize) -> bool
+        requires { TreeAt self.now i q }
+        ensures { Tells self.now.records.now q (λ t s. begins_labelled_def t) result }
+    {
+        match self.word(i) {
+            Some(word) => word / LABELLED % 2 == 1,
+            None => begins_labelled(self.records, q),
+        }
+    }
+
+    // Whether it serves a `fun` with a target.
+    pub fn serves_of(&self, i: usize, q: usize) -> bool
+        requires { TreeAt self.now i q }
+        ensures { Tells self.now.records.now q serves_def result }
+    {
+        match self.word(i) {
+            Some(word) => word / SERVES % 2 == 1,
+            None => serves_at(self.records, q),
+        }
+    }
 }
 
-// Whether it begins with a label.
-pub fn labelled_of(records: &[u64], kept: &[u64], base: usize, i: usize, q: usize) -> bool
-    requires { On records.now kept.now base i q }
-    ensures { Tells records.now q (λ t s. begins_labelled_def t) result }
-{
-    if base <= i {
-        return kept[i - base] / LABELLED % 2 == 1;
-    }
-    begins_labelled(records, q)
-}
-
-// Whether it serves a `fun` with a target.
-pub fn serves_of(records: &[u64], kept: &[u64], base: usize, i: usize, q: usize) -> bool
-    requires { On records.now kept.now base i q }
-    ensures { Tells records.now q serves_def result }
-{
-    if base <= i {
-        return kept[i - base] / SERVES % 2 == 1;
-    }
-    serves_at(records, q)
-}
-
-fn one(yes: bool) -> u64
-    ensures { result ≡ one_def yes }
-{
-    if yes {
-        return 1;
-    }
-    0
-}
-
-// What is kept of a tree that has a class and begins at b.
-pub fn word_of(class: u64, labelled: bool, serves: bool, b: usize) -> u64
+// What is kept of a tree that has a class and begins at b, if it is kept.
+pub fn word_of(class: u64, labelled: bool, serves: bool, b: usize) -> Option<u64>
     ensures { result ≡ word_def class labelled serves b }
 {
-    if LABELLED <= class {
-        return NO_WORD;
+    if LABELLED <= class || FAR <= b {
+        return None;
     }
-    if FAR <= b {
-        return NO_WORD;
-    }
-    class + LABELLED * one(labelled) + SERVES * one(serves) + BEGIN * b as u64
+    Some(class + LABELLED * u64::from(labelled) + SERVES * u64::from(serves) + BEGIN * b as u64)
 }
 
 // From which number on trees are kept with the tree number i, the last one, where there are n words: from that one on if its number is below the
@@ -104,15 +108,15 @@ fn first_kept(n: usize, base: usize, i: usize) -> usize
     base
 }
 
-// Keeps the word of the tree number i, the last one. Answers from which number on trees are kept.
-pub fn keep(kept: &mut [u64], base: usize, i: usize, word: u64) -> usize
+// Keeps the word of the tree number i, the last one, if it has one. Answers from which number on trees are kept.
+pub fn keep(kept: &mut [u64], base: usize, i: usize, word: Option<u64>) -> usize
     requires { i < 18446744073709551615 }
     ensures { Keeps kept.old kept.new base i word result }
 {
-    if word == NO_WORD {
+    let Some(word) = word else {
         return i + 1;
-    }
-    if kept.len() == 0 {
+    };
+    if kept.is_empty() {
         return i + 1;
     }
     let from = first_kept(kept.len(), base, i);

@@ -14,28 +14,26 @@ use crate::kinds::{gives_name, target_atom, target_item};
 use crate::records::{count_at, kid_of, kind_at, skip, value_at};
 use tree::node;
 
-// Whether a tree passed a test that goes over its children, and where it begins.
-#[derive(Drop)]
-pub enum Fitting {
-    From(usize),
-    Not,
-}
+// The modes of an assignment: `fun` with a target can't give it, whatever its action; it can, and the signature has no name; it can, and the signature has one.
+pub const NOT_GIVEN: u64 = 0;
+
+pub const UNNAMED: u64 = 1;
+
+pub const NAMED: u64 = 2;
 
 // Whether the items of a path, the children of the list that ends at p, are members and indexes; and where the path begins.
-fn target_items(records: &[u64], p: usize) -> Fitting
+fn target_items(records: &[u64], p: usize) -> Option<usize>
     requires { Here records.now p }
     ensures { Fit records.now p (λ t. target_items_def (children_in (just t))) result }
 {
-    let mut j = count_at(records, p);
     let mut q = p - 2;
-    while 0 < j {
+    for _ in 0..count_at(records, p) {
         if !target_item(kind_at(records, q)) {
-            return Fitting::Not;
+            return None;
         }
         q = skip(records, q);
-        j -= 1;
     }
-    Fitting::From(q)
+    Some(q)
 }
 
 // Whether the receiver that ends at p can begin a target: an atom that is no group, and a path without calls.
@@ -48,11 +46,10 @@ pub fn target_receiver(records: &[u64], p: usize) -> bool
         return false;
     }
     // the atom ends where the path begins
-    let r = target_items(records, path);
-    let Fitting::From(atom) = r else {
-        return false;
-    };
-    target_atom(kind_at(records, atom))
+    match target_items(records, path) {
+        Some(atom) => target_atom(kind_at(records, atom)),
+        None => false,
+    }
 }
 
 // Whether the pattern that ends at p can be a target.
@@ -77,33 +74,32 @@ pub fn gives_name_at(records: &[u64], p: usize, name: u64) -> bool
     gives_name(kind_at(records, p), value_at(records, p), name)
 }
 
-// The assignment that ends at p. 0: `fun` with a target can't give it, whatever its action; 1: it can, and the signature has no name;
-// 2: it can, and the signature has one.
+// Whether `fun` with a target can give the assignment that ends at p, whatever its action.
 pub fn function_form(records: &[u64], p: usize) -> u64
     requires { Somewhere records.now p }
     ensures { Says records.now p (λ m. function_form_def (children_in m)) result }
 {
     let function = kid_of(records, p, 2);
     if kind_at(records, function) != node::FUNCTION_DEF {
-        return 0;
+        return NOT_GIVEN;
     }
     let signature = kid_of(records, function, 1);
     if signature == 0 {
-        return 0;
+        return NOT_GIVEN;
     }
     // the function's records begin where its signature's do
     let target = skip(records, signature);
     let name = value_at(records, signature);
     if !gives_name_at(records, target, name) {
-        return 0;
+        return NOT_GIVEN;
     }
     if !is_target(records, target) {
-        return 0;
+        return NOT_GIVEN;
     }
     if name == 0 {
-        return 1;
+        return UNNAMED;
     }
-    2
+    NAMED
 }
 
 // Whether the function that ends at p, whose signature has the name and which begins at b, has the name that the tree before it gives as a target.
@@ -122,11 +118,7 @@ fn path_serves(records: &[u64], p: usize) -> bool
     requires { Here records.now p }
     ensures { Tells records.now p (λ t s. target_items_def (children_in (just t))) result }
 {
-    let r = target_items(records, p);
-    match r {
-        Fitting::From(_) => true,
-        Fitting::Not => false,
-    }
+    target_items(records, p).is_some()
 }
 
 // Whether the tree that ends at p serves a `fun` with a target: as the target or a part of it, or as the function behind it.

@@ -1,18 +1,19 @@
 // The text, right-aligned in the output: a token before it, and the tokens around a node's children.
 ghost use Rattle.std.specs.Prelude.{◌+◌, ◌≤◌, length};
-ghost use Rattle.writer.specs.Text.{Put, Opened, Closed};
+ghost use Rattle.writer.specs.Form.{form_of_head};
+ghost use Rattle.writer.specs.Text.{ForToken, Put, Opened, Closed};
 
-use crate::operators::NO_TOKEN;
-use crate::tokens::{behind_token, carried, first_token, last_token, second_token, third_token};
+use crate::form::Head;
 
 // A token before the text that begins at a - 2. Where a is below 2 the text had no room, and where this one has none the answer is 0.
-pub fn put(output: &mut [u64], a: usize, token: u64, value: u64) -> usize
+// Stays a number and no Option: crate output takes it so, where what has no room is answered.
+pub fn put(output: &mut [u64], a: usize, token: Option<u64>, value: u64) -> usize
     requires { a ≤ length output.old + 2 }
-    ensures { Put token value a result output.old output.new }
+    ensures { ForToken token (λ c. Put c value a result output.old output.new) }
 {
-    if token == NO_TOKEN {
+    let Some(token) = token else {
         return a;
-    }
+    };
     if a < 4 {
         return 0;
     }
@@ -21,24 +22,26 @@ pub fn put(output: &mut [u64], a: usize, token: u64, value: u64) -> usize
     a - 2
 }
 
-// The tokens behind a node's children, before the text that begins at a - 2.
-pub fn closing(output: &mut [u64], a: usize, kind: u64, value: u64, form: u64) -> usize
-    requires { a ≤ length output.old + 2 }
-    ensures { Closed kind value form a result output.old output.new }
-{
-    let last = last_token(kind);
-    let b = put(output, a, last, carried(kind, value, last));
-    put(output, b, behind_token(kind, form), 0)
-}
+impl Head {
+    // The tokens behind a node's children, before the text that begins at a - 2.
+    pub fn closing(self, output: &mut [u64], a: usize) -> usize
+        requires { a ≤ length output.old + 2 }
+        ensures { Closed self.kind self.value (form_of_head self) a result output.old output.new }
+    {
+        let last = self.last_token();
+        let b = put(output, a, last, self.carried(last));
+        put(output, b, self.behind_token(), 0)
+    }
 
-// The tokens before a node's children.
-pub fn opening(output: &mut [u64], a: usize, kind: u64, value: u64, form: u64) -> usize
-    requires { a ≤ length output.old + 2 }
-    ensures { Opened kind value form a result output.old output.new }
-{
-    let b = put(output, a, third_token(kind), 0);
-    let second = second_token(kind, value);
-    let c = put(output, b, second, carried(kind, value, second));
-    let first = first_token(kind, value, form);
-    put(output, c, first, carried(kind, value, first))
+    // The tokens before a node's children.
+    pub fn opening(self, output: &mut [u64], a: usize) -> usize
+        requires { a ≤ length output.old + 2 }
+        ensures { Opened self.kind self.value (form_of_head self) a result output.old output.new }
+    {
+        let b = put(output, a, self.third_token(), 0);
+        let second = self.second_token();
+        let c = put(output, b, second, self.carried(second));
+        let first = self.first_token();
+        put(output, c, first, self.carried(first))
+    }
 }

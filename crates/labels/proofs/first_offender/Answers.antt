@@ -1,43 +1,37 @@
 -- `labels::first_offender` meets its contract: from the last record to the first. Assumes nothing.
-use mathlib.Core.Path.{refl}
-use Prim.Native.Nat.{◌+◌, ◌*◌, ◌-◌, ◌/◌, ◌≤◌}
+use mathlib.Core.Path.{◌≡◌, ap, ◌∙◌}
+use Prim.Native.Nat.{◌*◌, ◌/◌}
 use native.Mathlib.Omega.{arith}
-use lib.ListN.{length, get_or}
+use lib.ListN.{length}
+use Rattle.writer.proofs.Entry.{whole_even}
 use Rattle.labels.proofs.Pass.{Ahead, going_start, ahead, round_at, going_next, going_end}
-use Rattle.labels.proofs.first_offender.Goals.{In-loop-p}
+use Rattle.labels.proofs.first_offender.Goals.{In-loop-i}
 use Rattle.labels.proofs.first_offender.Goals as goal
 
 -- the record that is looked at
-module _ (c : In-loop-p) where
-  next : Ahead c.args.records.now c.loop-p.p c.loop-p.pending
-  next = ahead c.loop-p.invariant.0 c.loop-p-test.true
+module _ (c : In-loop-i) where
+  next : Ahead c.args.records.now c.loop-i.i c.loop-i.pending
+  next = ahead c.loop-i.invariant c.loop-i-test.true
 
-  bounds : (2 ≤ c.loop-p.p) × (c.loop-p.p ≤ length c.args.records.now) × (1 ≤ c.loop-p.pending) × (2 * (c.loop-p.pending - 1 + get_or c.args.records.now (c.loop-p.p - 2) 0 / 256) ≤ c.loop-p.p - 2)
-  bounds = (next.two, c.loop-p.invariant.0.within, next.some, next.fewer)
+pub loop-i-init : goal.loop-i-init
+loop-i-init c =
+    let z = (whole_even c.requires).1 in
+    let e : 2 * (length c.args.records.now / 2) ≡ length c.args.records.now = omega (arith, z) in
+    rw e (going_start _ _ c.requires)
 
-pub loop-p-init : goal.loop-p-init
-loop-p-init c = (going_start _ _ c.requires, refl)
-
-pub offence-number-requires : goal.offence-number-requires
-offence-number-requires c = round_at c.loop-p.invariant.0 c.loop-p-test.true c.standing-n.ensures
-
-pub overflow_sub-p : goal.overflow_sub-p
-overflow_sub-p c = omega (arith, bounds (goal.at.overflow_sub-p c).In-loop-p)
+pub offence-requires : goal.offence-requires
+offence-requires c = rw c.leave.ensures.same (round_at c.loop-i.invariant c.loop-i-test.true c.leave.ensures.stands)
 
 pub overflow_sub-pending : goal.overflow_sub-pending
-overflow_sub-pending c = omega (arith, bounds (goal.at.overflow_sub-pending c).In-loop-p)
+overflow_sub-pending c = omega (arith, (next (goal.at.overflow_sub-pending c).In-loop-i).some)
 
 pub overflow_add-pending : goal.overflow_add-pending
-overflow_add-pending c = omega (arith, bounds (goal.at.overflow_add-pending c).In-loop-p)
+overflow_add-pending c = omega (arith, (next (goal.at.overflow_add-pending c).In-loop-i).within, (next (goal.at.overflow_add-pending c).In-loop-i).fewer)
 
-pub bounds-records-p-in-loop-p-2 : goal.bounds-records-p-in-loop-p-2
-bounds-records-p-in-loop-p-2 c = omega (arith, bounds (goal.at.bounds-records-p-in-loop-p-2 c).In-loop-p)
-
-pub loop-p-preserved : goal.loop-p-preserved
-loop-p-preserved c = let e = c.enter-n in
-    let k = e.auto.kept in
-    let v = c.loop-p.invariant in
-    (rw c.noted-found.ensures (going_next v.0 c.loop-p-test.true c.standing-n.ensures c.offence-number.ensures e.ensures k), omega (arith, v.1))
+pub loop-i-preserved : goal.loop-i-preserved
+loop-i-preserved c =
+    let same = c.leave.ensures.same in
+    rw c.noted-found.ensures (going_next c.loop-i.invariant c.loop-i-test.true c.leave.ensures.stands c.offence.ensures (rw same at c.enter.ensures.entered) (c.enter.ensures.long ∙ ap length same))
 
 pub returns : goal.returns
-returns c = going_end c.loop-p.invariant.0 c.loop-p-test.false
+returns c = going_end c.loop-i.invariant (omega (arith, c.loop-i-test.false))

@@ -23,14 +23,8 @@ number row = Row
 
 -- the place for which grammar asks a tree's depth: that under a modifier, and else as if the tree stood by itself
 abbrev pub depth_place : Place → Place
-depth_place own = own
 depth_place modified = modified
-depth_place targeted = own
-depth_place commas = own
-depth_place members = own
-depth_place suite = own
-depth_place branches = own
-depth_place row = own
+depth_place _ = own
 
 -- the tables and grammar say the same of a tree at a place
 pub record Same (p : Place) (t : Tree) : Type 0 where

@@ -10,7 +10,7 @@ use Rattle.writer.specs.Stack.{At}
 use Rattle.writer.proofs.Laws.{at_many}
 use Rattle.writer.proofs.Places.{some_place}
 use Rattle.writer.proofs.Writing.{under_top, wrote_deep}
-use Rattle.writer.proofs.Nodes.{below_base, base_deep, left_start, last, last_done, last_deep, left_end}
+use Rattle.writer.proofs.Nodes.{form_says, below_base, base_deep, left_start, last, last_done, last_deep, left_end}
 use Rattle.writer.proofs.Sides.{sides, side_written, side_done, side_deep}
 use Rattle.writer.proofs.+write_node_write_tree.Goals as goal
 
@@ -24,8 +24,8 @@ write_node-overflow_sub-word t c = omega (arith, inside c.requires.0.here)
 pub write_node-bounds-records-p : goal.write_node-bounds-records-p
 write_node-bounds-records-p t c = omega (arith, inside c.requires.0.here)
 
-pub write_node-overflow_sub-value : goal.write_node-overflow_sub-value
-write_node-overflow_sub-value t c = omega (arith, inside c.requires.0.here)
+pub write_node-overflow_sub-head : goal.write_node-overflow_sub-head
+write_node-overflow_sub-head t c = omega (arith, inside c.requires.0.here)
 
 pub write_node-bounds-records-p-2 : goal.write_node-bounds-records-p-2
 write_node-bounds-records-p-2 t c = omega (arith, inside c.requires.0.here)
@@ -33,14 +33,15 @@ write_node-bounds-records-p-2 t c = omega (arith, inside c.requires.0.here)
 pub write_node-returns-then-depth-base : goal.write_node-returns-then-depth-base
 write_node-returns-then-depth-base t c = record { how = λ u s X a h. base_deep _ u s a c.base.ensures c.if-depth-base.true }
 
-pub write_node-form_at-form-requires : goal.write_node-form_at-form-requires
-write_node-form_at-form-requires t c = some_place c.requires.0
+pub write_node-form_at-requires : goal.write_node-form_at-requires
+write_node-form_at-requires t c = some_place c.requires.0
 
 pub write_node-overflow_sub-q : goal.write_node-overflow_sub-q
 write_node-overflow_sub-q t c = omega (arith, inside c.requires.0.here)
 
 pub write_node-loop-j-init : goal.write_node-loop-j-init
-write_node-loop-j-init t c = record { go = λ u s X a h. left_start _ u s X a c.base.ensures c.if-depth-base.false c.form_at-form.ensures h; kept = refl }
+write_node-loop-j-init t c =
+    record { go = λ u s X a h. left_start _ u s X a c.base.ensures c.if-depth-base.false (form_says c.form_at.ensures a) h; kept = refl }
 
 -- in each of the next, `y` is what the call asks, and the children that are left stand before the text that stood there
 pub write_node-put-b-requires : goal.write_node-put-b-requires
@@ -51,22 +52,21 @@ write_node-put-b-requires t c =
 pub write_node-overflow_sub-below : goal.write_node-overflow_sub-below
 write_node-overflow_sub-below t c = below_base _ _ c.loop-j.j c.deeper.ensures c.base.ensures c.if-depth-base.false
 
-pub write_node-write_tree-r-requires : goal.write_node-write_tree-r-requires
-write_node-write_tree-r-requires t c =
+pub write_node-write_tree-requires : goal.write_node-write_tree-requires
+write_node-write_tree-requires t c =
     let y = c.requires in
     let g = c.loop-j.invariant.go y.0.top y.0.rest y.1.words y.0.here (c.closing-a.ensures.how y.1.words y.1.holds) in
     let w = last g c.loop-j-test.true in
     let low = g.below in
-    (omega (arith, c.decreases), (record { top = w.top; rest = w.others ++ y.0.rest; here = w.here }, record { words = _; holds = c.put-b.ensures.how w.words w.holds }))
+    (omega (arith, c.decreases), (record { top = w.top; rest = w.others ++ y.0.rest; here = w.here }, record { words = _; holds = (c.put-b.ensures _ c.after_token.ensures).how w.words w.holds }))
 
-pub write_node-returns-in_default : goal.write_node-returns-in_default
-write_node-returns-in_default t c =
-    let e = c.in_default.is in
-    wrote_deep e λ u s X a h. last_deep (last (c.loop-j.invariant.go u s X a (c.closing-a.ensures.how X h)) c.loop-j-test.true) c.place_of-its.ensures c.deeper.ensures c.after_token.ensures c.put-b.ensures c.write_tree-r.ensures e
+pub write_node-returns-in_err-kid : goal.write_node-returns-in_err-kid
+write_node-returns-in_err-kid t c =
+    wrote_deep c.from_residual.ensures.0 λ u s X a h. last_deep (last (c.loop-j.invariant.go u s X a (c.closing-a.ensures.how X h)) c.loop-j-test.true) c.place_of.ensures c.deeper.ensures (c.put-b.ensures _ c.after_token.ensures) c.write_tree.ensures c.in_err-kid.was
 
 pub write_node-loop-j-preserved : goal.write_node-loop-j-preserved
 write_node-loop-j-preserved t c = record {
-  go = λ u s X a h. last_done (last (c.loop-j.invariant.go u s X a h) c.loop-j-test.true) c.place_of-its.ensures c.deeper.ensures c.after_token.ensures c.put-b.ensures c.write_tree-r.ensures c.in-Done.is;
+  go = λ u s X a h. last_done (last (c.loop-j.invariant.go u s X a h) c.loop-j-test.true) c.place_of.ensures c.deeper.ensures (c.put-b.ensures _ c.after_token.ensures) c.write_tree.ensures c.in_ok-kid.was;
   kept = omega (arith, c.loop-j.invariant.kept);
 }
 
@@ -77,7 +77,7 @@ write_node-opening-requires t c =
 
 pub write_node-returns : goal.write_node-returns
 write_node-returns t c = record {
-  how = λ u s X a h. left_end (c.loop-j.invariant.go u s X a (c.closing-a.ensures.how X h)) c.loop-j-test.false c.opening.ensures;
+  how = λ u s X a h. left_end (c.loop-j.invariant.go u s X a (c.closing-a.ensures.how X h)) (omega (arith, c.loop-j-test.false)) c.opening.ensures;
 }
 
 -- in each of the next, the loop stands in the tree that the call is for, before the text that stood there
@@ -99,34 +99,33 @@ write_tree-bounds-records-p-in-loop-p t c = let y = c.requires in omega (arith, 
 pub write_tree-overflow_sub-p-in-loop-p : goal.write_tree-overflow_sub-p-in-loop-p
 write_tree-overflow_sub-p-in-loop-p t c = let y = c.requires in omega (arith, inside (c.loop-p.invariant.go y.0.top y.0.rest y.1.words y.0.here y.1.holds).here)
 
-pub write_tree-write_tree-r-requires : goal.write_tree-write_tree-r-requires
-write_tree-write_tree-r-requires t c =
+pub write_tree-write_tree-requires : goal.write_tree-write_tree-requires
+write_tree-write_tree-requires t c =
     let y = c.requires in
     let g = c.loop-p.invariant.go y.0.top y.0.rest y.1.words y.0.here y.1.holds in
     let w = sides g c.loop-p-test.true in
     let low = w.below in
     (omega (arith, c.decreases, inside g.here), (record { top = w.right; rest = w.left ∷ y.0.rest; here = w.here }, record { words = w.words; holds = w.holds }))
 
-pub write_tree-returns-in_default : goal.write_tree-returns-in_default
-write_tree-returns-in_default t c =
-    let e = c.in_default.is in
-    wrote_deep e λ u s X a h. side_deep (sides (c.loop-p.invariant.go u s X a h) c.loop-p-test.true) c.write_tree-r.ensures e
+pub write_tree-returns-in_err-side : goal.write_tree-returns-in_err-side
+write_tree-returns-in_err-side t c =
+    wrote_deep c.from_residual.ensures.0 λ u s X a h. side_deep (sides (c.loop-p.invariant.go u s X a h) c.loop-p-test.true) c.write_tree.ensures c.in_err-side.was
 
 pub write_tree-put-a-requires : goal.write_tree-put-a-requires
 write_tree-put-a-requires t c =
     let y = c.requires in
     let w = sides (c.loop-p.invariant.go y.0.top y.0.rest y.1.words y.0.here y.1.holds) c.loop-p-test.true in
-    holds_bound (side_written w c.write_tree-r.ensures c.in-Done.is).2
+    holds_bound (side_written w c.write_tree.ensures c.in_ok-side.was).2
 
 pub write_tree-loop-p-smaller : goal.write_tree-loop-p-smaller
 write_tree-loop-p-smaller t c =
     let y = c.requires in
     let w = sides (c.loop-p.invariant.go y.0.top y.0.rest y.1.words y.0.here y.1.holds) c.loop-p-test.true in
-    omega (arith, under_top w.here (side_written w c.write_tree-r.ensures c.in-Done.is).1)
+    omega (arith, under_top w.here (side_written w c.write_tree.ensures c.in_ok-side.was).1)
 
 pub write_tree-loop-p-preserved : goal.write_tree-loop-p-preserved
 write_tree-loop-p-preserved t c = record {
-  go = λ u s X a h. side_done (sides (c.loop-p.invariant.go u s X a h) c.loop-p-test.true) c.write_tree-r.ensures c.in-Done.is c.op_token.ensures c.put-a.ensures;
+  go = λ u s X a h. side_done (sides (c.loop-p.invariant.go u s X a h) c.loop-p-test.true) c.write_tree.ensures c.in_ok-side.was (c.put-a.ensures _ c.op_token.ensures);
   kept = omega (arith, c.loop-p.invariant.kept);
 }
 

@@ -6,6 +6,7 @@ use lib.ListN.{length}
 use Rattle.tree.specs.Tree.{Tree}
 use Rattle.tables.specs.Layout.{text, within, closed}
 use Rattle.output.specs.Text.{Holds}
+use Rattle.writer.specs.Form.{place_number, form_of_head}
 use Rattle.writer.specs.Stack.{At}
 use Rattle.writer.proofs.Nodes.{Left}
 use Rattle.writer.proofs.Sides.{Stage}
@@ -23,10 +24,7 @@ pub record Children (L O₀ : List ℕ) (d place p k v m n a₀ : ℕ) (O : List
   pub kept : length O ≡ length O₀
 
 abbrev pub invariant-write_node-loop-j : goal.invariant-write_node-loop-j
-invariant-write_node-loop-j l = Children l.records l.initial.output l.depth l.place l.p l.kind l.value l.form l.n l.initial.a l.output l.j l.q l.a
-
-abbrev pub decreases-write_node-loop-j : goal.decreases-write_node-loop-j
-decreases-write_node-loop-j l = l.j
+invariant-write_node-loop-j l = Children l.records l.initial.output l.depth (place_number l.fn.place) l.p l.head.kind l.head.value (form_of_head l.head) l.n l.initial.a l.output l.j l.q l.a
 
 -- of `write_tree`: whatever tree ends at `from`, where the loop stands in it
 pub record Chain (L O₀ : List ℕ) (d place from end : ℕ) (O : List ℕ) (at p a : ℕ) : Type 0 where
@@ -34,7 +32,7 @@ pub record Chain (L O₀ : List ℕ) (d place from end : ℕ) (O : List ℕ) (at
   pub kept : length O ≡ length O₀
 
 abbrev pub invariant-write_tree-loop-p : goal.invariant-write_tree-loop-p
-invariant-write_tree-loop-p l = Chain l.records l.initial.output l.depth l.place l.from l.end l.output l.at l.p l.a
+invariant-write_tree-loop-p l = Chain l.records l.initial.output l.depth (place_number l.fn.place) l.from l.end l.output (place_number l.at) l.p l.a
 
 abbrev pub decreases-write_tree-loop-p : goal.decreases-write_tree-loop-p
 decreases-write_tree-loop-p l = l.p

@@ -2,36 +2,36 @@
 use mathlib.Core.Path.{◌≡◌, sym, ap, ◌∙◌}
 use mathlib.Core.Bool.{true, false}
 use mathlib.Core.List.{List}
-use Prim.Native.Nat.{ℕ, ◌+◌, ◌-◌, ◌/◌, ◌%◌, ◌≤◌}
+use Prim.Native.Nat.{ℕ, ◌/◌, ◌%◌, ◌≤◌}
 use native.Mathlib.Omega.{arith}
-use lib.ListN.{length, get_or, drop, length-drop}
+use lib.ListN.{length, get_or}
 use Rattle.labels.specs.Offences.{inside}
 use Rattle.labels.specs.Behind.{enclosing, is_last, further}
-use Rattle.labels.proofs.Words.{two_words, above, on, further_bounds, none_left}
+use Rattle.labels.proofs.Words.{after, first_two, above, on, further_bounds, none_left}
 use Rattle.labels.proofs.behind.next_above.Goals as goal
 
--- the record at q, before which h trees stand from the tree on
-module _ (L : List ℕ) (p q h : ℕ) (same : enclosing 1 (drop p L) ≡ enclosing h (drop q L)) (l : q + 2 ≤ length L) where
-  takes : is_last (get_or L q 0 / 256) h ≡ true → enclosing 1 (drop p L) ≡ inside (get_or L (q + 2 - 2) 0 % 256) (get_or L (q + 2 - 1) 0) (enclosing 1 (drop (q + 2) L))
-  takes e =
-      let a : q + 2 - 2 ≡ q = omega arith in
-      let b : q + 2 - 1 ≡ q + 1 = omega arith in
-      rw (a, b) (same ∙ ap (enclosing h) (two_words L q l) ∙ above _ _ _ h e)
+-- the first record of the words M, before which h trees stand from the tree before the words L on
+module _ (L M : List ℕ) (h : ℕ) (same : enclosing 1 L ≡ enclosing h M) (l : 2 ≤ length M) where
+  takes : is_last (get_or M 0 0 / 256) h ≡ true → enclosing 1 L ≡ inside (get_or M 0 0 % 256) (get_or M 1 0) (enclosing 1 (after M))
+  takes e = same ∙ ap (enclosing h) (first_two M l).0 ∙ above _ _ _ h e
 
-  passes : (r : ℕ) → is_last (get_or L q 0 / 256) h ≡ false → r ≡ further (get_or L q 0 / 256) h → enclosing 1 (drop p L) ≡ enclosing r (drop (q + 2) L)
-  passes r e f = same ∙ ap (enclosing h) (two_words L q l) ∙ on _ _ _ h e ∙ ap (λ (n : ℕ). enclosing n (drop (q + 2) L)) (sym f)
+  passes : (r : ℕ) → is_last (get_or M 0 0 / 256) h ≡ false → r ≡ further (get_or M 0 0 / 256) h → enclosing 1 L ≡ enclosing r (after M)
+  passes r e f = same ∙ ap (enclosing h) (first_two M l).0 ∙ on _ _ _ h e ∙ ap (λ (n : ℕ). enclosing n (after M)) (sym f)
 
 pub returns-then-is_last : goal.returns-then-is_last
-returns-then-is_last c = let e = sym c.is_last.ensures ∙ c.if-is_last.true in
-    record { none = λ z. absurd (omega arith); above = λ l. (omega arith, omega arith); here = λ l. takes c.args.records.now c.args.p c.loop-q.q c.loop-q.h c.loop-q.invariant.4 (omega arith) e }
+returns-then-is_last c =
+    let v = c.loop-rest.invariant in
+    let n = (first_two c.loop-rest.rest.now c.in-len2-up.len_at_least).1 in
+    record { how = (takes c.args.records.now c.loop-rest.rest.now c.loop-rest.h v.2 c.in-len2-up.len_at_least (sym c.is_last.ensures ∙ c.if-is_last.true), omega arith) }
 
-pub loop-q-preserved : goal.loop-q-preserved
-loop-q-preserved c = let v = c.loop-q.invariant in
+pub loop-rest-preserved : goal.loop-rest-preserved
+loop-rest-preserved c =
+    let v = c.loop-rest.invariant in
     let e = sym c.is_last.ensures ∙ c.if-is_last.false in
     let f = c.further-h.ensures in
-    let b = further_bounds _ _ v.2 in
-    (omega arith, omega arith, rw f b.0, omega (arith, rw (← f) at b.1), passes c.args.records.now c.args.p c.loop-q.q c.loop-q.h v.4 (omega arith) _ e f)
+    let b = further_bounds (get_or c.loop-rest.rest.now 0 0 / 256) c.loop-rest.h v.0 in
+    let n = (first_two c.loop-rest.rest.now c.in-len2-up.len_at_least).1 in
+    (rw f b.0, omega (arith, rw (← f) at b.1), passes c.args.records.now c.loop-rest.rest.now c.loop-rest.h v.2 c.in-len2-up.len_at_least _ e f)
 
 pub returns : goal.returns
-returns c = let v = c.loop-q.invariant in
-    record { none = λ e. v.4 ∙ none_left _ _ (simp length-drop (omega arith)); above = λ l. absurd (omega arith); here = λ l. absurd (omega arith) }
+returns c = let v = c.loop-rest.invariant in record { how = v.2 ∙ none_left _ _ (omega (arith, c.in_default.len_below)) }

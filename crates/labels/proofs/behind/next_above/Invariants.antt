@@ -1,12 +1,12 @@
--- What the loops of `labels::behind::next_above` keep, and what falls. Assumes nothing.
+-- What the loop of `labels::behind::next_above` keeps, and what falls. Assumes nothing.
 use mathlib.Core.Path.{◌≡◌}
-use Prim.Native.Nat.{◌+◌, ◌-◌, ◌≤◌}
-use lib.ListN.{length, drop}
+use Prim.Native.Nat.{◌+◌, ◌≤◌}
+use lib.ListN.{length}
 use Rattle.labels.specs.Behind.{enclosing}
 use Rattle.labels.proofs.behind.next_above.Given as goal
 
-abbrev pub invariant-loop-q : goal.invariant-loop-q
-invariant-loop-q l = (l.p ≤ l.q) × (l.q ≤ length l.records) × (1 ≤ l.h) × (l.h ≤ l.q + 1) × (enclosing 1 (drop l.p l.records) ≡ enclosing l.h (drop l.q l.records))
+abbrev pub invariant-loop-rest : goal.invariant-loop-rest
+invariant-loop-rest l = (1 ≤ l.h) × (l.h + length l.rest ≤ length l.records + 1) × (enclosing 1 l.records ≡ enclosing l.h l.rest)
 
-abbrev pub decreases-loop-q : goal.decreases-loop-q
-decreases-loop-q l = length l.records - l.q
+abbrev pub decreases-loop-rest : goal.decreases-loop-rest
+decreases-loop-rest l = length l.rest

@@ -44,24 +44,7 @@ abbrev pub Known : Role → Type 0
 Known (binop begin l) = l ≤ Levels
 Known (assign p close a) = a < 4
 Known (given a) = a < 4
-Known (function n) = Unit {0}
-Known atom = Unit {0}
-Known prim = Unit {0}
-Known (tight begin) = Unit {0}
-Known (unary begin) = Unit {0}
-Known (plain begin close) = Unit {0}
-Known (ex begin close) = Unit {0}
-Known (item calls) = Unit {0}
-Known field = Unit {0}
-Known table_item = Unit {0}
-Known param = Unit {0}
-Known branch = Unit {0}
-Known else_clause = Unit {0}
-Known jump = Unit {0}
-Known control = Unit {0}
-Known body = Unit {0}
-Known block = Unit {0}
-Known stmt = Unit {0}
+Known _ = Unit {0}
 
 -- the demand on a tree in a role. Only under a group's modifier does it depend on the tree
 abbrev pub asked : Role → Tree → ℕ
@@ -95,21 +78,7 @@ begin_of (binop begin l) = begin
 begin_of (plain begin close) = begin
 begin_of (ex begin close) = begin
 begin_of (given a) = true
-begin_of atom = false
-begin_of prim = false
-begin_of (assign p close a) = false
-begin_of (function n) = false
-begin_of (item calls) = false
-begin_of field = false
-begin_of table_item = false
-begin_of param = false
-begin_of branch = false
-begin_of else_clause = false
-begin_of jump = false
-begin_of control = false
-begin_of body = false
-begin_of block = false
-begin_of stmt = false
+begin_of _ = false
 
 -- whether a tuple of one member may be the end
 abbrev pub close_of : Role → Bool
@@ -117,20 +86,4 @@ close_of (assign p close a) = close
 close_of (plain begin close) = close
 close_of (ex begin close) = close
 close_of (given a) = true
-close_of atom = false
-close_of prim = false
-close_of (tight begin) = false
-close_of (unary begin) = false
-close_of (binop begin l) = false
-close_of (function n) = false
-close_of (item calls) = false
-close_of field = false
-close_of table_item = false
-close_of param = false
-close_of branch = false
-close_of else_clause = false
-close_of jump = false
-close_of control = false
-close_of body = false
-close_of block = false
-close_of stmt = false
+close_of _ = false

@@ -24,6 +24,6 @@ pub returns-then-kind_at-eq-EXPRESSION : goal.returns-then-kind_at-eq-EXPRESSION
 unfolding body_mode
 returns-then-kind_at-eq-EXPRESSION c = record { how = λ m s h. rw (← (last_kind (goal.at.returns-then-kind_at-eq-EXPRESSION c).After-kind_at).how m s h, ← (ends_with (goal.at.returns-then-kind_at-eq-EXPRESSION c).After-kind_at-2).how m s h) (search tests) }
 
-pub returns : goal.returns
+pub returns-else-kind_at-eq-EXPRESSION : goal.returns-else-kind_at-eq-EXPRESSION
 unfolding body_mode
-returns c = record { how = λ m s h. rw (← (last_kind (goal.at.returns c).After-kind_at).how m s h, ← (ends_with (goal.at.returns c).After-kind_at-2).how m s h) (search tests) }
+returns-else-kind_at-eq-EXPRESSION c = record { how = λ m s h. rw (← (last_kind (goal.at.returns-else-kind_at-eq-EXPRESSION c).After-kind_at).how m s h, ← (ends_with (goal.at.returns-else-kind_at-eq-EXPRESSION c).After-kind_at-2).how m s h) (search tests) }

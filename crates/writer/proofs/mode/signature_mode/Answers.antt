@@ -19,14 +19,14 @@ pub returns-then-defaults-eq0 : goal.returns-then-defaults-eq0
 unfolding signature_mode
 returns-then-defaults-eq0 c = record { how = λ m s h. rw (← (last_kind (goal.at.returns-then-defaults-eq0 c).After-kind_at).how m s h, ← (defaults (goal.at.returns-then-defaults-eq0 c).After-kind_at).how m s h) (search tests) }
 
-pub returns-then-kind_at-eq-ABSENT : goal.returns-then-kind_at-eq-ABSENT
+pub returns-else-defaults-eq0 : goal.returns-else-defaults-eq0
 unfolding signature_mode
-returns-then-kind_at-eq-ABSENT c = record { how = λ m s h. rw (← (last_kind (goal.at.returns-then-kind_at-eq-ABSENT c).After-kind_at).how m s h, ← (defaults (goal.at.returns-then-kind_at-eq-ABSENT c).After-kind_at).how m s h) (search tests) }
+returns-else-defaults-eq0 c = record { how = λ m s h. rw (← (last_kind (goal.at.returns-else-defaults-eq0 c).After-kind_at).how m s h, ← (defaults (goal.at.returns-else-defaults-eq0 c).After-kind_at).how m s h) (search tests) }
 
 pub returns-then-defaults-eq0-2 : goal.returns-then-defaults-eq0-2
 unfolding signature_mode
 returns-then-defaults-eq0-2 c = record { how = λ m s h. rw (← (last_kind (goal.at.returns-then-defaults-eq0-2 c).After-kind_at).how m s h, ← (defaults (goal.at.returns-then-defaults-eq0-2 c).After-kind_at).how m s h) (search tests) }
 
-pub returns : goal.returns
+pub returns-else-defaults-eq0-2 : goal.returns-else-defaults-eq0-2
 unfolding signature_mode
-returns c = record { how = λ m s h. rw (← (last_kind (goal.at.returns c).After-kind_at).how m s h, ← (defaults (goal.at.returns c).After-kind_at).how m s h) (search tests) }
+returns-else-defaults-eq0-2 c = record { how = λ m s h. rw (← (last_kind (goal.at.returns-else-defaults-eq0-2 c).After-kind_at).how m s h, ← (defaults (goal.at.returns-else-defaults-eq0-2 c).After-kind_at).how m s h) (search tests) }

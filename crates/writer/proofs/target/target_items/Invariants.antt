@@ -1,20 +1,18 @@
--- What the loops of `writer::target::target_items` keep, and what falls. Assumes nothing.
+-- What the loops of `writer::target::target_items` keep. Assumes nothing.
 use mathlib.Core.List.{List, ◌∷◌}
-use Prim.Native.Nat.{ℕ}
+use Prim.Native.Nat.{ℕ, ◌-◌}
 use Rattle.tree.specs.Tree.{Tree}
 use Rattle.tree.specs.Maybe.{just}
 use Rattle.grammar.specs.Canonical.Write.{target_items}
 use Rattle.writer.specs.Stack.{At}
-use Rattle.tables.specs.Children.{children_in}
+use Rattle.tables.specs.Children.{count_in, children_in}
 use Rattle.writer.proofs.Kids.{Part}
 use Rattle.writer.proofs.Targets.{item}
 use Rattle.writer.proofs.target.target_items.Given as goal
 
-pub record Going (L : List ℕ) (p q j : ℕ) : Type 0 where
-  pub go : (t : Tree) (s : List Tree) → At L p (t ∷ s) → Part L q j s item (target_items (children_in (just t)))
+-- n children were looked at
+pub record Going (L : List ℕ) (p q n : ℕ) : Type 0 where
+  pub go : (t : Tree) (s : List Tree) → At L p (t ∷ s) → Part L q (count_in (just t) - n) s item (target_items (children_in (just t)))
 
-abbrev pub invariant-loop-j : goal.invariant-loop-j
-invariant-loop-j l = Going l.records l.p l.q l.j
-
-abbrev pub decreases-loop-j : goal.decreases-loop-j
-decreases-loop-j l = l.j
+abbrev pub invariant-loop : goal.invariant-loop
+invariant-loop l = Going l.records l.p l.q l.counter
