@@ -1,6 +1,6 @@
 // What calls answer, as the input of `replay` writes it and as a difference prints it: a letter for the case, and a number.
 use grammar::limit::QUEUE;
-use grammar::{Answer, Reader, Written, kind_number};
+use grammar::{Answer, Reader, Written};
 use std::fmt;
 
 // The cases of the answers of the reader, of the writer and of the check of labels, which finds nothing wrong or refuses.
@@ -53,7 +53,7 @@ impl From<Answer> for Said {
     fn from(answer: Answer) -> Said {
         match answer {
             Answer::Tree(nodes) => Said::new(Case::Tree, nodes as u64),
-            Answer::Error(kind) => Said::new(Case::Error, kind_number(kind)),
+            Answer::Error(kind) => Said::new(Case::Error, u64::from(kind)),
             Answer::End => Said::new(Case::End, 0),
             Answer::Stopped(n) => Said::new(Case::Stopped, n),
             Answer::Refused(n) => Said::new(Case::Refused, n),

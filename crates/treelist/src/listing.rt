@@ -2,7 +2,7 @@
 ghost use Rattle.std.specs.Prelude.{◌≡◌, Some};
 ghost use Rattle.treelist.specs.Listing.{name_at as name_at_def, node_line, answer_text};
 
-use grammar::{Answer, kind_number};
+use grammar::Answer;
 use std::fmt;
 use tree::word::CHILD;
 
@@ -93,7 +93,7 @@ impl fmt::Display for AnswerLine {
     fn fmt<W: fmt::Write>(&self, f: &mut fmt::Formatter<W>) -> fmt::Result {
         match self.0 {
             Answer::Tree(nodes) => writeln!(f, "answer=tree nodes={nodes}"),
-            Answer::Error(kind) => writeln!(f, "answer=error number={}", kind_number(kind)),
+            Answer::Error(kind) => writeln!(f, "answer=error number={}", u64::from(kind)),
             Answer::End => writeln!(f, "answer=end"),
             Answer::Stopped(number) => writeln!(f, "answer=stopped number={number}"),
             Answer::Refused(number) => writeln!(f, "answer=refused number={number}"),

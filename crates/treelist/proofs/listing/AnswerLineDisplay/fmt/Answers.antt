@@ -10,8 +10,8 @@ returns-in-Tree-clause-writes g c p o =
 
 pub returns-in-Error-clause-writes : goal.returns-in-Error-clause-writes
 returns-in-Error-clause-writes g c p o =
-    rw (c.in-Error.is, ← c.kind_number.ensures)
-    (wrote_answer (bytes "answer=error number=") c.kind_number.result (omega arith) (c.writeln-in-Error.ensures.writes p o))
+    rw (c.in-Error.is, ← c.from.ensures)
+    (wrote_answer (bytes "answer=error number=") c.from.result (omega arith) (c.writeln-in-Error.ensures.writes p o))
 
 pub returns-in-Stopped-clause-writes : goal.returns-in-Stopped-clause-writes
 returns-in-Stopped-clause-writes g c p o =
