@@ -11,6 +11,7 @@ ghost use Rattle.grammar.specs.Reading.Function.{param as param_def, function_pa
 ghost use Rattle.grammar.specs.Reading.Stmt.{loop as loop_def, lvalue_list, for_loop, stmt_label, stmt as stmt_def, is_control as is_control_def, control_value, control_flow, synchronize, caught as caught_def};
 ghost use Rattle.grammar.specs.Reading.Depth.{primary_expr, at_depth};
 ghost use Rattle.scan.specs.Post.{Ready, Lent, Reading, Crosses};
+ghost use Rattle.scan.specs.Parts.{until};
 ghost use Rattle.cycle.specs.Parts.{tail as tail_def, part as part_def, list_words, arm as arm_def, whiles as whiles_def, whiles_words, turn as turn_def};
 ghost use Rattle.nodes.specs.Parts.{tuple_words, path_words, signature_words};
 ghost use Rattle.cycle.specs.Lists.{Lists, Enters};
@@ -28,11 +29,10 @@ use nodes::{Counts, Head, Parameter};
 use operator::{PRECEDENCE_END, PRECEDENCE_START};
 use scan::queue::{Waiting, control_last, synchronized};
 use scan::tokens::{
-    UNTIL_BRANCH, UNTIL_END, action, assign_code, assign_keyword, continues, ends, ends_control,
-    expect, halts, is_control, look, not_allowed, op_level, op_number, past, try_label, unary_code,
-    unassigned,
+    action, assign_code, assign_keyword, continues, ends_control, expect, halts, is_control, look,
+    not_allowed, op_level, op_number, past, try_label, unary_code, unassigned,
 };
-use scan::{Cursor, Entry, Failure, Halt, Listed, Suite, number};
+use scan::{Cursor, Entry, Failure, Halt, Listed, Suite, Until, number};
 use token::kind;
 use tree::{emit, word};
 
@@ -572,7 +572,7 @@ fn body(
     requires { Ready (length tokens.now) (length store.old) cursor.pos cursor.at }
     ensures { Lists (body_def (at_depth depth) queue.old (drop cursor.pos tokens.now)) tokens.now cursor.pos 24 cursor.at store.old queue.old store.new queue.new result }
 {
-    let statements = list(tokens, store, queue, depth, UNTIL_END, cursor)?;
+    let statements = list(tokens, store, queue, depth, Until::End, cursor)?;
     past(tokens, statements)
 }
 
@@ -674,7 +674,7 @@ fn arm(
     let condition = expr(tokens, store, queue, depth, cursor)?;
     let pos = expect(tokens, kind::THEN, number::MISSING_THEN, condition.pos)?;
     let start = Cursor { pos, ..condition };
-    let statements = list(tokens, store, queue, depth, UNTIL_BRANCH, start)?;
+    let statements = list(tokens, store, queue, depth, Until::Branch, start)?;
     Ok(block_under(store, statements, word::CONDITIONAL_BRANCH, 0))
 }
 
@@ -1083,13 +1083,13 @@ fn turn(
     store: &mut [u64],
     queue: &mut Waiting,
     depth: usize,
-    end: u64,
+    end: Until,
     kind: u64,
     n: u64,
     cursor: Cursor,
 ) -> Result<Entry, Halt>
     requires { Ready (length tokens.now) (length store.old) cursor.pos cursor.at × (cursor.pos + 2 ≤ length tokens.now) × (n ≤ 65536) }
-    ensures { Enters (turn_def (at_depth depth) end kind (drop (cursor.pos + 2) tokens.now) queue.old (drop cursor.pos tokens.now)) tokens.now cursor.pos n cursor.at store.old queue.old store.new queue.new result }
+    ensures { Enters (turn_def (at_depth depth) (until end) kind (drop (cursor.pos + 2) tokens.now) queue.old (drop cursor.pos tokens.now)) tokens.now cursor.pos n cursor.at store.old queue.old store.new queue.new result }
 {
     if is_control(kind) {
         let start = Cursor {
@@ -1118,18 +1118,18 @@ fn turn(
     }
 }
 
-// `parse_stmt_list`, by the number of its ends.
+// `parse_stmt_list`, up to where it ends.
 #[cycle(reading)]
 fn list(
     tokens: &[u64],
     store: &mut [u64],
     queue: &mut Waiting,
     depth: usize,
-    end: u64,
+    end: Until,
     cursor: Cursor,
 ) -> Result<Listed, Halt>
     requires { Ready (length tokens.now) (length store.old) cursor.pos cursor.at }
-    ensures { Lists ((at_depth depth).list end queue.old (drop cursor.pos tokens.now)) tokens.now cursor.pos 8 cursor.at store.old queue.old store.new queue.new result }
+    ensures { Lists ((at_depth depth).list (until end) queue.old (drop cursor.pos tokens.now)) tokens.now cursor.pos 8 cursor.at store.old queue.old store.new queue.new result }
 {
     if depth == 0 {
         return Err(Halt::Stop(limit::TOO_DEEP));
@@ -1149,7 +1149,7 @@ fn list(
             };
             continue;
         }
-        if ends(end, token.kind) {
+        if end.ends(token.kind) {
             return Ok(Listed::Suite(suite));
         }
         let count = suite.count;

@@ -4,10 +4,12 @@ use Rattle.std.specs.Prelude.{Bool, cond, ◌&&◌, ◌||◌, Result, Ok, Err, �
 use Rattle.token.specs.Kind
 use Rattle.grammar.specs.Reading.Number
 use Rattle.grammar.specs.Reading.Result.{Error, ifb}
-use Rattle.grammar.specs.Reading.Expr.{keyword_alone}
+use Rattle.grammar.specs.Reading.Expr.{keyword_alone, until_branch}
 use Rattle.scan.specs.declared.Cursor.{Cursor}
 use Rattle.scan.specs.declared.Halt.{Halt}
 use Rattle.scan.specs.declared.Halt.TheVariants.{Fail}
+use Rattle.scan.specs.declared.Until.{Until}
+use Rattle.scan.specs.declared.Until.TheVariants.{End, Branch}
 
 -- whether a token goes on a path
 abbrev pub goes_on : Bool → ℕ → ℕ → Bool
@@ -20,3 +22,8 @@ unassigned_result m c = ifb (eqb m 0) (λ _. Ok c) (λ _. Err (Fail (record { er
 -- the error of a control where none is allowed
 abbrev pub not_allowed : ℕ → Error
 not_allowed k = cond (eqb k Kind.Continue) Number.continue_not_allowed (cond (eqb k Kind.Break) Number.break_not_allowed Number.return_not_allowed)
+
+-- the number that the definition gives to where a list ends
+abbrev pub until : Until → ℕ
+until End = 0
+until Branch = until_branch

@@ -43,6 +43,13 @@ pub struct Suite {
     pub last: usize,
 }
 
+// Where a statement list ends: before `End`; in a branch of a conditional before `Elif` and `Else` too.
+#[derive(Clone, Copy)]
+pub enum Until {
+    End,
+    Branch,
+}
+
 // A statement list up to its end. With a control the list and the control are written.
 #[derive(Clone, Copy)]
 pub enum Listed {

@@ -5,9 +5,10 @@ ghost use Rattle.grammar.specs.Reading.Limit.{queue_limit};
 ghost use Rattle.grammar.specs.Reading.Stmt.{control_last as control_last_def, synchronized as synchronized_def};
 ghost use Rattle.grammar.specs.Reading.Next.{is_error as is_error_def, is_stop as is_stop_def, queue_fits as queue_fits_def, pad};
 ghost use Rattle.scan.specs.Post.{Queues, Resumes};
+ghost use Rattle.scan.specs.Parts.{until};
 
-use crate::tokens::{ends, look, not_last};
-use crate::{Failure, Halt, number};
+use crate::tokens::{look, not_last};
+use crate::{Failure, Halt, Until, number};
 use grammar::{Queue, limit};
 use std::marker::Model;
 use token::kind;
@@ -97,15 +98,15 @@ impl Waiting {
 pub fn control_last(
     tokens: &[u64],
     queue: &mut Waiting,
-    end: u64,
+    end: Until,
     k: u64,
     pos: usize,
 ) -> Result<usize, Halt>
     requires { pos ≤ length tokens.now }
-    ensures { Queues (control_last_def end k queue.old (drop pos tokens.now)) tokens.now pos queue.old queue.new result }
+    ensures { Queues (control_last_def (until end) k queue.old (drop pos tokens.now)) tokens.now pos queue.old queue.new result }
 {
     let token = look(tokens, pos)?;
-    if ends(end, token.kind) {
+    if end.ends(token.kind) {
         return Ok(pos);
     }
     if queue.is_full() {

@@ -8,10 +8,10 @@ ghost use Rattle.grammar.specs.Reading.Primary.{atom_error as atom_error_def};
 ghost use Rattle.grammar.specs.Reading.Stmt.{ends as ends_def, is_control as is_control_def, not_last as not_last_def, starts_stmt};
 ghost use Rattle.grammar.specs.Reading.Next.{start as start_def};
 ghost use Rattle.scan.specs.Post.{Saw, Reads, Finds, itself, value_of};
-ghost use Rattle.scan.specs.Parts.{unassigned_result, goes_on, not_allowed as not_allowed_def};
+ghost use Rattle.scan.specs.Parts.{unassigned_result, goes_on, not_allowed as not_allowed_def, until};
 ghost use Rattle.scan.specs.Lists.{Within, Passes};
 
-use crate::{Cursor, Failure, Found, Halt, Listed, Suite, number};
+use crate::{Cursor, Failure, Found, Halt, Listed, Suite, Until, number};
 use grammar::limit;
 use operator::AssignmentOp;
 use token::{Token, Unread, kind};
@@ -212,20 +212,16 @@ pub fn continues(calls: bool, kind: u64, newline: u64) -> bool
     }
 }
 
-// Where a statement list ends, by number: before `End`; in a branch of a conditional before `Elif` and `Else` too.
-pub const UNTIL_END: u64 = 0;
-
-pub const UNTIL_BRANCH: u64 = 1;
-
-// Whether a token ends a statement list, by the number of its ends.
-pub fn ends(end: u64, kind: u64) -> bool
-    ensures { result ≡ ends_def end kind }
-{
-    match kind {
-        kind::END => true,
-        kind::ELIF => end == UNTIL_BRANCH,
-        kind::ELSE => end == UNTIL_BRANCH,
-        _ => false,
+impl Until {
+    // Whether a token of this kind ends the list.
+    pub fn ends(self, kind: u64) -> bool
+        ensures { result ≡ ends_def (until self) kind }
+    {
+        match kind {
+            kind::END => true,
+            kind::ELIF | kind::ELSE => matches!(self, Until::Branch),
+            _ => false,
+        }
     }
 }
 
@@ -233,10 +229,7 @@ pub fn ends(end: u64, kind: u64) -> bool
 pub fn ends_control(kind: u64) -> bool
     ensures { result ≡ (ends_def 1 kind || eqb kind Kind.Semicolon) }
 {
-    if kind == kind::SEMICOLON {
-        return true;
-    }
-    ends(UNTIL_BRANCH, kind)
+    kind == kind::SEMICOLON || Until::Branch.ends(kind)
 }
 
 pub fn is_control(kind: u64) -> bool

@@ -12,6 +12,7 @@ use Rattle.nodes.specs.Lists.{Ends}
 use Rattle.nodes.specs.Parameters.{name_bound, params_words, Fitting}
 use Rattle.operator.specs.Operator.{level_count}
 use Rattle.scan.specs.Post.{As, Moved, Wrote}
+use Rattle.scan.specs.Parts.{until}
 use Rattle.scan.specs.declared.Cursor.{Cursor}
 use Rattle.scan.specs.declared.Suite.{Suite}
 use Rattle.nodes.specs.declared.Counts.{Counts}
@@ -177,7 +178,7 @@ pub record GoingList (T S₀ Q₀ : List ℕ) (depth end pos at : ℕ) (S Q : Li
   pub kept : length S ≡ length S₀
 
 abbrev pub invariant-list-loop-token : goal.invariant-list-loop-token
-invariant-list-loop-token l = GoingList l.tokens l.initial.store l.initial.queue l.depth l.end l.fn.cursor.pos l.fn.cursor.at l.store l.queue l.suite
+invariant-list-loop-token l = GoingList l.tokens l.initial.store l.initial.queue l.depth (until l.end) l.fn.cursor.pos l.fn.cursor.at l.store l.queue l.suite
 
 abbrev pub decreases-list-loop-token : goal.decreases-list-loop-token
 decreases-list-loop-token l = length l.tokens - l.suite.end.pos

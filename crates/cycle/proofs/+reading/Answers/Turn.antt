@@ -25,17 +25,17 @@ pub turn-returns-in_err-pos-in-Err-Fail : goal.turn-returns-in_err-pos-in-Err-Fa
 turn-returns-in_err-pos-in-Err-Fail t c = let e = c.list_end.ensures in
     let hold = way _ (turn_control _ _ _ _ _ _ (sym c.is_control.ensures ∙ c.if-is_control.true)) in
     let k2 = missed c.in-Err-Fail.field-0-is (undone c.in-Err-Fail.ensures) in
-    rw (handed c.from_residual-in_err-pos-in-Err-Fail.ensures.1) (catches_not (loses _ _ hold k2.same) (emitted_before e (omega (arith, c.requires)) _ k2.text) (omega (arith, c.requires, e.next, e.whole, k2.moved)) c.in_err-pos-in-Err-Fail.ensures)
+    rw (handed c.from_residual-in_err-pos-in-Err-Fail.ensures.1) (catches_not (loses _ _ hold k2.same) (emitted_before e (omega (arith, c.requires)) _ k2.text) (omega (arith, c.requires, e.next, e.whole, k2.moved)) (rw c.in-Err-Fail.field-0-is at c.in_err-pos-in-Err-Fail.ensures))
 
 pub turn-returns-in_ok-pos-in-Err-Fail : goal.turn-returns-in_ok-pos-in-Err-Fail
 turn-returns-in_ok-pos-in-Err-Fail t c = let e = c.list_end.ensures in
     let hold = way _ (turn_control _ _ _ _ _ _ (sym c.is_control.ensures ∙ c.if-is_control.true)) in
     let k2 = missed c.in-Err-Fail.field-0-is (undone c.in-Err-Fail.ensures) in
-    catches (loses _ _ hold k2.same) (emitted_before e (omega (arith, c.requires)) _ k2.text) (omega (arith, c.requires, e.next, e.whole, k2.moved)) c.in_ok-pos-in-Err-Fail.ensures (caught_two _ _ _ _)
+    catches (loses _ _ hold k2.same) (emitted_before e (omega (arith, c.requires)) _ k2.text) (omega (arith, c.requires, e.next, e.whole, k2.moved)) (rw c.in-Err-Fail.field-0-is at c.in_ok-pos-in-Err-Fail.ensures) (caught_two _ _ _ _)
 
 pub turn-returns-in-Err-Stop : goal.turn-returns-in-Err-Stop
 turn-returns-in-Err-Stop t c = let hold = way _ (turn_control _ _ _ _ _ _ (sym c.is_control.ensures ∙ c.if-is_control.true)) in
-    record { how = stops _ _ c.in-Err-Stop.field-0-is hold (undone c.in-Err-Stop.ensures) }
+    rw c.in-Err-Stop.field-0-is (record { how = stops _ _ c.in-Err-Stop.field-0-is hold (undone c.in-Err-Stop.ensures) })
 
 pub turn-returns-in_err-pos-in-Err-Fail-stmt : goal.turn-returns-in_err-pos-in-Err-Fail-stmt
 turn-returns-in_err-pos-in-Err-Fail-stmt t c = let try = way _ (turn_stmt _ _ _ _ _ _ (sym c.is_control.ensures ∙ c.if-is_control.false)) in
