@@ -12,7 +12,6 @@ use Rattle.token.specs.declared.Token.{Token}
 use Rattle.tree.specs.NodeKind
 use Rattle.tree.specs.Tree.{Tree, kind_of}
 use Rattle.tree.specs.Node
-use Rattle.grammar.specs.Reading.Limit.{queue_limit}
 use Rattle.grammar.specs.Reading.Number
 use Rattle.grammar.specs.Reading.Result.{Res, ok, fail, stop, unclean, either, then, ifb, push, Error}
 use Rattle.grammar.specs.Reading.Look.{look, try_label}

@@ -10,15 +10,15 @@ use Rattle.tree.specs.Node
 use Rattle.tree.specs.Store.{Emitted}
 use Rattle.tree.specs.Records.{Small}
 use Rattle.pattern.specs.Contract.{Whole}
-use Rattle.grammar.specs.Reading.Result.{Res, ok, fail, then, ifb, Error}
-use Rattle.scan.specs.Post.{As, Moved, Room, Failed, Wrote, Agrees, Stored, Unstored, Writes, Reads, NumberAt, itself}
+use Rattle.grammar.specs.Reading.Result.{Res, fail, then, ifb, Error}
+use Rattle.scan.specs.Post.{As, Moved, Room, Failed, Wrote, Agrees, Stored, Unstored, Writes, NumberAt, itself}
 use Rattle.nodes.specs.Ends.{Added}
 use Rattle.cycle.specs.Parts.{list_words}
 use Rattle.std.proofs.Common.{Result, Ok, Err}
 use Rattle.scan.specs.declared.Cursor.{Cursor}
 use Rattle.scan.specs.declared.Halt.{Halt}
 use Rattle.scan.specs.declared.Halt.TheVariants.{Fail}
-use Rattle.scan.proofs.Laws.{way, link, Beyond, lacks, lacking, gets, shorter, prefix, rebased}
+use Rattle.scan.proofs.Laws.{way, link, Beyond, lacks, lacking, gets, shorter, rebased}
 use Rattle.scan.proofs.Text.{up_of, prefix_of}
 use Rattle.nodes.proofs.Made.{put, all_one, all_two}
 

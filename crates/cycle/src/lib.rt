@@ -757,7 +757,7 @@ fn sig(
     let mut counts = Counts {
         required: 0,
         default: 0,
-        variadic: 0,
+        variadic: None,
     };
     loop {
         let token = look(tokens, end.pos)?;

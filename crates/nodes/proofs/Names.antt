@@ -2,7 +2,7 @@
 use mathlib.Core.Path.{◌≡◌, refl, sym, ap, ◌∙◌}
 use mathlib.Core.Bool.{Bool, true, false}
 use mathlib.Core.List.{List, [], ◌∷◌, ◌++◌, append_assoc, append-nil}
-use Prim.Native.Nat.{ℕ, zero, suc, ◌+◌, ◌*◌, ◌-◌, ◌≤◌, ◌<◌}
+use Prim.Native.Nat.{ℕ, ◌+◌, ◌*◌, ◌-◌, ◌≤◌, ◌<◌}
 use native.Mathlib.Omega.{arith}
 use borrow.Author.Tests.{eq-eqb, ne_eqb}
 use lib.Dec.{eqb}
@@ -82,13 +82,6 @@ no_words_more {a} {S = S} m h = record { up = omega arith; far = omega arith; te
 pub list_more : {a n r : ℕ} {S S' : List ℕ} (m : ℕ) → n ≡ 0 → Emitted a (1 + 256 * m) 0 r S S' → Added a 2 (required_words m n) r S S'
 unfolding required_words ifb
 list_more m h e = let x = e.next in record { up = omega arith; far = omega arith; text = rw (eq-eqb _ _ h) e.text; whole = e.whole }
-
-pub variadic_none : (v : ℕ) → v ≡ 0 → variadic_of v ≡ Node.absent
-variadic_none v e = rw e
-
-pub variadic_some : (v : ℕ) → (v ≡ 0 → ⊥) → variadic_of v ≡ Node.param_def (v - 1)
-variadic_some zero h = absurd (h refl)
-variadic_some (suc v) h = let z : v ≡ suc v - 1 = omega arith in ap Node.param_def z
 
 words_none : (r f : Forest) → count f ≡ 0 → words_of r f ≡ all_records r
 unfolding count

@@ -1,5 +1,5 @@
 -- What the contracts of the functions that read parameters say. Assumes nothing.
-use Rattle.std.specs.Prelude.{◌≡◌, Result, Ok, Err, List, [], ◌∷◌, ◌++◌, ℕ, zero, suc, ◌+◌, ◌*◌, ◌≤◌, ◌<◌, eqb, take, drop}
+use Rattle.std.specs.Prelude.{◌≡◌, Result, Ok, Err, List, [], ◌∷◌, ◌++◌, Option, None, Some, ℕ, ◌+◌, ◌*◌, ◌≤◌, ◌<◌, eqb, take, drop}
 use Rattle.tree.specs.Tree.{Tree, Forest, none, more, snoc, count, records, all_records}
 use Rattle.tree.specs.Node
 use Rattle.grammar.specs.Reading.Result.{Res, ok, ifb, Error}
@@ -65,14 +65,14 @@ words_of r (more t f) = records (Node.list r) ++ all_records (more t f)
 abbrev pub params_words : Params → List ℕ
 params_words ps = words_of ps.required_list ps.default_list
 
-abbrev pub variadic_of : ℕ → Tree
-variadic_of zero = Node.absent
-variadic_of (suc v) = Node.param_def v
+abbrev pub variadic_of : Option ℕ → Tree
+variadic_of None = Node.absent
+variadic_of (Some v) = Node.param_def v
 
 abbrev pub with_default : Params → ℕ → Tree → Params
 with_default ps v e = record { required_list = ps.required_list; default_list = snoc ps.default_list (Node.default_def v e); variadic_one = ps.variadic_one }
 
--- the code's three numbers say them
+-- the code's counts say them
 pub record Fitting (ps : Params) (c : Counts) : Type 0 where
   pub are_required : count ps.required_list ≡ c.required
   pub are_default : count ps.default_list ≡ c.default
@@ -83,7 +83,6 @@ pub record JoinsTo (d : List Error → Res Params) (X T : List ℕ) (pos : ℕ) 
   pub got : Got d T pos j.end.pos
   pub fits : Fitting got.what j.counts
   pub few : j.counts.required + j.counts.default ≤ before.required + before.default + 1
-  pub below : j.counts.variadic ≤ name_bound
   pub up : at ≤ j.end.at
   pub far : j.end.at ≤ at + 2
   pub text : take j.end.at S' ≡ X ++ params_words got.what

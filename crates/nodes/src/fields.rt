@@ -175,15 +175,15 @@ pub fn required_end(store: &mut [u64], a: usize, required: u64, default: u64) ->
     a
 }
 
-// The variadic parameter, 0 or 1 + its value.
-fn variadic_end(store: &mut [u64], a: usize, variadic: u64) -> usize
+// The variadic parameter, or `Absent`.
+fn variadic_end(store: &mut [u64], a: usize, variadic: Option<u64>) -> usize
     requires { a + 2 ≤ length store.old }
     ensures { Added a 2 (records (variadic_of variadic)) result store.old store.new }
 {
-    if variadic == 0 {
-        return emit(store, a, word::ABSENT, 0);
+    match variadic {
+        Some(v) => emit(store, a, word::PARAM_DEF, v),
+        None => emit(store, a, word::ABSENT, 0),
     }
-    emit(store, a, word::PARAM_DEF, variadic - 1)
 }
 
 // The children of a signature, behind its parameters.
@@ -244,7 +244,7 @@ fn join_required(
     counts: Counts,
     cursor: Cursor,
 ) -> Result<Joined, Halt>
-    requires { (cursor.pos ≤ length tokens.now) × (cursor.at + 2 ≤ length store.old) × (counts.required ≤ 65536) × (counts.variadic ≤ name_bound) }
+    requires { (cursor.pos ≤ length tokens.now) × (cursor.at + 2 ≤ length store.old) × (counts.required ≤ 65536) }
     ensures { (X : List ℕ) (ps : Params) → Fitting ps counts → take cursor.at store.old ≡ X ++ params_words ps → Joins (λ q. join ps (a_required v) q (drop cursor.pos tokens.now)) X tokens.now cursor.pos counts cursor.at store.old store.new result }
 {
     let pos = separator(tokens, cursor.pos)?.pos;
@@ -265,7 +265,7 @@ fn join_required(
 }
 
 fn join_variadic(tokens: &[u64], v: u64, counts: Counts, cursor: Cursor) -> Result<Joined, Halt>
-    requires { (cursor.pos ≤ length tokens.now) × (v < name_bound) }
+    requires { cursor.pos ≤ length tokens.now }
     ensures { (S X : List ℕ) (ps : Params) → Fitting ps counts → take cursor.at S ≡ X ++ params_words ps → Joins (λ q. join ps (a_variadic v) q (drop cursor.pos tokens.now)) X tokens.now cursor.pos counts cursor.at S S result }
 {
     let behind = separator(tokens, cursor.pos)?;
@@ -281,14 +281,14 @@ fn join_variadic(tokens: &[u64], v: u64, counts: Counts, cursor: Cursor) -> Resu
             ..cursor
         },
         counts: Counts {
-            variadic: v + 1,
+            variadic: Some(v),
             ..counts
         },
     })
 }
 
 fn join_default(tokens: &[u64], counts: Counts, cursor: Cursor) -> Result<Joined, Halt>
-    requires { (cursor.pos ≤ length tokens.now) × (counts.default ≤ 65536) × (counts.variadic ≤ name_bound) }
+    requires { (cursor.pos ≤ length tokens.now) × (counts.default ≤ 65536) }
     ensures { (S X : List ℕ) (ps : Params) (v : ℕ) (e : Tree) → Fitting ps counts → take cursor.at S ≡ X ++ params_words (with_default ps v e) → Joins (λ q. join ps (a_default v e) q (drop cursor.pos tokens.now)) X tokens.now cursor.pos counts cursor.at S S result }
 {
     let pos = separator(tokens, cursor.pos)?.pos;
@@ -309,7 +309,7 @@ pub fn joined(
     counts: Counts,
     at: usize,
 ) -> Result<Joined, Halt>
-    requires { One (length tokens.now) (length store.old) at one × (counts.required ≤ 65536) × (counts.default ≤ 65536) × (counts.variadic ≤ name_bound) }
+    requires { One (length tokens.now) (length store.old) at one × (counts.required ≤ 65536) × (counts.default ≤ 65536) }
     ensures { JoinedBy tokens.now counts at store.old store.new one result }
 {
     match one {

@@ -22,12 +22,12 @@ pub enum Parameter {
     Default(Cursor),
 }
 
-// Parameters so far: how many are required and how many have a default; and the variadic one, 0 or 1 + its name with its access.
+// Parameters so far: how many are required and how many have a default; and the name of a variadic one with its access.
 #[derive(Clone, Copy)]
 pub struct Counts {
     pub required: u64,
     pub default: u64,
-    pub variadic: u64,
+    pub variadic: Option<u64>,
 }
 
 // Parameters so far: past which words they end, and their counts.

@@ -1,7 +1,7 @@
 -- What is left to show of `cycle::body` in its cycle of calls. Assumes nothing.
 use native.Mathlib.Omega.{arith}
 use Rattle.scan.proofs.Laws.{handed}
-use Rattle.cycle.proofs.PathsBody.{within_of, passes_lists, no_list}
+use Rattle.cycle.proofs.PathsBody.{passes_lists, no_list}
 use Rattle.cycle.proofs.+reading.Goals as goal
 
 pub body-returns-in_err-statements : goal.body-returns-in_err-statements

@@ -2,7 +2,6 @@
 use mathlib.Core.Path.{refl}
 use native.Mathlib.Omega.{arith}
 use Rattle.scan.proofs.Laws.{handed, way, here, goes, done, undone, did_not, taken, fails, fails_unseen}
-use Rattle.scan.proofs.Looking.{name_small}
 use Rattle.nodes.proofs.Made.{made_one}
 use Rattle.cycle.proofs.PathsPrimary.{field_looks, field_square, field_named}
 use Rattle.cycle.proofs.Writing.{written}

@@ -1,5 +1,5 @@
 -- What is left to show of `cycle::rhs` in its cycle of calls. Assumes nothing.
-use Rattle.scan.proofs.Laws.{handed, ends, as_agrees}
+use Rattle.scan.proofs.Laws.{ends, as_agrees}
 use Rattle.cycle.proofs.PathsExpr.{right_stops, right_step}
 use Rattle.cycle.proofs.+reading.Goals as goal
 

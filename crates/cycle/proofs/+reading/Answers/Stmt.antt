@@ -5,7 +5,6 @@ use native.Mathlib.Omega.{arith}
 use lib.ListN.{take}
 use Rattle.tree.specs.Node
 use Rattle.scan.proofs.Laws.{handed, way, here, goes, done, undone, did_not, taken, fails, fails_unseen, prefix, later, continued}
-use Rattle.scan.proofs.Looking.{taken_label}
 use Rattle.nodes.proofs.Made.{over_two, made_one}
 use Rattle.cycle.proofs.PathsStmt.{stmt_looks, while_as, stmt_loop, stmt_while, stmt_for, stmt_labelled, stmt_assert, stmt_control, stmt_expr}
 use Rattle.cycle.proofs.Shapes.{given, expr_shape}

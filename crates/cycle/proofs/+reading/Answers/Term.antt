@@ -2,7 +2,6 @@
 use mathlib.Core.Path.{refl}
 use native.Mathlib.Omega.{arith}
 use Rattle.scan.proofs.Laws.{handed, way, here, goes, done, undone, did_not, taken, fails, fails_unseen, as_agrees, later}
-use Rattle.scan.proofs.Looking.{taken_label}
 use Rattle.cycle.proofs.PathsPrimary.{operand_looks, operand_class, operand_fun, operand_if, operand_begin, operand_table, operand_label, operand_other}
 use Rattle.cycle.proofs.Writing.{made_list}
 use Rattle.cycle.proofs.+reading.Goals as goal

@@ -2,15 +2,15 @@
 use mathlib.Core.Path.{refl}
 use native.Mathlib.Omega.{arith}
 use Rattle.tree.specs.NodeKind
-use Rattle.nodes.proofs.Names.{leaf, variadic_none, variadic_some}
+use Rattle.nodes.proofs.Names.{leaf}
 use Rattle.nodes.proofs.fields.variadic_end.Goals as goal
 
-pub returns-then-variadic-eq0 : goal.returns-then-variadic-eq0
-returns-then-variadic-eq0 c = let e = c.emit.ensures in
+pub returns-in-Some : goal.returns-in-Some
+returns-in-Some c = let e = c.emit.ensures in
     let x = e.next in
-    record { up = omega arith; far = omega arith; text = rw (variadic_none _ c.if-variadic-eq0.true) (leaf NodeKind.Absent e refl refl); whole = e.whole }
+    record { up = omega arith; far = omega arith; text = rw c.in-Some.is (leaf NodeKind.ParamDef e refl refl); whole = e.whole }
 
-pub returns : goal.returns
-returns c = let e = c.emit-2.ensures in
+pub returns-in-None : goal.returns-in-None
+returns-in-None c = let e = c.emit-in-None.ensures in
     let x = e.next in
-    record { up = omega arith; far = omega arith; text = rw (variadic_some _ c.if-variadic-eq0.false) (leaf NodeKind.ParamDef e refl refl); whole = e.whole }
+    record { up = omega arith; far = omega arith; text = rw c.in-None.is (leaf NodeKind.Absent e refl refl); whole = e.whole }
