@@ -6,13 +6,13 @@ ghost use Rattle.labels.specs.Entries.{kind_of, held, around, encloses as enclos
 
 use tree::node;
 
-// A break or a continue, with its label: 0, or 1 + its name.
 #[derive(Clone, Copy, Debug, PartialEq, Eq)]
 pub enum JumpKind {
     Break,
     Continue,
 }
 
+// A break or a continue, with its label: 0, or 1 + its name.
 #[derive(Clone, Copy, Debug, PartialEq, Eq)]
 pub struct Jump {
     pub kind: JumpKind,
@@ -20,6 +20,7 @@ pub struct Jump {
 }
 
 // The words of an entry.
+// Stays words and no array of entries: the same memory is lent to the decision for 65 before.
 const ENTRY: usize = 3;
 
 // Lent words, and how many entries they hold, from the first word on.

@@ -14,7 +14,7 @@ use Rattle.grammar.specs.Canonical.Write.{tail_of, target_atom, target_items, ta
 use Rattle.grammar.specs.Reading.Function.{target_name}
 use Rattle.tables.specs.Kinds.{target_item, name_is, gives_name}
 use Rattle.std.specs.declared.option.Option.{Option}
-use Rattle.std.specs.declared.option.Option.TheVariants.{Some, None}
+use Rattle.std.specs.declared.option.Option.TheVariants.{Some}
 use Rattle.writer.specs.Stack.{Skipped, SpotAs, Spot, Somewhere, Says, KidOf, nth_tree, kid_in, push, maybe}
 use Rattle.tables.specs.Children.{kind_in, value_in, children_in, first_tree}
 use Rattle.tables.specs.Check.{name_given, function_form}
@@ -56,14 +56,6 @@ no_path (more (node k v f) g) e =
 
 -- the receiver's path ends at q, and its items were tested one by one
 module _ {L : List ℕ} {p q : ℕ} (path : KidOf L p 2 q) (some : q ≡ 0 → ⊥) {r : Option ℕ} (w : Fit L q (λ t. target_items (children_in (just t))) r) where
-  pub bad_path : r ≡ None → (m : Maybe Tree) (s : List Tree) → Spot L p m s → target_path (tail_of (children_in m)) ≡ false
-  bad_path e m s h = go (children_in m) (path.how m s h).how
-    where
-      go : (f : Forest) → SpotAs L q (nth_tree 1 f) (push 1 f s) → target_path (tail_of f) ≡ false
-      go none z = absurd (some z)
-      go (more x none) z = absurd (some z)
-      go (more x (more (node k v g) f)) a = fit_at w (node k v g) _ a e
-
   -- the atom ends where the path begins
   pub good_path : {b : ℕ} → r ≡ Some b → (m : Maybe Tree) (s : List Tree) → Spot L p m s → (target_path (tail_of (children_in m)) ≡ true) × Spot L b (kid_in 1 m) s
   good_path {b} e m s h = go (children_in m) (path.how m s h).how

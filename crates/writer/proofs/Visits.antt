@@ -19,7 +19,7 @@ use Rattle.std.specs.declared.option.Option.{Option}
 use Rattle.std.specs.declared.option.Option.TheVariants.{Some, None}
 use Rattle.writer.specs.declared.legal.Kids.{Kids}
 use Rattle.writer.specs.Stack.{At, Skipped}
-use Rattle.writer.specs.Standing.{serves, far, word, entry, Entry, Kept, On, AtNode, Keeps, Tells}
+use Rattle.writer.specs.Standing.{serves, far, word, entry, Entry, Kept, AtNode, Keeps, Tells}
 use Rattle.writer.specs.Verdict.{Items, KidsFitAs, KidsFit, VisitedAs, Visited, Whole}
 use Rattle.writer.proofs.Laws.{at_many, length_back}
 use Rattle.writer.proofs.Places.{class_same}
@@ -115,13 +115,6 @@ module _ {L F : List ℕ} {p h base : ℕ} (g : Going L F p h base) (z : length 
       let i = a.inside in
       let e : p ≡ length L = omega arith in
       at_one (subst (λ (q : ℕ). At L q g.passed.stack) e a) g.whole.here
-
-  pub end_on : On L F base 0 (length L)
-  end_on =
-      let l : length g.passed.stack ≡ 1 = ap length alone in
-      let many = g.many in
-      let room = g.room in
-      record { top = g.whole.top; rest = []; here = g.whole.here; many = refl; kept = subst (λ (s : List Tree). Kept F base s) alone g.kept; room = omega arith }
 
   pub end_good : {c : ℕ} → Tells L (length L) (λ t s. class_of t) c → (t : Tree) → At L (length L) (t ∷ []) → eqb c Class.Statement ≡ legal_tree t
   end_good {c} w t a = at_each g.whole.here (λ u s. eqb c Class.Statement ≡ legal_tree u) (sym (whole_good g.whole.top (passed_end g.passed z) (w.how _ _ g.whole.here))) t [] a

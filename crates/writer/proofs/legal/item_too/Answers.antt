@@ -1,6 +1,6 @@
 -- `writer::legal::item_too` meets its contract. Assumes nothing.
 use mathlib.Core.Path.{◌≡◌, ◌∙◌}
-use mathlib.Core.Bool.{true, false}
+use mathlib.Core.Bool.{true}
 use Rattle.tree.specs.Maybe.{just}
 use Rattle.writer.proofs.Places.{stands, some_place}
 use Rattle.writer.proofs.legal.item_too.Goals as goal
@@ -12,7 +12,3 @@ pub returns-then-items : goal.returns-then-items
 returns-then-items c = let k = c.kind_at.ensures in
     let e : c.args.items ≡ true = c.if-items.true in
     record { how = λ t s a. c.target_item.ensures ∙ rw (e, ← k.how (just t) s (stands a)) }
-
-pub returns-else-items : goal.returns-else-items
-returns-else-items c = let e : c.args.items ≡ false = c.if-items.false in
-    record { how = λ t s a. rw e }

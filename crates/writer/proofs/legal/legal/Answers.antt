@@ -9,7 +9,7 @@ use Rattle.writer.proofs.Laws.{at_many}
 use Rattle.writer.proofs.Places.{stands}
 use Rattle.writer.proofs.Keeping.{node_place}
 use Rattle.writer.proofs.Entry.{whole_even}
-use Rattle.writer.proofs.Visits.{going_start, next_node, next_bad, next_good, end_on, end_good}
+use Rattle.writer.proofs.Visits.{going_start, next_node, next_bad, next_good, end_good}
 use Rattle.writer.proofs.legal.legal.Goals.{After-count_at, In-loop-node}
 use Rattle.writer.proofs.legal.legal.Goals as goal
 
@@ -59,9 +59,6 @@ pub loop-node-preserved : goal.loop-node-preserved
 loop-node-preserved c =
     let e : 2 * c.loop-node.node + 2 ≡ 2 * (c.loop-node.node + 1) = omega arith in
     rw (← e) (next_good c.loop-node.invariant (behind (goal.at.loop-node-preserved c).In-loop-node) c.visit.ensures c.in-Some.is (omega (arith, counted (goal.at.loop-node-preserved c).After-count_at, number (goal.at.loop-node-preserved c).After-count_at)) c.keep-base.ensures)
-
-pub class_of-requires : goal.class_of-requires
-class_of-requires c = end_on c.loop-node.invariant (omega (arith, (whole_even c.requires).1, c.loop-node-test.false))
 
 pub returns : goal.returns
 returns c = record { how = end_good c.loop-node.invariant (omega (arith, (whole_even c.requires).1, c.loop-node-test.false)) c.class_of.ensures }

@@ -7,7 +7,7 @@ use Rattle.grammar.specs.Canonical.Write.{tail_of, target_atom}
 use Rattle.writer.specs.Stack.{kid_in}
 use Rattle.tables.specs.Children.{children_in}
 use Rattle.writer.proofs.Spots.{spot_none}
-use Rattle.writer.proofs.Targets.{head_is, no_path, bad_path, good_path}
+use Rattle.writer.proofs.Targets.{head_is, no_path, good_path}
 use Rattle.writer.proofs.target.target_receiver.Goals as goal
 
 pub returns-then-path-eq0 : goal.returns-then-path-eq0
@@ -25,6 +25,3 @@ returns-in-Some c = record {
       let k = c.kind_at.ensures.how _ _ x.1 in
       rw (x.0, ← head_is (children_in m), ← k) (c.target_atom.ensures ∙ sym (and-true _));
 }
-
-pub returns-in-None : goal.returns-in-None
-returns-in-None c = record { how = λ m s h. rw (bad_path c.kid_of-path.ensures c.if-path-eq0.false c.target_items.ensures c.in-None.is m s h) (sym (and-false (target_atom (head_kind (children_in m))))) }

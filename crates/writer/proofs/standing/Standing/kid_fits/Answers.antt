@@ -1,5 +1,5 @@
 -- `writer::standing::Standing::kid_fits` meets its contract. Assumes nothing.
-use mathlib.Core.Path.{refl, sym, ◌∙◌}
+use mathlib.Core.Path.{sym, ◌∙◌}
 use Rattle.grammar.proofs.Laws.Facts.{clash}
 use Rattle.writer.proofs.Places.{stands}
 use Rattle.writer.proofs.Validity.{kid_is}
@@ -18,18 +18,4 @@ returns-then-not-starts_wrong c = elim c.if-fits.branch [
         rw (w.if-fits.true, sym w.value-is ∙ c.if-not-starts_wrong.true) at k;
   }
   | else-fits w ↦ clash c.if-not-starts_wrong.true (w.value-is ∙ w.if-fits.false)
-]
-
-pub returns-else-not-starts_wrong : goal.returns-else-not-starts_wrong
-returns-else-not-starts_wrong c = elim c.if-fits.branch [
-  | then-fits w ↦ record {
-    how = λ t s a.
-        let k = kid_is t _ _ _ (c.class_of.ensures.how t s a) c.fits.ensures (w.starts_wrong.ensures.how t s a) refl in
-        c.if-not-starts_wrong.false ∙ rw (w.if-fits.true, sym w.value-is ∙ c.if-not-starts_wrong.false) at k;
-  }
-  | else-fits w ↦ record {
-    how = λ t s a.
-        let k = kid_is t c.args.asked c.args.kind c.args.value (c.class_of.ensures.how t s a) c.fits.ensures refl refl in
-        c.if-not-starts_wrong.false ∙ rw w.if-fits.false at k;
-  }
 ]
