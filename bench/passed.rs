@@ -9,7 +9,7 @@ use labels::behind::BEHIND;
 use labels::entries::COMPARED;
 use labels::FlatLabels;
 use std::io::Read;
-use writer::records::{PASS, PASSED};
+use tree::{PASS, PASSED};
 
 fn words() -> Vec<u64> {
     let mut bytes = Vec::new();

@@ -1,5 +1,5 @@
 -- Post-order records from the end: popping a node, delimiting. Holds for any trees. Assumes nothing.
-use mathlib.Core.Path.{◌≡◌, refl, sym, ap, ◌∙◌, subst}
+use mathlib.Core.Path.{◌≡◌, refl, sym, ap, ◌∙◌}
 use mathlib.Core.List.{List, [], ◌∷◌, ◌++◌, append_assoc, append-nil}
 use Prim.Native.Nat.{ℕ, ◌+◌, ◌*◌, ◌-◌, ◌/◌, ◌%◌, ◌≤◌, ◌<◌}
 use native.Mathlib.Omega.{arith}
@@ -73,26 +73,3 @@ pop {L} {p} {k} {v} {f} {s} a =
       value = w.value;
       under = record { text = w.front; inside = omega arith; small = small_back f s a.small.0.1 a.small.1 };
     }
-
--- ---------------------------------------------------------------- delimiting: the counter is the number of trees still to go over
-pub record Over (L : List ℕ) (q left : ℕ) (s : List Tree) : Type 0 where
-  pub open_ones : List Tree
-  pub at : At L q (open_ones ++ s)
-  pub many : length open_ones ≡ left
-
-pub over_step : {L : List ℕ} {q left : ℕ} {s : List Tree} → Over L q left s → 0 < left → (2 ≤ q) × Over L (q - 2) (left - 1 + get_or L (q - 2) 0 / 256) s
-over_step {L} {q} {left} {s} o h = go o.open_ones o.at o.many
-  where
-    go : (u : List Tree) → At L q (u ++ s) → length u ≡ left → (2 ≤ q) × Over L (q - 2) (left - 1 + get_or L (q - 2) 0 / 256) s
-    go [] a m = absurd (omega arith)
-    go (node k v f ∷ u) a m =
-        let w = pop a in
-        let e : length (back f u) ≡ count f + length u = length_back f u in
-        let g : get_or L (q - 2) 0 / 256 ≡ count f = w.kids in
-        (w.two, record { open_ones = back f u; at = subst (λ (x : List Tree). At L (q - 2) x) (back_append f u s) w.under; many = omega arith })
-
-pub over_bound : {L : List ℕ} {q left : ℕ} {s : List Tree} → Over L q left s → 2 * left ≤ q
-over_bound {L} {q} {left} {s} o = omega (arith, at_many o.at, length-append o.open_ones s, o.many)
-
-pub over_start : {L : List ℕ} {p : ℕ} {t : Tree} {s : List Tree} → At L p (t ∷ s) → Over L p 1 s
-over_start {t = t} a = record { open_ones = t ∷ []; at = a; many = refl }

@@ -60,14 +60,7 @@ pub fn skip(records: &[u64], p: usize) -> usize
     requires { Here records.now p }
     ensures { Skipped records.now p result }
 {
-    let mut q = p;
-    let mut left: u64 = 1;
-    while 0 < left {
-        let n = records[q - 2] / CHILD;
-        q -= 2;
-        left = left - 1 + n;
-    }
-    q
+    tree::skip(records, p, 1)
 }
 
 // The last child of the tree that ends at p, or 0.
