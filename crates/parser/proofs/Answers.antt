@@ -12,7 +12,7 @@ use lib.Seq.{length-take-le, take_all}
 use Rattle.tree.specs.Tree.{Tree, records}
 use Rattle.grammar.specs.Reading.Limit.{depth_limit, length_limit, queue_limit, store_share, malformed, bad_reader, short_store}
 use Rattle.grammar.specs.Reading.Result.{Res, ok, bad, fail, stop, ifb, Error}
-use Rattle.grammar.specs.Reading.Next.{is_stop, queue_fits, pad, reader_at, Called, bare, halted, error_kind, error_answer, tree_called, called, answered, next_stmt, next}
+use Rattle.grammar.specs.Reading.Next.{is_stop, queue_fits, reader_at, Called, bare, halted, error_kind, error_answer, tree_called, called, answered, next_stmt, next}
 use Rattle.grammar.proofs.Laws.Progress.{next_keeps}
 use Rattle.grammar.proofs.Laws.Keep.{Keep}
 use Rattle.grammar.specs.declared.ErrorKind.{ErrorKind}
@@ -187,13 +187,13 @@ module _ (T : List ℕ) (x m : ℕ) (even : Even T) {Q : List ℕ} (empty : Q �
   comes = called (x + length T / 2) m x (next depth_limit [] T)
 
   -- as it was told from a queue that is empty
-  from_empty : {o : Out Tree} → out Q (next depth_limit [] T) ≡ o → out [] (next depth_limit [] T) ≡ o
-  from_empty e = ap (λ (q : List ℕ). out q (next depth_limit [] T)) (sym empty) ∙ e
+  from_empty : {o : Out Tree} → out Q (next depth_limit Q T) ≡ o → out [] (next depth_limit [] T) ≡ o
+  from_empty e = ap (λ (q : List ℕ). out q (next depth_limit q T)) (sym empty) ∙ e
 
-  pub halt_out : {k : ℕ} {s : Stepped} (S S' : List ℕ) → As Q (next depth_limit [] T) [] (stop k) → S' ≡ take 0 S ++ replicate (length S - 0) 0 → length S ≡ m → s ≡ (halted 0 x k).step → leaves s S' ≡ comes
+  pub halt_out : {k : ℕ} {s : Stepped} (S S' : List ℕ) → As Q (next depth_limit Q T) [] (stop k) → S' ≡ take 0 S ++ replicate (length S - 0) 0 → length S ≡ m → s ≡ (halted 0 x k).step → leaves s S' ≡ comes
   halt_out S S' a e l i = bare_out S S' m e l i (called_halt (x + length T / 2) m x (next depth_limit [] T) (from_empty a.is))
 
-  pub lost_out : {f : Failure} {S S₁ Q₁ : List ℕ} {a : Answer} {s : Stepped} (S' : List ℕ) → Lost (next depth_limit [] T) T 0 0 0 S Q f S₁ Q₁ → S' ≡ take 0 S₁ ++ replicate (length S₁ - 0) 0 → length S₁ ≡ m → a ≡ error_answer f.error → s ≡ stands a (x + f.pos / 2) Q₁ → leaves s S' ≡ comes
+  pub lost_out : {f : Failure} {S S₁ Q₁ : List ℕ} {a : Answer} {s : Stepped} (S' : List ℕ) → Lost (next depth_limit Q T) T 0 0 0 S Q f S₁ Q₁ → S' ≡ take 0 S₁ ++ replicate (length S₁ - 0) 0 → length S₁ ≡ m → a ≡ error_answer f.error → s ≡ stands a (x + f.pos / 2) Q₁ → leaves s S' ≡ comes
   lost_out {f} {S₁ = S₁} {Q₁ = Q₁} {a = a} S' l c k n i =
       let d = next depth_limit [] T in
       let o = from_empty l.same.is in
@@ -201,7 +201,7 @@ module _ (T : List ℕ) (x m : ℕ) (even : Even T) {Q : List ℕ} (empty : Q �
       called_lost (x + length T / 2) m x d o ∙ ap (λ (j : ℕ). bare m (error_answer f.error) (reader_at j Q₁)) (place T x f.pos even (kept_lost [] (even_next T even) o) l.moved.within) in
       bare_out S₁ S' m c k (i ∙ ap (λ (b : Answer). stands b (x + f.pos / 2) Q₁) n) y
 
-  pub tree_out : {p a : ℕ} {S S₁ Q₁ : List ℕ} {s : Stepped} (S' : List ℕ) → (g : Wrote records (next depth_limit [] T) clean T 0 0 8 0 S Q p a S₁ Q₁) → S' ≡ take a S₁ ++ replicate (length S₁ - a) 0 → length S₁ ≡ m → a ≤ m → s ≡ stands (ATree (a / 2)) (x + p / 2) Q₁ → leaves s S' ≡ comes
+  pub tree_out : {p a : ℕ} {S S₁ Q₁ : List ℕ} {s : Stepped} (S' : List ℕ) → (g : Wrote records (next depth_limit Q T) clean T 0 0 8 0 S Q p a S₁ Q₁) → S' ≡ take a S₁ ++ replicate (length S₁ - a) 0 → length S₁ ≡ m → a ≤ m → s ≡ stands (ATree (a / 2)) (x + p / 2) Q₁ → leaves s S' ≡ comes
   tree_out {p} {a} {S₁ = S₁} {Q₁ = Q₁} {s = s} S' g c k h i =
       let d = next depth_limit [] T in
       let o = from_empty g.same.is in

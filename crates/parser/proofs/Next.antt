@@ -1,11 +1,11 @@
 -- A statement at the top level (grammar's Reading/Next.antt), one step each, as the code goes. Assumes nothing.
-use mathlib.Core.Path.{◌≡◌, refl, ◌∙◌}
+use mathlib.Core.Path.{◌≡◌, refl}
 use mathlib.Core.Bool.{true, false}
 use lib.Dec.{eqb}
 use mathlib.Core.List.{List, [], ◌∷◌, ◌++◌}
-use Prim.Native.Nat.{ℕ, ◌+◌, ◌≤◌}
+use Prim.Native.Nat.{ℕ, ◌+◌}
 use native.Mathlib.Omega.{arith}
-use lib.ListN.{length, drop}
+use lib.ListN.{length}
 use Rattle.tree.specs.Tree.{Tree, records}
 use Rattle.grammar.specs.Reading.Limit.{queue_full, queue_limit}
 use Rattle.grammar.specs.Reading.Result.{Res, ok, fail, stop, either, then, Error}
@@ -27,10 +27,6 @@ next_go d u q r = either q (stmt (at_depth d) q r) (λ t q₂ s. ok t s) (failed
 pub next_step : (d : ℕ) (q : List Error) (ts : List ℕ) → next d q ts ≡ then q (start (length ts) q ts) (next_go d)
 unfolding next
 next_step d q ts = refl
-
--- what waits is none
-pub opens : (d : ℕ) (T : List ℕ) {Q : List ℕ} → Q ≡ [] → As Q (next d [] T) Q (then Q (start (length T) Q T) (next_go d))
-opens d T e = rw e (way [] (next_step d [] T))
 
 -- a statement that was read, or a stop
 module _ {D d : Res Tree} (or : ℕ → List Error → List ℕ → Res Tree) {T : List ℕ} {p : ℕ} {S Q S' Q' : List ℕ} (x : As Q D Q (either Q d (λ t q s. ok t s) or)) where

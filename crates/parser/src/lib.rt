@@ -35,11 +35,10 @@ fn failed(tokens: &[u64], store: &mut [u64], queue: &mut Waiting, f: Failure) ->
     }
 }
 
-// One statement, where no error waits. Error `END` is the end.
+// One statement. Error `END` is the end.
 fn statement(tokens: &[u64], store: &mut [u64], queue: &mut Waiting) -> Result<Cursor, Halt>
-    requires ready { Ready (length tokens.now) (length store.old) 0 0 }
-    requires empty { queue.old ≡ [] }
-    ensures { Agrees records (next depth_limit [] tokens.now) tokens.now 0 0 8 0 store.old queue.old store.new queue.new result }
+    requires { Ready (length tokens.now) (length store.old) 0 0 }
+    ensures { Agrees records (next depth_limit queue.old tokens.now) tokens.now 0 0 8 0 store.old queue.old store.new queue.new result }
 {
     let pos = start(tokens, 0)?;
     match stmt(tokens, store, queue, limit::DEPTH, Cursor { pos, at: 0 }) {

@@ -3,7 +3,7 @@ use mathlib.Core.Path.{refl, sym, ◌∙◌}
 use native.Mathlib.Omega.{arith}
 use borrow.Author.Tests.{eqb-false}
 use lib.ListN.{drop}
-use Rattle.scan.proofs.Laws.{ends, goes, fails, prefix}
+use Rattle.scan.proofs.Laws.{ends, goes, fails}
 use Rattle.scan.proofs.Waiting.{longer, fewer}
 use Rattle.grammar.specs.Reading.Limit.{depth_limit}
 use Rattle.parser.proofs.Next.{failed_full, failed_step}
