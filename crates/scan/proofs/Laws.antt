@@ -153,6 +153,10 @@ module _ {A : Type 0} {words : A → List ℕ} {d : Res A} {T : List ℕ} {pos l
   pub did_not : {h : Halt} → Failed d T pos least at S Q S' Q' h → Agrees words d T pos least slack at S Q S' Q' (Err h)
   did_not f = record { how = f }
 
+  -- where a `?` handed it on
+  pub hands : {h : Halt} {r : Result Cursor Halt} → IsErrAnd r (λ e. e ≡ h) → Failed d T pos least at S Q S' Q' h → Agrees words d T pos least slack at S Q S' Q' r
+  hands e f = rw (handed e) (did_not f)
+
 -- an error, or a stop
 module _ {A : Type 0} {d : Res A} {T : List ℕ} {pos least at : ℕ} {S Q S' Q' : List ℕ} where
   pub missed : {f : Failure} {h : Halt} → h ≡ Fail f → Failed d T pos least at S Q S' Q' h → Lost d T pos least at S Q f S' Q'

@@ -1,14 +1,14 @@
 -- `parser::statement` meets its contract. Assumes nothing.
 use mathlib.Core.Path.{refl}
 use native.Mathlib.Omega.{arith}
-use Rattle.scan.proofs.Laws.{handed, way, loses, undone, missed, did_not, onto, lacks, passed, unpassed, gets}
+use Rattle.scan.proofs.Laws.{hands, way, loses, undone, missed, did_not, onto, lacks, passed, unpassed, gets}
 use Rattle.grammar.specs.Reading.Limit.{depth_limit}
 use Rattle.grammar.specs.Reading.Next.{failed}
 use Rattle.parser.proofs.Next.{next_go, next_step, ended, halted}
 use Rattle.parser.proofs.statement.Goals as goal
 
 pub returns-in_err-pos : goal.returns-in_err-pos
-returns-in_err-pos c = rw (handed c.from_residual.ensures.1) (did_not (lacks _ (unpassed c.in_err-pos.ensures) (way _ (next_step depth_limit _ c.args.tokens.now)) refl (omega (arith, c.requires))))
+returns-in_err-pos c = hands c.from_residual.ensures.1 (lacks _ (unpassed c.in_err-pos.ensures) (way _ (next_step depth_limit _ c.args.tokens.now)) refl (omega (arith, c.requires)))
 
 pub returns-in-Ok : goal.returns-in-Ok
 returns-in-Ok c =

@@ -1,7 +1,7 @@
 -- What is left to show of `cycle::atom` in its cycle of calls. Assumes nothing.
 use mathlib.Core.Path.{refl}
 use native.Mathlib.Omega.{arith}
-use Rattle.scan.proofs.Laws.{handed, way, here, did_not, taken, fails_unseen, later}
+use Rattle.scan.proofs.Laws.{hands, way, here, taken, fails_unseen, later}
 use Rattle.cycle.proofs.PathsPrimary.{atom_looks, atom_group, atom_literal}
 use Rattle.cycle.proofs.Writing.{written}
 use Rattle.cycle.proofs.+reading.Goals as goal
@@ -15,4 +15,4 @@ atom-returns t c = let tk = taken c.in_ok-token.ensures in
     written (c.literal.ensures c.args.tokens.now tk.within) refl (way _ (atom_literal _ _ tk c.if-token-eq-OPEN_PAREN.false)) refl (omega arith)
 
 pub atom-returns-in_err-token : goal.atom-returns-in_err-token
-atom-returns-in_err-token t c = rw (handed c.from_residual.ensures.1) (did_not (fails_unseen here (atom_looks _ _ _) c.in_err-token.ensures refl (omega arith)))
+atom-returns-in_err-token t c = hands c.from_residual.ensures.1 (fails_unseen here (atom_looks _ _ _) c.in_err-token.ensures refl (omega arith))

@@ -1,7 +1,7 @@
 -- What is left to show of `cycle::begin` in its cycle of calls. Assumes nothing.
 use mathlib.Core.Path.{refl}
 use native.Mathlib.Omega.{arith}
-use Rattle.scan.proofs.Laws.{handed, here, did_not, taken, fails_unseen, later}
+use Rattle.scan.proofs.Laws.{hands, here, taken, fails_unseen, later}
 use Rattle.cycle.proofs.PathsStmt.{begin_looks, begin_is, begin_not}
 use Rattle.cycle.proofs.Writing.{fails_with}
 use Rattle.cycle.proofs.+reading.Goals as goal
@@ -15,4 +15,4 @@ begin-returns-then-token-ne-BEGIN t c = let tk = taken c.in_ok-token.ensures in
     fails_with (begin_not _ _ tk _ c.if-token-ne-BEGIN.true) (omega arith) (omega arith)
 
 pub begin-returns-in_err-token : goal.begin-returns-in_err-token
-begin-returns-in_err-token t c = rw (handed c.from_residual.ensures.1) (did_not (fails_unseen here (begin_looks _ _ _ _) c.in_err-token.ensures refl (omega arith)))
+begin-returns-in_err-token t c = hands c.from_residual.ensures.1 (fails_unseen here (begin_looks _ _ _ _) c.in_err-token.ensures refl (omega arith))

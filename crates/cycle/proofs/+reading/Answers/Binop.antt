@@ -3,7 +3,7 @@ use mathlib.Core.Path.{refl, ◌∙◌}
 use Prim.Native.Nat.{◌-◌}
 use native.Mathlib.Omega.{arith}
 use lib.ListN.{length, drop, length-drop}
-use Rattle.scan.proofs.Laws.{handed, way, here, link, goes, done, undone, did_not, taken, fails, fails_unseen, as_agrees, prefix, rebased, relabel, home}
+use Rattle.scan.proofs.Laws.{hands, way, here, link, goes, done, undone, taken, fails, fails_unseen, as_agrees, prefix, rebased, relabel, home}
 use Rattle.nodes.proofs.Made.{made_two}
 use Rattle.cycle.proofs.Climb.{binop_step, climb_looks, climb_ends, climb_takes}
 use Rattle.cycle.proofs.PathsExpr.{binop_unary}
@@ -13,7 +13,7 @@ pub binop-returns-then-level-eq-PRECEDENCE_END : goal.binop-returns-then-level-e
 binop-returns-then-level-eq-PRECEDENCE_END t c = as_agrees (binop_unary _ _ _ _ c.if-level-eq-PRECEDENCE_END.true) c.unop.ensures
 
 pub binop-returns-in_err-left : goal.binop-returns-in_err-left
-binop-returns-in_err-left t c = rw (handed c.from_residual.ensures.1) (did_not (fails _ (way _ (binop_step _ _ _ _ c.if-level-eq-PRECEDENCE_END.false)) (undone c.in_err-left.ensures) refl (omega arith)))
+binop-returns-in_err-left t c = hands c.from_residual.ensures.1 (fails _ (way _ (binop_step _ _ _ _ c.if-level-eq-PRECEDENCE_END.false)) (undone c.in_err-left.ensures) refl (omega arith))
 
 pub binop-loop-token-init : goal.binop-loop-token-init
 binop-loop-token-init t c = let f = done c.in_ok-left.ensures in
@@ -83,11 +83,11 @@ binop-returns-in_err-right t c = let f = done c.in_ok-left.ensures in
     let g = i.run f.what (rebased f (omega (arith, c.requires))) in
     let tk = taken c.in_ok-token.ensures in
     let on = link g.same (way _ (climb_takes _ _ g.what _ i.fuel _ i.enough tk c.op_level-l.ensures c.if-l-eq0.false c.if-level-l.false (refl))) in
-    rw (handed c.from_residual-in_err-right.ensures.1) (did_not (fails _ (link path on) (undone c.in_err-right.ensures) (prefix g (omega (arith, c.requires, c.unop-2.auto.store, f.moved, f.room, g.moved, g.room, tk.within)) ∙ prefix f (omega (arith, c.requires, c.unop-2.auto.store, f.moved, f.room, g.moved, g.room, tk.within))) (omega (arith, c.requires, c.unop-2.auto.store, f.moved, f.room, g.moved, g.room, tk.within))))
+    hands c.from_residual-in_err-right.ensures.1 (fails _ (link path on) (undone c.in_err-right.ensures) (prefix g (omega (arith, c.requires, c.unop-2.auto.store, f.moved, f.room, g.moved, g.room, tk.within)) ∙ prefix f (omega (arith, c.requires, c.unop-2.auto.store, f.moved, f.room, g.moved, g.room, tk.within))) (omega (arith, c.requires, c.unop-2.auto.store, f.moved, f.room, g.moved, g.room, tk.within)))
 
 pub binop-returns-in_err-token : goal.binop-returns-in_err-token
 binop-returns-in_err-token t c = let f = done c.in_ok-left.ensures in
     let path = goes _ (way _ (binop_step _ _ _ _ c.if-level-eq-PRECEDENCE_END.false)) f.same in
     let i = c.loop-token.invariant in
     let g = i.run f.what (rebased f (omega (arith, c.requires))) in
-    rw (handed c.from_residual-in_err-token.ensures.1) (did_not (fails_unseen (link path g.same) (climb_looks _ _ g.what _ _ i.fuel _ i.enough) c.in_err-token.ensures (prefix g (omega arith) ∙ prefix f (omega arith)) (omega arith)))
+    hands c.from_residual-in_err-token.ensures.1 (fails_unseen (link path g.same) (climb_looks _ _ g.what _ _ i.fuel _ i.enough) c.in_err-token.ensures (prefix g (omega arith) ∙ prefix f (omega arith)) (omega arith))

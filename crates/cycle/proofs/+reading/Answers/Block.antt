@@ -3,7 +3,7 @@ use mathlib.Core.Path.{refl, sym}
 use mathlib.Core.List.{[], append-nil}
 use native.Mathlib.Omega.{arith}
 use Rattle.tree.specs.Node
-use Rattle.scan.proofs.Laws.{handed, way, did_not}
+use Rattle.scan.proofs.Laws.{hands, way}
 use Rattle.nodes.proofs.Made.{over_one}
 use Rattle.cycle.proofs.PathsBody.{closable, under, unlisted}
 use Rattle.cycle.proofs.PathsStmt.{block_step}
@@ -11,7 +11,7 @@ use Rattle.grammar.specs.Reading.Block.{block_of}
 use Rattle.cycle.proofs.+reading.Goals as goal
 
 pub block-returns-in_err-statements : goal.block-returns-in_err-statements
-block-returns-in_err-statements t c = rw (handed c.from_residual.ensures.1) (did_not (unlisted _ c.in_err-statements.ensures (way _ (block_step _ _ _ _)) refl (omega arith)))
+block-returns-in_err-statements t c = hands c.from_residual.ensures.1 (unlisted _ c.in_err-statements.ensures (way _ (block_step _ _ _ _)) refl (omega arith))
 
 pub block-block_under-requires : goal.block-block_under-requires
 block-block_under-requires t c = closable _ c.in_ok-statements.ensures (omega arith)

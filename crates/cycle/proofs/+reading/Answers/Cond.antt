@@ -6,7 +6,7 @@ use native.Mathlib.Omega.{arith}
 use lib.ListN.{length, take, drop, length-drop}
 use Rattle.tree.specs.Tree.{none, snoc, count, records}
 use Rattle.tree.specs.Node
-use Rattle.scan.proofs.Laws.{handed, way, here, link, goes, done, undone, did_not, taken, fails, fails_unseen, prefix}
+use Rattle.scan.proofs.Laws.{hands, way, here, link, goes, done, undone, taken, fails, fails_unseen, prefix}
 use Rattle.nodes.proofs.Made.{over_two}
 use Rattle.cycle.proofs.PathsBody.{closable, under, unlisted}
 use Rattle.cycle.proofs.PathsCond.{branches_step, behind_looks, behind_end, behind_else, behind_more, arm_text, arm_count, if_text, else_text, arm_before, else_before}
@@ -23,7 +23,7 @@ cond-returns-in_err-branch t c = let g = c.loop-branch.invariant in
     let gs = g.short in
     let gk = g.kept in
     let step = link gr.same (way _ (branches_step _ g.fuel gr.what _ _ _ g.enough)) in
-    rw (handed c.from_residual.ensures.1) (did_not (fails _ step (undone c.in_err-branch.ensures) (prefix gr (omega (arith, c.requires))) (omega (arith, gr.moved, gr.room))))
+    hands c.from_residual.ensures.1 (fails _ step (undone c.in_err-branch.ensures) (prefix gr (omega (arith, c.requires))) (omega (arith, gr.moved, gr.room)))
 
 pub cond-returns-in-68 : goal.cond-returns-in-68
 cond-returns-in-68 t c = let g = c.loop-branch.invariant in
@@ -57,7 +57,7 @@ cond-returns-in_err-otherwise-in-55 t c = let g = c.loop-branch.invariant in
     let step = link gr.same (way _ (branches_step _ g.fuel gr.what _ _ _ g.enough)) in
     let on = goes _ step b.same in
     let le = c.list_end-at.ensures in
-    rw (handed c.from_residual-in_err-otherwise-in-55.ensures.1) (did_not (unlisted _ c.in_err-otherwise-in-55.ensures (link on (way _ (behind_else _ _ _ _ _ tk c.in-55.is))) (else_before gr b le g.many (omega (arith, c.requires))) (omega (arith, c.requires, gr.moved, gr.room, gk, b.moved, b.room, tk.within, le.next, le.whole, c.arm.auto.store, c.list_end-at.auto.store))))
+    hands c.from_residual-in_err-otherwise-in-55.ensures.1 (unlisted _ c.in_err-otherwise-in-55.ensures (link on (way _ (behind_else _ _ _ _ _ tk c.in-55.is))) (else_before gr b le g.many (omega (arith, c.requires))) (omega (arith, c.requires, gr.moved, gr.room, gk, b.moved, b.room, tk.within, le.next, le.whole, c.arm.auto.store, c.list_end-at.auto.store)))
 
 pub cond-returns-in-55 : goal.cond-returns-in-55
 cond-returns-in-55 t c = let g = c.loop-branch.invariant in
@@ -91,4 +91,4 @@ cond-returns-in_err-token t c = let g = c.loop-branch.invariant in
     let b = done c.in_ok-branch.ensures in
     let step = link gr.same (way _ (branches_step _ g.fuel gr.what _ _ _ g.enough)) in
     let on = goes _ step b.same in
-    rw (handed c.from_residual-in_err-token.ensures.1) (did_not (fails_unseen on (behind_looks _ _ _ _ _ _) c.in_err-token.ensures (arm_before gr b (omega (arith, c.requires))) (omega (arith, c.requires, gr.moved, b.moved))))
+    hands c.from_residual-in_err-token.ensures.1 (fails_unseen on (behind_looks _ _ _ _ _ _) c.in_err-token.ensures (arm_before gr b (omega (arith, c.requires))) (omega (arith, c.requires, gr.moved, b.moved)))

@@ -3,7 +3,7 @@ use mathlib.Core.Path.{refl}
 use native.Mathlib.Omega.{arith}
 use lib.ListN.{take}
 use Rattle.tree.specs.Node
-use Rattle.scan.proofs.Laws.{handed, way, here, link, goes, done, undone, did_not, taken, fails, fails_unseen, prefix, relabel}
+use Rattle.scan.proofs.Laws.{hands, way, here, link, goes, done, undone, taken, fails, fails_unseen, prefix, relabel}
 use Rattle.cycle.proofs.PathsPrimary.{unpack_looks, dots_looks, unpack_lone, unpack_some, dots_more, dots_none}
 use Rattle.cycle.proofs.Shapes.{given}
 use Rattle.cycle.proofs.Writing.{written, taller}
@@ -18,7 +18,7 @@ dots-returns-then-token-eq-ELLIPSIS t c = let tk = taken c.in_ok-token.ensures i
 pub dots-returns-in_err-operand : goal.dots-returns-in_err-operand
 dots-returns-in_err-operand t c = let tk = taken c.in_ok-token.ensures in
     let path = way _ (unpack_some _ _ tk c.if-token-eq-ELLIPSIS.false) in
-    rw (handed c.from_residual-in_err-operand.ensures.1) (did_not (fails _ path (undone c.in_err-operand.ensures) refl (omega arith)))
+    hands c.from_residual-in_err-operand.ensures.1 (fails _ path (undone c.in_err-operand.ensures) refl (omega arith))
 
 pub dots-unpack_end-requires : goal.dots-unpack_end-requires
 dots-unpack_end-requires t c = let w = done c.in_ok-operand.ensures in
@@ -47,7 +47,7 @@ dots-returns-in_err-other t c = let tk = taken c.in_ok-token.ensures in
     let path = way _ (unpack_some _ _ tk c.if-token-eq-ELLIPSIS.false) in
     let w = done c.in_ok-operand.ensures in
     let on = goes _ path w.same in
-    rw (handed c.from_residual-in_err-other.ensures.1) (did_not (fails_unseen on (dots_looks w.what _ _) c.in_err-other.ensures (prefix w (omega arith)) (omega arith)))
+    hands c.from_residual-in_err-other.ensures.1 (fails_unseen on (dots_looks w.what _ _) c.in_err-other.ensures (prefix w (omega arith)) (omega arith))
 
 pub dots-returns-in_err-token : goal.dots-returns-in_err-token
-dots-returns-in_err-token t c = rw (handed c.from_residual.ensures.1) (did_not (fails_unseen here (unpack_looks _ _ _) c.in_err-token.ensures refl (omega arith)))
+dots-returns-in_err-token t c = hands c.from_residual.ensures.1 (fails_unseen here (unpack_looks _ _ _) c.in_err-token.ensures refl (omega arith))

@@ -3,7 +3,7 @@ use mathlib.Core.Path.{refl}
 use native.Mathlib.Omega.{arith}
 use Rattle.tree.specs.Tree.{records}
 use Rattle.tree.specs.Node
-use Rattle.scan.proofs.Laws.{handed, way, link, goes, done, undone, did_not, fails, lacks, passed, unpassed, gets, prefix, continued}
+use Rattle.scan.proofs.Laws.{hands, way, link, goes, done, undone, fails, lacks, passed, unpassed, gets, prefix, continued}
 use Rattle.nodes.proofs.Made.{over_three}
 use Rattle.cycle.proofs.PathsStmt.{whiles_as, for_step}
 use Rattle.grammar.specs.Reading.Stmt.{stmt_list_of}
@@ -11,13 +11,13 @@ use Rattle.cycle.proofs.+reading.Goals as goal
 
 pub each-returns-in_err-left : goal.each-returns-in_err-left
 each-returns-in_err-left t c = let path = way _ (for_step _ _ _ _) in
-    rw (handed c.from_residual.ensures.1) (did_not (fails _ path (undone c.in_err-left.ensures) refl (omega arith)))
+    hands c.from_residual.ensures.1 (fails _ path (undone c.in_err-left.ensures) refl (omega arith))
 
 pub each-returns-in_err-pos : goal.each-returns-in_err-pos
 each-returns-in_err-pos t c = let w = done c.in_ok-left.ensures in
     let path = way _ (for_step _ _ _ _) in
     let on = goes _ path w.same in
-    rw (handed c.from_residual-in_err-pos.ensures.1) (did_not (lacks _ (unpassed c.in_err-pos.ensures) on (prefix w (omega arith)) (omega arith)))
+    hands c.from_residual-in_err-pos.ensures.1 (lacks _ (unpassed c.in_err-pos.ensures) on (prefix w (omega arith)) (omega arith))
 
 pub each-returns : goal.each-returns
 each-returns t c =

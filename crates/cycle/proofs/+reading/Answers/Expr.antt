@@ -10,7 +10,7 @@ use Rattle.tree.specs.Tree.{two, count, records}
 use Rattle.grammar.specs.Reading.Look.{action}
 use Rattle.grammar.specs.Reading.Depth.{at_depth}
 use Rattle.scan.specs.Parts.{unassigned_result}
-use Rattle.scan.proofs.Laws.{handed, way, link, goes, done, undone, did_not, taken, fails, lacks, fails_unseen, found, unfound, gets, prefix, relabel}
+use Rattle.scan.proofs.Laws.{hands, way, link, goes, done, undone, taken, fails, lacks, fails_unseen, found, unfound, gets, prefix, relabel}
 use Rattle.cycle.proofs.PathsExpr.{expr_step, expr_plain, expr_alone, expr_assign}
 use Rattle.cycle.proofs.Shapes.{given, shape_small, tuple_shape}
 use Rattle.cycle.proofs.Writing.{stored, unstored, either_way, told, kids_two, made_over, stored_prefix, stored_up, unstored_fails, stands}
@@ -25,7 +25,7 @@ expr-returns-in_err-left t c = let x = found c.in_ok-keyword.ensures in
     let xo = x.got.on in
     let xw = x.got.within in
     let s0 = told _ x (way _ (expr_step _ _ _)) in
-    rw (handed c.from_residual-in_err-left.ensures.1) (did_not (fails _ s0 (undone c.in_err-left.ensures) refl (omega arith)))
+    hands c.from_residual-in_err-left.ensures.1 (fails _ s0 (undone c.in_err-left.ensures) refl (omega arith))
 
 pub expr-returns-then-code-eq0 : goal.expr-returns-then-code-eq0
 unfolding unassigned_result
@@ -62,7 +62,7 @@ expr-returns-in_err-target t c = let x = found c.in_ok-keyword.ensures in
     let whole = stands w small (omega (arith, c.requires)) (omega (arith, c.requires, w.moved, w.room, xo, xw, c.tuple.auto.store)) in
     let q2 = link s1 (way _ (expr_assign (at_depth c.args.depth) c.in_ok-keyword.keyword.number w.what _ tk c.assign_code-code.ensures.0 c.if-code-eq0.false refl)) in
     let kept = prefix w (omega (arith, c.requires)) in
-    rw (handed c.from_residual-in_err-target.ensures.1) (did_not (unstored_fails _ (unstored (c.in_err-target.ensures w.what c.args.tokens.now whole tk.within)) q2 kept (omega (arith, c.requires, w.moved, xo))))
+    hands c.from_residual-in_err-target.ensures.1 (unstored_fails _ (unstored (c.in_err-target.ensures w.what c.args.tokens.now whole tk.within)) q2 kept (omega (arith, c.requires, w.moved, xo)))
 
 pub expr-rhs-requires : goal.expr-rhs-requires
 expr-rhs-requires t c = let x = found c.in_ok-keyword.ensures in
@@ -95,7 +95,7 @@ expr-returns-in_err-right t c = let x = found c.in_ok-keyword.ensures in
     let kept = prefix w (omega (arith, c.requires)) in
     let stays = stored_prefix c.args.cursor.at c.tuple.new.store pt (omega (arith, c.requires, c.tuple.auto.store)) ∙ kept in
     let up = stored_up c.args.cursor.at c.tuple.new.store pt (omega (arith, c.requires, c.tuple.auto.store)) in
-    rw (handed c.from_residual-in_err-right.ensures.1) (did_not (fails _ s3 (undone c.in_err-right.ensures) stays (omega (arith, c.requires, w.moved, w.room, xo, xw, po, pw, up))))
+    hands c.from_residual-in_err-right.ensures.1 (fails _ s3 (undone c.in_err-right.ensures) stays (omega (arith, c.requires, w.moved, w.room, xo, xw, po, pw, up)))
 
 pub expr-emit-requires : goal.expr-emit-requires
 expr-emit-requires t c = let x = found c.in_ok-keyword.ensures in
@@ -142,7 +142,7 @@ expr-returns-in_err-token t c = let x = found c.in_ok-keyword.ensures in
     let s0 = told _ x (way _ (expr_step _ _ _)) in
     let w = done c.in_ok-left.ensures in
     let s1 = goes _ s0 w.same in
-    rw (handed c.from_residual-in_err-token.ensures.1) (did_not (fails_unseen s1 (record { go = _; is = refl }) c.in_err-token.ensures (prefix w (omega (arith, c.requires))) (omega (arith, c.requires, w.moved, xo))))
+    hands c.from_residual-in_err-token.ensures.1 (fails_unseen s1 (record { go = _; is = refl }) c.in_err-token.ensures (prefix w (omega (arith, c.requires))) (omega (arith, c.requires, w.moved, xo)))
 
 pub expr-returns-in_err-keyword : goal.expr-returns-in_err-keyword
-expr-returns-in_err-keyword t c = rw (handed c.from_residual.ensures.1) (did_not (lacks _ (unfound c.in_err-keyword.ensures) (way _ (expr_step _ _ _)) refl (omega arith)))
+expr-returns-in_err-keyword t c = hands c.from_residual.ensures.1 (lacks _ (unfound c.in_err-keyword.ensures) (way _ (expr_step _ _ _)) refl (omega arith))

@@ -3,7 +3,7 @@ use mathlib.Core.Path.{refl, sym, ◌∙◌}
 use native.Mathlib.Omega.{arith}
 use lib.ListN.{take}
 use Rattle.grammar.proofs.Laws.Levels.Nonterminals.{target_leveled, depth_levels}
-use Rattle.scan.proofs.Laws.{handed, way, here, link, goes, done, undone, did_not, taken, fails, fails_unseen, prefix, later}
+use Rattle.scan.proofs.Laws.{hands, way, here, link, goes, done, undone, taken, fails, fails_unseen, prefix, later}
 use Rattle.scan.proofs.Looking.{name_small}
 use Rattle.nodes.proofs.Made.{made_two}
 use Rattle.cycle.proofs.PathsFunction.{decl_looks, decl_open, decl_target, decl_name, target_named}
@@ -19,7 +19,7 @@ fun-returns-then-token-eq-OPEN_PAREN t c = let tk = taken c.in_ok-token.ensures 
 pub fun-returns-in_err-target : goal.fun-returns-in_err-target
 fun-returns-in_err-target t c = let tk = taken c.in_ok-token.ensures in
     let path = way _ (decl_target _ _ tk c.if-token-eq-OPEN_PAREN.false) in
-    rw (handed c.from_residual-in_err-target.ensures.1) (did_not (fails _ path (undone c.in_err-target.ensures) refl (omega (arith, c.requires))))
+    hands c.from_residual-in_err-target.ensures.1 (fails _ path (undone c.in_err-target.ensures) refl (omega (arith, c.requires)))
 
 pub fun-target_name-name-requires : goal.fun-target_name-name-requires
 fun-target_name-name-requires t c = let tk = taken c.in_ok-token.ensures in
@@ -38,7 +38,7 @@ fun-returns-in_err-function t c = let tk = taken c.in_ok-token.ensures in
     let names = given (target_named _ _ tk c.if-token-eq-OPEN_PAREN.false) g.same in
     let name = c.target_name-name.ensures (take c.args.cursor.at c.args.store.now) g.what small g.text (λ e. (names e).1) in
     let last = link on (way _ (decl_name _ g.what name _ _)) in
-    rw (handed c.from_residual-in_err-function.ensures.1) (did_not (fails _ last (undone c.in_err-function.ensures) (prefix g (omega (arith, c.requires))) (omega (arith, c.requires, g.moved, g.room))))
+    hands c.from_residual-in_err-function.ensures.1 (fails _ last (undone c.in_err-function.ensures) (prefix g (omega (arith, c.requires))) (omega (arith, c.requires, g.moved, g.room)))
 
 pub fun-returns : goal.fun-returns
 fun-returns t c = let tk = taken c.in_ok-token.ensures in
@@ -54,4 +54,4 @@ fun-returns t c = let tk = taken c.in_ok-token.ensures in
     record { how = made_two 14 g h e (goes _ last h.same) (omega (arith, c.requires, g.moved, h.moved)) (omega (arith, c.requires, g.moved, g.room, h.moved, h.room, e.next)) refl }
 
 pub fun-returns-in_err-token : goal.fun-returns-in_err-token
-fun-returns-in_err-token t c = rw (handed c.from_residual.ensures.1) (did_not (fails_unseen here (decl_looks _ _ _) c.in_err-token.ensures refl (omega arith)))
+fun-returns-in_err-token t c = hands c.from_residual.ensures.1 (fails_unseen here (decl_looks _ _ _) c.in_err-token.ensures refl (omega arith))

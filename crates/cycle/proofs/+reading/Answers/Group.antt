@@ -1,7 +1,7 @@
 -- What is left to show of `cycle::group` in its cycle of calls. Assumes nothing.
 use mathlib.Core.Path.{refl}
 use native.Mathlib.Omega.{arith}
-use Rattle.scan.proofs.Laws.{handed, way, here, goes, done, undone, did_not, taken, fails, lacks, fails_unseen, passed, unpassed, found, unfound, gets, prefix}
+use Rattle.scan.proofs.Laws.{hands, way, here, goes, done, undone, taken, fails, lacks, fails_unseen, passed, unpassed, found, unfound, gets, prefix}
 use Rattle.nodes.proofs.Made.{made_none, remade}
 use Rattle.cycle.proofs.PathsPrimary.{group_looks, group_empty, group_more}
 use Rattle.cycle.proofs.Shapes.{given, shape_small, expr_shape}
@@ -19,7 +19,7 @@ group-returns-in_err-inner t c = let tk = taken c.in_ok-token.ensures in
     let xw = x.got.within in
     let path = way _ (group_more _ _ tk c.if-token-eq-CLOSE_PAREN.false) in
     let s0 = told _ x path in
-    rw (handed c.from_residual-in_err-inner.ensures.1) (did_not (fails _ s0 (undone c.in_err-inner.ensures) refl (omega arith)))
+    hands c.from_residual-in_err-inner.ensures.1 (fails _ s0 (undone c.in_err-inner.ensures) refl (omega arith))
 
 pub group-returns-in_err-pos : goal.group-returns-in_err-pos
 group-returns-in_err-pos t c = let tk = taken c.in_ok-token.ensures in
@@ -30,7 +30,7 @@ group-returns-in_err-pos t c = let tk = taken c.in_ok-token.ensures in
     let s0 = told _ x path in
     let w = done c.in_ok-inner.ensures in
     let s1 = goes _ s0 w.same in
-    rw (handed c.from_residual-in_err-pos.ensures.1) (did_not (lacks _ (unpassed c.in_err-pos.ensures) s1 (prefix w (omega (arith, c.requires))) (omega (arith, c.requires, w.moved, xo))))
+    hands c.from_residual-in_err-pos.ensures.1 (lacks _ (unpassed c.in_err-pos.ensures) s1 (prefix w (omega (arith, c.requires))) (omega (arith, c.requires, w.moved, xo)))
 
 pub group-group_end-requires : goal.group-group_end-requires
 group-group_end-requires t c = let tk = taken c.in_ok-token.ensures in
@@ -62,7 +62,7 @@ group-returns t c = let tk = taken c.in_ok-token.ensures in
 pub group-returns-in_err-modifier : goal.group-returns-in_err-modifier
 group-returns-in_err-modifier t c = let tk = taken c.in_ok-token.ensures in
     let path = way _ (group_more _ _ tk c.if-token-eq-CLOSE_PAREN.false) in
-    rw (handed c.from_residual-in_err-modifier.ensures.1) (did_not (lacks _ (unfound c.in_err-modifier.ensures) path refl (omega arith)))
+    hands c.from_residual-in_err-modifier.ensures.1 (lacks _ (unfound c.in_err-modifier.ensures) path refl (omega arith))
 
 pub group-returns-in_err-token : goal.group-returns-in_err-token
-group-returns-in_err-token t c = rw (handed c.from_residual.ensures.1) (did_not (fails_unseen here (group_looks _ _ _) c.in_err-token.ensures refl (omega arith)))
+group-returns-in_err-token t c = hands c.from_residual.ensures.1 (fails_unseen here (group_looks _ _ _) c.in_err-token.ensures refl (omega arith))

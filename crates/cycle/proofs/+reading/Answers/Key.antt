@@ -1,7 +1,7 @@
 -- What is left to show of `cycle::key` in its cycle of calls. Assumes nothing.
 use mathlib.Core.Path.{refl}
 use native.Mathlib.Omega.{arith}
-use Rattle.scan.proofs.Laws.{handed, way, here, goes, done, undone, did_not, taken, fails, fails_unseen}
+use Rattle.scan.proofs.Laws.{hands, way, here, goes, done, undone, taken, fails, fails_unseen}
 use Rattle.nodes.proofs.Made.{made_one}
 use Rattle.cycle.proofs.PathsPrimary.{field_looks, field_square, field_named}
 use Rattle.cycle.proofs.Writing.{written}
@@ -14,7 +14,7 @@ key-returns-then-token-ne-OPEN_SQUARE t c = let tk = taken c.in_ok-token.ensures
 pub key-returns-in_err-place : goal.key-returns-in_err-place
 key-returns-in_err-place t c = let tk = taken c.in_ok-token.ensures in
     let path = way _ (field_square _ _ tk c.if-token-ne-OPEN_SQUARE.false) in
-    rw (handed c.from_residual-in_err-place.ensures.1) (did_not (fails _ path (undone c.in_err-place.ensures) refl (omega arith)))
+    hands c.from_residual-in_err-place.ensures.1 (fails _ path (undone c.in_err-place.ensures) refl (omega arith))
 
 pub key-returns : goal.key-returns
 key-returns t c = let tk = taken c.in_ok-token.ensures in
@@ -23,4 +23,4 @@ key-returns t c = let tk = taken c.in_ok-token.ensures in
     record { how = made_one 28 w c.emit.ensures (goes _ path w.same) (omega (arith, c.requires, tk.within, w.moved)) (omega (arith, w.room, c.emit.ensures.next)) refl }
 
 pub key-returns-in_err-token : goal.key-returns-in_err-token
-key-returns-in_err-token t c = rw (handed c.from_residual.ensures.1) (did_not (fails_unseen here (field_looks _ _ _) c.in_err-token.ensures refl (omega arith)))
+key-returns-in_err-token t c = hands c.from_residual.ensures.1 (fails_unseen here (field_looks _ _ _) c.in_err-token.ensures refl (omega arith))

@@ -3,7 +3,7 @@ use mathlib.Core.Path.{refl, sym, ◌∙◌}
 use mathlib.Core.List.{[], append-nil}
 use native.Mathlib.Omega.{arith}
 use Rattle.tree.specs.Node
-use Rattle.scan.proofs.Laws.{handed, way, here, did_not, taken, fails_unseen, later, continued}
+use Rattle.scan.proofs.Laws.{hands, way, here, taken, fails_unseen, later, continued}
 use Rattle.nodes.proofs.Made.{over_two}
 use Rattle.cycle.proofs.PathsStmt.{stmt_label_looks, while_as, label_loop, label_while, label_for, label_alone}
 use Rattle.cycle.proofs.Writing.{fails_with}
@@ -27,4 +27,4 @@ label-returns-in_default t c = let tk = taken c.in_ok-token.ensures in
     fails_with (label_alone _ _ tk _ (search) (search) (search)) (omega arith) (omega arith)
 
 pub label-returns-in_err-token : goal.label-returns-in_err-token
-label-returns-in_err-token t c = rw (handed c.from_residual.ensures.1) (did_not (fails_unseen here (stmt_label_looks _ _ _ _) c.in_err-token.ensures refl (omega arith)))
+label-returns-in_err-token t c = hands c.from_residual.ensures.1 (fails_unseen here (stmt_label_looks _ _ _ _) c.in_err-token.ensures refl (omega arith))

@@ -2,7 +2,7 @@
 use mathlib.Core.Path.{refl, ap, ◌∙◌}
 use native.Mathlib.Omega.{arith}
 use lib.ListN.{take}
-use Rattle.scan.proofs.Laws.{handed, way, goes, done, undone, did_not, fails, lacks, found, unfound, gets, prefix}
+use Rattle.scan.proofs.Laws.{hands, way, goes, done, undone, fails, lacks, found, unfound, gets, prefix}
 use Rattle.cycle.proofs.PathsStmt.{ended_text, modified_text, lvalue_step}
 use Rattle.cycle.proofs.Shapes.{given}
 use Rattle.cycle.proofs.Writing.{stored, unstored, stored_up, stands}
@@ -17,7 +17,7 @@ lhs-returns-in_err-left t c = let f = found c.in_ok-keyword.ensures in
     let gwithin = g.within in
     let path = way _ (lvalue_step _ _ _) in
     let on = gets _ g path in
-    rw (handed c.from_residual-in_err-left.ensures.1) (did_not (fails _ on (undone c.in_err-left.ensures) refl (omega arith)))
+    hands c.from_residual-in_err-left.ensures.1 (fails _ on (undone c.in_err-left.ensures) refl (omega arith))
 
 pub lhs-expect_pattern-requires : goal.lhs-expect_pattern-requires
 lhs-expect_pattern-requires t c = let f = found c.in_ok-keyword.ensures in
@@ -41,7 +41,7 @@ lhs-returns-in_err-target t c = let f = found c.in_ok-keyword.ensures in
     let inside = stands w small (omega (arith, c.requires, gon, gwithin)) (omega (arith, c.requires, gon, gwithin, w.moved, w.room, c.tuple.auto.store)) in
     let ep = c.in_err-target.ensures w.what c.args.tokens.now inside w.moved.within in
     let u = unstored ep in
-    rw (handed c.from_residual-in_err-target.ensures.1) (did_not (lacks _ u.unread on2 (ap (take c.args.cursor.at) u.text ∙ prefix w (omega (arith, c.requires, gon, gwithin))) (omega (arith, c.requires, gon, gwithin, w.moved))))
+    hands c.from_residual-in_err-target.ensures.1 (lacks _ u.unread on2 (ap (take c.args.cursor.at) u.text ∙ prefix w (omega (arith, c.requires, gon, gwithin))) (omega (arith, c.requires, gon, gwithin, w.moved)))
 
 pub lhs-modified-requires : goal.lhs-modified-requires
 lhs-modified-requires t c = let f = found c.in_ok-keyword.ensures in
@@ -77,4 +77,4 @@ lhs-returns t c = let f = found c.in_ok-keyword.ensures in
 
 pub lhs-returns-in_err-keyword : goal.lhs-returns-in_err-keyword
 lhs-returns-in_err-keyword t c = let path = way _ (lvalue_step _ _ _) in
-    rw (handed c.from_residual.ensures.1) (did_not (lacks _ (unfound c.in_err-keyword.ensures) path refl (omega arith)))
+    hands c.from_residual.ensures.1 (lacks _ (unfound c.in_err-keyword.ensures) path refl (omega arith))

@@ -5,7 +5,7 @@ use Prim.Native.Nat.{ℕ, ◌+◌, ◌-◌}
 use native.Mathlib.Omega.{arith}
 use lib.ListN.{length, take, drop, length-drop}
 use Rattle.tree.specs.Tree.{none, snoc, count, records}
-use Rattle.scan.proofs.Laws.{handed, way, here, link, goes, done, undone, did_not, taken, fails, fails_unseen, prefix}
+use Rattle.scan.proofs.Laws.{hands, way, here, link, goes, done, undone, taken, fails, fails_unseen, prefix}
 use Rattle.nodes.proofs.Made.{count_snoc, joined}
 use Rattle.cycle.proofs.PathsPrimary.{path_looks, path_ends, path_more, path_far}
 use Rattle.cycle.proofs.+reading.Goals as goal
@@ -54,9 +54,9 @@ path-returns-in_err-end t c = let g = c.loop-token.invariant in
     let gr = g.run in
     let tk = taken c.in_ok-token.ensures in
     let on = link gr.same (way _ (path_more _ _ gr.what _ g.fuel _ g.enough tk (sym c.continues.ensures ∙ c.if-not-continues.false))) in
-    rw (handed c.from_residual-in_err-end.ensures.1) (did_not (fails _ on (undone c.in_err-end.ensures) (prefix gr (omega (arith, c.requires))) (omega (arith, gr.moved, gr.room))))
+    hands c.from_residual-in_err-end.ensures.1 (fails _ on (undone c.in_err-end.ensures) (prefix gr (omega (arith, c.requires))) (omega (arith, gr.moved, gr.room)))
 
 pub path-returns-in_err-token : goal.path-returns-in_err-token
 path-returns-in_err-token t c = let g = c.loop-token.invariant in
     let gr = g.run in
-    rw (handed c.from_residual.ensures.1) (did_not (fails_unseen gr.same (path_looks _ _ gr.what _ _ g.fuel _ g.enough) c.in_err-token.ensures (prefix gr (omega (arith, c.requires))) (omega (arith, gr.moved))))
+    hands c.from_residual.ensures.1 (fails_unseen gr.same (path_looks _ _ gr.what _ _ g.fuel _ g.enough) c.in_err-token.ensures (prefix gr (omega (arith, c.requires))) (omega (arith, gr.moved)))

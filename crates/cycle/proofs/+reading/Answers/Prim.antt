@@ -2,14 +2,14 @@
 use mathlib.Core.Path.{refl}
 use native.Mathlib.Omega.{arith}
 use Rattle.tree.specs.Tree.{records}
-use Rattle.scan.proofs.Laws.{handed, way, goes, done, undone, did_not, fails, prefix, continued}
+use Rattle.scan.proofs.Laws.{hands, way, goes, done, undone, fails, prefix, continued}
 use Rattle.cycle.proofs.PathsPrimary.{primary_step}
 use Rattle.cycle.proofs.Trees.{path_text}
 use Rattle.grammar.specs.Reading.Primary.{with_path}
 use Rattle.cycle.proofs.+reading.Goals as goal
 
 pub prim-returns-in_err-receiver : goal.prim-returns-in_err-receiver
-prim-returns-in_err-receiver t c = rw (handed c.from_residual.ensures.1) (did_not (fails _ (way _ (primary_step _ _ _)) (undone c.in_err-receiver.ensures) refl (omega arith)))
+prim-returns-in_err-receiver t c = hands c.from_residual.ensures.1 (fails _ (way _ (primary_step _ _ _)) (undone c.in_err-receiver.ensures) refl (omega arith))
 
 pub prim-returns : goal.prim-returns
 prim-returns t c = let f = done c.in_ok-receiver.ensures in

@@ -4,7 +4,7 @@ use Prim.Native.Nat.{◌-◌}
 use native.Mathlib.Omega.{arith}
 use lib.ListN.{length, take, drop, length-drop}
 use Rattle.grammar.specs.Reading.Depth.{at_depth}
-use Rattle.scan.proofs.Laws.{handed, way, here, link, did_not, taken, fails, fails_unseen, prefix}
+use Rattle.scan.proofs.Laws.{hands, way, here, link, taken, fails, fails_unseen, prefix}
 use Rattle.cycle.proofs.PathsParams.{params_looks, params_close, params_more, round, unjoined, no_params, none_fit, no_words_yet}
 use Rattle.cycle.proofs.+reading.Goals as goal
 
@@ -39,16 +39,16 @@ sig-returns-in_err-one t c = let i = c.loop-token.invariant in
     let g = i.run in
     let tk = taken c.in_ok-token.ensures in
     let on = link g.same (way _ (params_more _ g.what _ i.fuel _ i.enough tk c.if-token-eq-CLOSE_PAREN.false)) in
-    rw (handed c.from_residual-in_err-one.ensures.1) (did_not (fails _ on c.in_err-one.ensures.how (prefix g (omega (arith, c.requires))) (omega (arith, g.moved, g.room))))
+    hands c.from_residual-in_err-one.ensures.1 (fails _ on c.in_err-one.ensures.how (prefix g (omega (arith, c.requires))) (omega (arith, g.moved, g.room)))
 
 pub sig-returns-in_err-all : goal.sig-returns-in_err-all
 sig-returns-in_err-all t c = let i = c.loop-token.invariant in
     let g = i.run in
     let tk = taken c.in_ok-token.ensures in
     let on = link g.same (way _ (params_more _ g.what _ i.fuel _ i.enough tk c.if-token-eq-CLOSE_PAREN.false)) in
-    rw (handed c.from_residual-in_err-all.ensures.1) (did_not (unjoined (at_depth c.args.depth) i.fuel g i.fits i.few on (omega (arith, c.requires)) (omega (arith, c.requires)) (omega (arith, c.requires)) (omega (arith, c.requires)) (omega (arith, c.requires)) c.in_ok-one.ensures c.in_err-all.ensures))
+    hands c.from_residual-in_err-all.ensures.1 (unjoined (at_depth c.args.depth) i.fuel g i.fits i.few on (omega (arith, c.requires)) (omega (arith, c.requires)) (omega (arith, c.requires)) (omega (arith, c.requires)) (omega (arith, c.requires)) c.in_ok-one.ensures c.in_err-all.ensures)
 
 pub sig-returns-in_err-token : goal.sig-returns-in_err-token
 sig-returns-in_err-token t c = let i = c.loop-token.invariant in
     let g = i.run in
-    rw (handed c.from_residual.ensures.1) (did_not (fails_unseen g.same (params_looks _ g.what _ _ i.fuel _ i.enough) c.in_err-token.ensures (prefix g (omega arith)) (omega arith)))
+    hands c.from_residual.ensures.1 (fails_unseen g.same (params_looks _ g.what _ _ i.fuel _ i.enough) c.in_err-token.ensures (prefix g (omega arith)) (omega arith))

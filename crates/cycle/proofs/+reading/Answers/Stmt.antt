@@ -4,7 +4,7 @@ use mathlib.Core.List.{[], append-nil}
 use native.Mathlib.Omega.{arith}
 use lib.ListN.{take}
 use Rattle.tree.specs.Node
-use Rattle.scan.proofs.Laws.{handed, way, here, goes, done, undone, did_not, taken, fails, fails_unseen, prefix, later, continued}
+use Rattle.scan.proofs.Laws.{hands, way, here, goes, done, undone, taken, fails, fails_unseen, prefix, later, continued}
 use Rattle.nodes.proofs.Made.{over_two, made_one}
 use Rattle.cycle.proofs.PathsStmt.{stmt_looks, while_as, stmt_loop, stmt_while, stmt_for, stmt_labelled, stmt_assert, stmt_control, stmt_expr}
 use Rattle.cycle.proofs.Shapes.{given, expr_shape}
@@ -15,7 +15,7 @@ use Rattle.cycle.proofs.+reading.Goals as goal
 pub stmt-returns-in_err-condition-in-67 : goal.stmt-returns-in_err-condition-in-67
 stmt-returns-in_err-condition-in-67 t c = let tk = taken c.in_ok-token.ensures in
     let path = way _ (stmt_assert _ _ tk c.in-67.is) in
-    rw (handed c.from_residual-in_err-condition-in-67.ensures.1) (did_not (fails _ path (undone c.in_err-condition-in-67.ensures) refl (omega arith)))
+    hands c.from_residual-in_err-condition-in-67.ensures.1 (fails _ path (undone c.in_err-condition-in-67.ensures) refl (omega arith))
 
 pub stmt-returns-then-is_control : goal.stmt-returns-then-is_control
 stmt-returns-then-is_control t c = let tk = taken c.in_ok-token.ensures in
@@ -25,7 +25,7 @@ stmt-returns-then-is_control t c = let tk = taken c.in_ok-token.ensures in
 pub stmt-returns-in_err-expression-in_default : goal.stmt-returns-in_err-expression-in_default
 stmt-returns-in_err-expression-in_default t c = let tk = taken c.in_ok-token.ensures in
     let track = way _ (stmt_expr _ _ tk (search) (search) (search) (search) (search) c.is_control.ensures c.if-is_control.false) in
-    rw (handed c.from_residual-in_err-expression-in_default.ensures.1) (did_not (fails _ track (undone c.in_err-expression-in_default.ensures) refl (omega arith)))
+    hands c.from_residual-in_err-expression-in_default.ensures.1 (fails _ track (undone c.in_err-expression-in_default.ensures) refl (omega arith))
 
 pub stmt-expression_end-requires : goal.stmt-expression_end-requires
 stmt-expression_end-requires t c = let tk = taken c.in_ok-token.ensures in
@@ -63,4 +63,4 @@ stmt-returns-in_ok-expression-in_default t c = let tk = taken c.in_ok-token.ensu
     written (c.expression_end.ensures _ _ _ sh v.text v.moved.within) refl (goes _ track v.same) (prefix v (omega (arith, c.requires, v.moved, v.room))) (omega (arith, c.requires, v.moved, v.room, tk.within))
 
 pub stmt-returns-in_err-token : goal.stmt-returns-in_err-token
-stmt-returns-in_err-token t c = rw (handed c.from_residual.ensures.1) (did_not (fails_unseen here (stmt_looks _ _ _) c.in_err-token.ensures refl (omega arith)))
+stmt-returns-in_err-token t c = hands c.from_residual.ensures.1 (fails_unseen here (stmt_looks _ _ _) c.in_err-token.ensures refl (omega arith))

@@ -5,7 +5,7 @@ use Prim.Native.Nat.{ℕ, ◌+◌, ◌*◌, ◌-◌}
 use native.Mathlib.Omega.{arith}
 use lib.ListN.{length, take, drop, length-drop}
 use Rattle.tree.specs.Tree.{none, snoc, count, records}
-use Rattle.scan.proofs.Laws.{handed, way, here, link, goes, done, undone, did_not, taken, shorter, fails, lacks, fails_unseen, found, unfound, gets, prefix}
+use Rattle.scan.proofs.Laws.{hands, way, here, link, goes, done, undone, taken, shorter, fails, lacks, fails_unseen, found, unfound, gets, prefix}
 use Rattle.nodes.proofs.Made.{put, count_snoc, joined}
 use Rattle.cycle.proofs.PathsPrimary.{items_looks, items_end, items_more, items_closed, items_again}
 use Rattle.cycle.proofs.+reading.Goals as goal
@@ -34,7 +34,7 @@ table-returns-in_err-one t c = let g = c.loop-token.invariant in
     let gr = g.run in
     let tk = taken c.in_ok-token.ensures in
     let on = link gr.same (way _ (items_more _ gr.what _ g.fuel _ g.enough tk c.if-token-eq-CLOSE_BRACE.false)) in
-    rw (handed c.from_residual-in_err-one.ensures.1) (did_not (fails _ on (undone c.in_err-one.ensures) (prefix gr (omega (arith, c.requires))) (omega (arith, gr.moved, gr.room))))
+    hands c.from_residual-in_err-one.ensures.1 (fails _ on (undone c.in_err-one.ensures) (prefix gr (omega (arith, c.requires))) (omega (arith, gr.moved, gr.room)))
 
 pub table-returns-then-closing-eq1 : goal.table-returns-then-closing-eq1
 table-returns-then-closing-eq1 t c = let g = c.loop-token.invariant in
@@ -82,9 +82,9 @@ table-returns-in_err-closing t c = let g = c.loop-token.invariant in
     let on = link gr.same (way _ (items_more _ gr.what _ g.fuel _ g.enough tk c.if-token-eq-CLOSE_BRACE.false)) in
     let w = done c.in_ok-one.ensures in
     let next = goes _ on w.same in
-    rw (handed c.from_residual-in_err-closing.ensures.1) (did_not (lacks _ (unfound c.in_err-closing.ensures) next (shorter _ _ _ _ gr.room.up (prefix w (omega (arith, c.requires, g.kept, gr.moved, gr.room))) ∙ prefix gr (omega (arith, c.requires))) (omega (arith, gr.moved, w.moved))))
+    hands c.from_residual-in_err-closing.ensures.1 (lacks _ (unfound c.in_err-closing.ensures) next (shorter _ _ _ _ gr.room.up (prefix w (omega (arith, c.requires, g.kept, gr.moved, gr.room))) ∙ prefix gr (omega (arith, c.requires))) (omega (arith, gr.moved, w.moved)))
 
 pub table-returns-in_err-token : goal.table-returns-in_err-token
 table-returns-in_err-token t c = let g = c.loop-token.invariant in
     let gr = g.run in
-    rw (handed c.from_residual.ensures.1) (did_not (fails_unseen gr.same (items_looks _ gr.what _ _ g.fuel _ g.enough) c.in_err-token.ensures (prefix gr (omega (arith, c.requires))) (omega (arith, gr.moved))))
+    hands c.from_residual.ensures.1 (fails_unseen gr.same (items_looks _ gr.what _ _ g.fuel _ g.enough) c.in_err-token.ensures (prefix gr (omega (arith, c.requires))) (omega (arith, gr.moved)))

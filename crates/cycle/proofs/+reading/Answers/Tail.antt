@@ -5,7 +5,7 @@ use Prim.Native.Nat.{◌-◌}
 use native.Mathlib.Omega.{arith}
 use lib.ListN.{length, take, drop, length-drop}
 use Rattle.tree.specs.Tree.{none, snoc, count, records}
-use Rattle.scan.proofs.Laws.{handed, way, here, link, goes, done, undone, did_not, taken, fails, fails_unseen, prefix}
+use Rattle.scan.proofs.Laws.{hands, way, here, link, goes, done, undone, taken, fails, fails_unseen, prefix}
 use Rattle.nodes.proofs.Made.{count_snoc, joined, remade}
 use Rattle.cycle.proofs.PathsExpr.{tail_looks, tail_end, tail_comma, tail_last, tail_more}
 use Rattle.cycle.proofs.+reading.Goals as goal
@@ -41,7 +41,7 @@ tail-returns-in_err-end t c = let i = c.loop-token.invariant in
     let g = i.run in
     let tk = taken c.in_ok-token.ensures in
     let tn = taken c.in_ok-other.ensures in
-    rw (handed c.from_residual-in_err-end.ensures.1) (did_not (fails _ (link g.same (way _ (tail_more _ g.what _ i.fuel _ i.enough tk c.if-token-ne-COMMA.false tn c.if-other-eq-CLOSE_PAREN.false))) (undone c.in_err-end.ensures) (prefix g (omega (arith, c.requires))) (omega (arith, c.requires, g.moved, g.room, tk.within))))
+    hands c.from_residual-in_err-end.ensures.1 (fails _ (link g.same (way _ (tail_more _ g.what _ i.fuel _ i.enough tk c.if-token-ne-COMMA.false tn c.if-other-eq-CLOSE_PAREN.false))) (undone c.in_err-end.ensures) (prefix g (omega (arith, c.requires))) (omega (arith, c.requires, g.moved, g.room, tk.within)))
 
 pub tail-loop-token-preserved : goal.tail-loop-token-preserved
 tail-loop-token-preserved t c = let i = c.loop-token.invariant in
@@ -62,9 +62,9 @@ pub tail-returns-in_err-other : goal.tail-returns-in_err-other
 tail-returns-in_err-other t c = let i = c.loop-token.invariant in
     let g = i.run in
     let tk = taken c.in_ok-token.ensures in
-    rw (handed c.from_residual-in_err-other.ensures.1) (did_not (fails_unseen (link g.same (way _ (tail_comma _ g.what _ i.fuel _ i.enough tk c.if-token-ne-COMMA.false))) (record { go = _; is = refl }) c.in_err-other.ensures (prefix g (omega arith)) (omega arith)))
+    hands c.from_residual-in_err-other.ensures.1 (fails_unseen (link g.same (way _ (tail_comma _ g.what _ i.fuel _ i.enough tk c.if-token-ne-COMMA.false))) (record { go = _; is = refl }) c.in_err-other.ensures (prefix g (omega arith)) (omega arith))
 
 pub tail-returns-in_err-token : goal.tail-returns-in_err-token
 tail-returns-in_err-token t c = let i = c.loop-token.invariant in
     let g = i.run in
-    rw (handed c.from_residual.ensures.1) (did_not (fails_unseen g.same (tail_looks _ g.what _ _ i.fuel _ i.enough) c.in_err-token.ensures (prefix g (omega arith)) (omega arith)))
+    hands c.from_residual.ensures.1 (fails_unseen g.same (tail_looks _ g.what _ _ i.fuel _ i.enough) c.in_err-token.ensures (prefix g (omega arith)) (omega arith))

@@ -1,7 +1,7 @@
 -- What is left to show of `cycle::term` in its cycle of calls. Assumes nothing.
 use mathlib.Core.Path.{refl}
 use native.Mathlib.Omega.{arith}
-use Rattle.scan.proofs.Laws.{handed, way, here, goes, done, undone, did_not, taken, fails, fails_unseen, as_agrees, later}
+use Rattle.scan.proofs.Laws.{hands, way, here, goes, done, undone, taken, fails, fails_unseen, as_agrees, later}
 use Rattle.cycle.proofs.PathsPrimary.{operand_looks, operand_class, operand_fun, operand_if, operand_begin, operand_table, operand_label, operand_other}
 use Rattle.cycle.proofs.Writing.{made_list}
 use Rattle.cycle.proofs.+reading.Goals as goal
@@ -9,7 +9,7 @@ use Rattle.cycle.proofs.+reading.Goals as goal
 pub term-returns-in_err-items-in-2 : goal.term-returns-in_err-items-in-2
 term-returns-in_err-items-in-2 t c = let tk = taken c.in_ok-token.ensures in
     let path = way _ (operand_table _ _ tk c.in-2.is) in
-    rw (handed c.from_residual-in_err-items-in-2.ensures.1) (did_not (fails _ path (undone c.in_err-items-in-2.ensures) refl (omega arith)))
+    hands c.from_residual-in_err-items-in-2.ensures.1 (fails _ path (undone c.in_err-items-in-2.ensures) refl (omega arith))
 
 pub term-returns-in-66 : goal.term-returns-in-66
 term-returns-in-66 t c = let tk = taken c.in_ok-token.ensures in
@@ -42,4 +42,4 @@ term-returns-in_default t c = let tk = taken c.in_ok-token.ensures in
     as_agrees (operand_other _ _ tk (search) (search) (search) (search) (search) (search)) c.dots.ensures
 
 pub term-returns-in_err-token : goal.term-returns-in_err-token
-term-returns-in_err-token t c = rw (handed c.from_residual.ensures.1) (did_not (fails_unseen here (operand_looks _ _ _) c.in_err-token.ensures refl (omega arith)))
+term-returns-in_err-token t c = hands c.from_residual.ensures.1 (fails_unseen here (operand_looks _ _ _) c.in_err-token.ensures refl (omega arith))

@@ -2,13 +2,13 @@
 use mathlib.Core.Path.{refl}
 use native.Mathlib.Omega.{arith}
 use Rattle.tree.specs.Tree.{records}
-use Rattle.scan.proofs.Laws.{handed, way, link, goes, done, undone, did_not, taken, fails, fails_unseen, prefix, relabel, continued}
+use Rattle.scan.proofs.Laws.{hands, way, link, goes, done, undone, taken, fails, fails_unseen, prefix, relabel, continued}
 use Rattle.cycle.proofs.PathsExpr.{tuple_step, tuple_looks, tuple_one, tuple_more}
 use Rattle.cycle.proofs.Trees.{tuple_text}
 use Rattle.cycle.proofs.+reading.Goals as goal
 
 pub tuple-returns-in_err-first : goal.tuple-returns-in_err-first
-tuple-returns-in_err-first t c = rw (handed c.from_residual.ensures.1) (did_not (fails _ (way _ (tuple_step _ _ _)) (undone c.in_err-first.ensures) refl (omega arith)))
+tuple-returns-in_err-first t c = hands c.from_residual.ensures.1 (fails _ (way _ (tuple_step _ _ _)) (undone c.in_err-first.ensures) refl (omega arith))
 
 pub tuple-returns-then-token-eq-COMMA : goal.tuple-returns-then-token-eq-COMMA
 tuple-returns-then-token-eq-COMMA t c = let w = done c.in_ok-first.ensures in
@@ -25,4 +25,4 @@ tuple-returns t c = let w = done c.in_ok-first.ensures in
 pub tuple-returns-in_err-token : goal.tuple-returns-in_err-token
 tuple-returns-in_err-token t c = let w = done c.in_ok-first.ensures in
     let on = goes _ (way _ (tuple_step _ _ _)) w.same in
-    rw (handed c.from_residual-in_err-token.ensures.1) (did_not (fails_unseen on (tuple_looks _ _ _ _) c.in_err-token.ensures (prefix w (omega arith)) (omega arith)))
+    hands c.from_residual-in_err-token.ensures.1 (fails_unseen on (tuple_looks _ _ _ _) c.in_err-token.ensures (prefix w (omega arith)) (omega arith))

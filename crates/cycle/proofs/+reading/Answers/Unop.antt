@@ -1,7 +1,7 @@
 -- What is left to show of `cycle::unop` in its cycle of calls. Assumes nothing.
 use mathlib.Core.Path.{refl, ◌∙◌}
 use native.Mathlib.Omega.{arith}
-use Rattle.scan.proofs.Laws.{handed, way, ends, goes, done, undone, did_not, taken, fails, fails_unseen, as_agrees}
+use Rattle.scan.proofs.Laws.{hands, way, ends, goes, done, undone, taken, fails, fails_unseen, as_agrees}
 use Rattle.nodes.proofs.Made.{made_one}
 use Rattle.cycle.proofs.PathsExpr.{unary_stops, unary_step, unary_looks, unary_none, unary_some}
 use Rattle.cycle.proofs.+reading.Goals as goal
@@ -16,7 +16,7 @@ unop-returns-then-code-eq0 t c = let tk = taken c.in_ok-token.ensures in
 pub unop-returns-in_err-operand : goal.unop-returns-in_err-operand
 unop-returns-in_err-operand t c = let tk = taken c.in_ok-token.ensures in
     let path = way _ (unary_step _ _ _ c.if-depth-eq0.false ∙ unary_some _ _ tk c.unary_code-code.ensures.0 c.if-code-eq0.false) in
-    rw (handed c.from_residual-in_err-operand.ensures.1) (did_not (fails _ path (undone c.in_err-operand.ensures) refl (omega arith)))
+    hands c.from_residual-in_err-operand.ensures.1 (fails _ path (undone c.in_err-operand.ensures) refl (omega arith))
 
 pub unop-returns : goal.unop-returns
 unop-returns t c = let tk = taken c.in_ok-token.ensures in
@@ -25,4 +25,4 @@ unop-returns t c = let tk = taken c.in_ok-token.ensures in
     record { how = made_one 12 w c.emit.ensures (goes _ path w.same) (omega arith) (omega arith) refl }
 
 pub unop-returns-in_err-token : goal.unop-returns-in_err-token
-unop-returns-in_err-token t c = rw (handed c.from_residual.ensures.1) (did_not (fails_unseen (way _ (unary_step _ _ _ c.if-depth-eq0.false)) (unary_looks _ _ _) c.in_err-token.ensures refl (omega arith)))
+unop-returns-in_err-token t c = hands c.from_residual.ensures.1 (fails_unseen (way _ (unary_step _ _ _ c.if-depth-eq0.false)) (unary_looks _ _ _) c.in_err-token.ensures refl (omega arith))

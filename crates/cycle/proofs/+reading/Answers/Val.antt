@@ -1,7 +1,7 @@
 -- What is left to show of `cycle::val` in its cycle of calls. Assumes nothing.
 use mathlib.Core.Path.{refl, sym, ◌∙◌}
 use native.Mathlib.Omega.{arith}
-use Rattle.scan.proofs.Laws.{handed, way, here, did_not, taken, fails_unseen, later}
+use Rattle.scan.proofs.Laws.{hands, way, here, taken, fails_unseen, later}
 use Rattle.nodes.proofs.Made.{made_none}
 use Rattle.cycle.proofs.PathsControl.{value_looks, value_none, value_some}
 use Rattle.cycle.proofs.+reading.Goals as goal
@@ -15,4 +15,4 @@ val-returns t c = let tk = taken c.in_ok-token.ensures in
     later (value_some _ _ tk (sym c.ends_control.ensures ∙ c.if-ends_control.false)) c.expr.ensures (omega arith) (omega arith) (omega arith)
 
 pub val-returns-in_err-token : goal.val-returns-in_err-token
-val-returns-in_err-token t c = rw (handed c.from_residual.ensures.1) (did_not (fails_unseen here (value_looks _ _ _) c.in_err-token.ensures refl (omega arith)))
+val-returns-in_err-token t c = hands c.from_residual.ensures.1 (fails_unseen here (value_looks _ _ _) c.in_err-token.ensures refl (omega arith))
