@@ -1,7 +1,6 @@
 -- `parser::failed` meets its contract. Assumes nothing.
 use mathlib.Core.Path.{refl, sym, ◌∙◌}
 use native.Mathlib.Omega.{arith}
-use borrow.Author.Tests.{eqb-false}
 use lib.ListN.{drop}
 use Rattle.scan.proofs.Laws.{ends, goes, fails}
 use Rattle.scan.proofs.Waiting.{longer, fewer}
@@ -11,15 +10,6 @@ use Rattle.parser.proofs.failed.Goals as goal
 
 pub returns-then-is_full : goal.returns-then-is_full
 returns-then-is_full c = record { how = ends (failed_full depth_limit _ _ _ (sym c.is_full.ensures.full ∙ c.if-is_full.true)) }
-
-pub push-requires : goal.push-requires
-push-requires c =
-    let few = c.is_full.ensures.few in
-    let not_full = eqb-false _ _ (sym c.is_full.ensures.full ∙ c.if-is_full.false) in
-    omega arith
-
-pub pop-error-requires : goal.pop-error-requires
-pop-error-requires c = let more = longer _ _ c.push.ensures in omega arith
 
 pub returns-in-Ok : goal.returns-in-Ok
 returns-in-Ok c =

@@ -1,7 +1,7 @@
 -- `parser::read_on` meets its contract. Assumes nothing.
 use native.Mathlib.Omega.{arith}
-use Rattle.scan.proofs.Laws.{undone, missed, halted_at}
-use Rattle.parser.proofs.Answers.{lost_out, tree_out, halt_out}
+use Rattle.scan.proofs.Laws.{undone, missed}
+use Rattle.parser.proofs.Answers.{lost_out, tree_out}
 use Rattle.parser.proofs.read_on.Goals as goal
 
 pub returns-in-Ok : goal.returns-in-Ok
@@ -13,6 +13,3 @@ returns-in-Ok c =
 
 pub returns-in-Err-Fail : goal.returns-in-Err-Fail
 returns-in-Err-Fail c = lost_out c.args.unread.now c.args.position _ c.requires.0 c.new-queue.ensures _ (missed c.in-Err-Fail.field-0-is (undone c.in-Err-Fail.ensures)) c.clear-in-Err-Fail.ensures c.statement.auto.store c.error_answer.ensures c.go_on-in-Err-Fail.ensures
-
-pub returns-in-Err-Stop : goal.returns-in-Err-Stop
-returns-in-Err-Stop c = halt_out c.args.unread.now c.args.position _ c.requires.0 c.new-queue.ensures _ _ (halted_at c.in-Err-Stop.field-0-is (undone c.in-Err-Stop.ensures)) c.clear-in-Err-Stop.ensures c.statement.auto.store c.stop_at.ensures
