@@ -15,7 +15,7 @@ use Rattle.scan.specs.Post.{As, clean, Failed, Wrote, Agrees}
 use Rattle.nodes.specs.Lists.{Ends, keeps, gives, Closable, Unders}
 use Rattle.cycle.specs.Lists.{Lists}
 use Rattle.std.proofs.Common.{Result, Ok, Err}
-use Rattle.scan.specs.Lists.{Passes, Within}
+use Rattle.scan.specs.Lists.{Passes}
 use Rattle.scan.specs.declared.Cursor.{Cursor}
 use Rattle.scan.specs.declared.Halt.{Halt}
 use Rattle.scan.specs.declared.Listed.{Listed}
@@ -24,11 +24,6 @@ use Rattle.scan.proofs.Laws.{way, goes, fails, lacks, Later, prefix, relabel}
 use Rattle.scan.proofs.Text.{up_of}
 use Rattle.nodes.proofs.Made.{all_snoc, count_snoc}
 use Rattle.cycle.proofs.Writing.{words_some}
-
--- LISTS
-pub within_of : {d : Res Stmts} {T : List ℕ} {pos slack at : ℕ} {S Q S' Q' : List ℕ} (l : Listed) → Lists d T pos slack at S Q S' Q' (Ok l) → Within (length T) l
-within_of (Suite suite) h = record { how = h.how.run.moved.within }
-within_of (Control end) h = record { how = h.how.run.moved.within }
 
 -- the token behind a list
 body_step : (low : Depth) (q : List Error) (ts : List ℕ) → body low q ts ≡ then q (low.list 0 q ts) (λ s q₁ r. then q₁ (look q₁ r) λ tok q₂ rest. ok s rest)

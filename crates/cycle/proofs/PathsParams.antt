@@ -19,7 +19,7 @@ use Rattle.grammar.specs.Reading.Expr.{Depth, expr}
 use Rattle.grammar.specs.Reading.Function.{Param, required, variadic, default, Params, variadic_param, plain_param, param, joined, params}
 use Rattle.nodes.specs.Parts.{Header, h_required, h_variadic, h_default, param_name, variadic_head, param_kind, param_head, join}
 use Rattle.scan.specs.Post.{As, Moved, Room, Failed, Wrote, Unread, Taken}
-use Rattle.nodes.specs.Parameters.{HeaderAt, Heads, DefaultOne, required_words, default_words, ParameterAt, ParamsRead, words_of, params_words, with_default, Fitting, JoinsTo, Unjoined, JoinedBy, One}
+use Rattle.nodes.specs.Parameters.{HeaderAt, Heads, DefaultOne, required_words, default_words, ParameterAt, ParamsRead, words_of, params_words, with_default, Fitting, JoinsTo, Unjoined, JoinedBy}
 use Rattle.std.proofs.Common.{None, Ok, Err}
 use Rattle.scan.specs.declared.Halt.{Halt}
 use Rattle.nodes.specs.declared.Counts.{Counts}
@@ -230,12 +230,6 @@ module _ {D : Res Params} (low : Depth) (fuel : ℕ) {T : List ℕ} {pos at : �
       let k = h.how in
       let t = default_text at a end.at c S₀ S S₁ g.what k.what fits k.text g.text in
       not_joined (params_words (with_default g.what k.what.name k.what.value)) end.at (goes _ on k.same) k.moved t (j.how (take at S₀) g.what k.what.name k.what.value fits t).how
-
--- what may join
-pub one_param : {d : Res Param} {T : List ℕ} {pos m n at : ℕ} {S Q S' Q' : List ℕ} {x : Parameter} → ParamsRead d T pos m n at S Q S' Q' (Ok x) → at + 2 ≤ length S' → One (length T) (length S') at x
-one_param {x = PRequired p v} h room = record { how = (h.how.run.moved.within, room, h.how.below) }
-one_param {x = PVariadic p v} h room = record { how = (h.how.run.moved.within, h.how.below) }
-one_param {x = PDefault end} h room = record { how = h.how.moved.within }
 
 -- where the loop begins
 abbrev pub no_params : Params

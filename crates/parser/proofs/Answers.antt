@@ -1,12 +1,12 @@
--- What `next_stmt` answers, way by way, and the tests of a reader. Assumes nothing.
+-- What `next_stmt` answers, way by way. Assumes nothing.
 use mathlib.Core.Path.{◌≡◌, refl, sym, ap, ◌∙◌}
 use mathlib.Core.List.{List, [], ◌∷◌, ◌++◌}
 use mathlib.Core.Bool.{Bool, true, false, not, ◌&&◌, ◌||◌}
 use Prim.Native.Nat.{ℕ, ◌+◌, ◌-◌, ◌*◌, ◌/◌, ◌%◌, ◌≤◌, ◌<◌}
 use native.Mathlib.Nat.{sub-zero}
 use native.Mathlib.Omega.{arith}
-use borrow.Author.Tests.{eqb-false, lt-ltb, le-ltb, ltb-true, ltb-false, le-leb, lt-leb}
-use lib.Dec.{eqb, leb, ltb}
+use borrow.Author.Tests.{lt-ltb, le-ltb, ltb-false}
+use lib.Dec.{eqb, ltb}
 use lib.ListN.{length, take, drop, replicate, length-drop}
 use lib.Seq.{length-take-le, take_all}
 use Rattle.tree.specs.Tree.{Tree, records}
@@ -21,39 +21,14 @@ use Rattle.grammar.specs.declared.Answer.TheVariants.{Tree as ATree, Error as AE
 use Rattle.grammar.specs.declared.Reader.{Reader}
 use Rattle.grammar.specs.declared.Stepped.{Stepped}
 use Rattle.scan.specs.declared.Failure.{Failure}
-use Rattle.scan.specs.Post.{Out, won, lost, halt, out, As, clean, Lost, Wrote}
+use Rattle.scan.specs.Post.{Out, won, lost, out, clean, Lost, Wrote}
 use Rattle.scan.proofs.Laws.{kept_won, kept_lost}
 use Rattle.scan.proofs.Waiting.{chosen, other}
-
--- THE TEST OF A READER: past the sheet, too many, a strange stop
-module _ (p w s q : Bool) where
-  pub reader_past : p ≡ true → false ≡ (not (p || w) && (s && q))
-  reader_past e = rw e
-
-  pub reader_many : p ≡ false → w ≡ true → false ≡ (not (p || w) && (s && q))
-  reader_many e f = rw (e, f)
-
-  pub reader_strange : p ≡ false → w ≡ false → s ≡ false → false ≡ (not (p || w) && (s && q))
-  reader_strange e f g = rw (e, f, g)
-
-  pub reader_rest : p ≡ false → w ≡ false → s ≡ true → q ≡ (not (p || w) && (s && q))
-  reader_rest e f g = rw (e, f, g)
-
-pub at_most : (a b : ℕ) → leb a b ≡ not (ltb b a)
-at_most a b = to (ltb b a) refl
-  where
-    to : (t : Bool) → ltb b a ≡ t → leb a b ≡ not t
-    to true e = lt-leb a b (ltb-true b a e)
-    to false e = le-leb a b (ltb-false b a e)
 
 -- THE TESTS OF A CALL, in their order
 or_no : (a b : Bool) → (a || b) ≡ false → (a ≡ false) × (b ≡ false)
 or_no true b e = absurd (let z : ◌≡◌ {A = ℕ} 0 1 = cc in omega arith)
 or_no false b e = (refl, e)
-
-pub record Sheet (T : List ℕ) : Type 0 where
-  pub even : length T % 2 ≡ 0
-  pub short : length T ≤ 131072
 
 pub record Fit (R : Reader) (n : ℕ) : Type 0 where
   pub within : R.position ≤ n
@@ -102,9 +77,6 @@ module _ (R : Reader) (T : List ℕ) (m : ℕ) where
   step_malformed e = chosen _ _ e
 
   module _ (s : no_sheet ≡ false) where
-    pub a_sheet : Sheet T
-    a_sheet = let (a, b) = or_no _ _ s in let o : length T % 2 ≡ 1 → ⊥ = eqb-false _ _ a in record { even = omega (arith, o); short = ltb-false _ _ b }
-
     pub step_refused : (not no_place && whole) ≡ false → next_stmt R T m ≡ bare m (Refused bad_reader) R
     unfolding next_stmt
     step_refused e = other _ _ s ∙ refused no_place whole _ _ e
@@ -166,12 +138,6 @@ called_lost n m p (fail y v s) {x} {q} {r} e =
     rw (a, b, c)
 called_lost n m p (stop k) e = absurd (let z : ◌≡◌ {A = ℕ} 0 1 = cc in omega arith)
 
-called_halt : (n m p : ℕ) (d : Res Tree) {k : ℕ} → out [] d ≡ halt k → called n m p d ≡ halted m p k
-called_halt n m p (ok u s) e = absurd (let z : ◌≡◌ {A = ℕ} 0 1 = cc in omega arith)
-called_halt n m p (bad u v s) e = absurd (let z : ◌≡◌ {A = ℕ} 0 1 = cc in omega arith)
-called_halt n m p (fail y v s) e = absurd (let z : ◌≡◌ {A = ℕ} 0 1 = cc in omega arith)
-called_halt n m p (stop j) {k} e = let a : j ≡ k = cc in rw a
-
 -- whole tokens are left of whole tokens
 abbrev Even : List ℕ → Type 0
 Even r = length r % 2 ≡ 0
@@ -189,9 +155,6 @@ module _ (T : List ℕ) (x m : ℕ) (even : Even T) {Q : List ℕ} (empty : Q �
   -- as it was told from a queue that is empty
   from_empty : {o : Out Tree} → out Q (next depth_limit Q T) ≡ o → out [] (next depth_limit [] T) ≡ o
   from_empty e = ap (λ (q : List ℕ). out q (next depth_limit q T)) (sym empty) ∙ e
-
-  pub halt_out : {k : ℕ} {s : Stepped} (S S' : List ℕ) → As Q (next depth_limit Q T) [] (stop k) → S' ≡ take 0 S ++ replicate (length S - 0) 0 → length S ≡ m → s ≡ (halted 0 x k).step → leaves s S' ≡ comes
-  halt_out S S' a e l i = bare_out S S' m e l i (called_halt (x + length T / 2) m x (next depth_limit [] T) (from_empty a.is))
 
   pub lost_out : {f : Failure} {S S₁ Q₁ : List ℕ} {a : Answer} {s : Stepped} (S' : List ℕ) → Lost (next depth_limit Q T) T 0 0 0 S Q f S₁ Q₁ → S' ≡ take 0 S₁ ++ replicate (length S₁ - 0) 0 → length S₁ ≡ m → a ≡ error_answer f.error → s ≡ stands a (x + f.pos / 2) Q₁ → leaves s S' ≡ comes
   lost_out {f} {S₁ = S₁} {Q₁ = Q₁} {a = a} S' l c k n i =
@@ -228,13 +191,6 @@ are_rest T x = take_all (length T - 2 * x) (drop (2 * x) T) (rw length-drop (ome
 
 are_many : (T : List ℕ) (x : ℕ) → length (unread T x) ≡ length T - 2 * x
 are_many T x = ap length (are_rest T x) ∙ length-drop (2 * x) T
-
-pub unread_fit : (T : List ℕ) (x m : ℕ) → Sheet T → x ≤ length T / 2 → 16 * (length T / 2 - x) ≤ m → (length (unread T x) % 2 ≡ 0) × (length (unread T x) ≤ 131072) × (8 * length (unread T x) ≤ m) × (x ≤ 65536)
-unread_fit T x m s h g =
-    let l = are_many T x in
-    let even = s.even in
-    let short = s.short in
-    (omega arith, omega arith, omega arith, omega arith)
 
 pub unread_out : {c X : Called} (T : List ℕ) (x m : ℕ) → x ≤ length T / 2 → c ≡ called (x + length (unread T x) / 2) m x (next depth_limit [] (unread T x)) → X ≡ called (length T / 2) m x (next depth_limit [] (drop (2 * x) T)) → c ≡ X
 unread_out T x m h e f =

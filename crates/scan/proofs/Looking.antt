@@ -46,9 +46,6 @@ name_small {k} {v} f e = ltb-true v 4294967296 (sym (ap (λ (i : ℕ). value_fit
 pub label_small : {k v : ℕ} → value_fits k v ≡ true → k ≡ Kind.Label → v < 4294967296
 label_small {k} {v} f e = ltb-true v 4294967296 (sym (ap (λ (i : ℕ). value_fits i v) e) ∙ f)
 
-pub taken_label : {T : List ℕ} {pos k n v : ℕ} → Taken T pos k n v → k ≡ Kind.Label → v < 4294967296
-taken_label at e = label_small at.fits e
-
 module _ {T : List ℕ} {pos k n v : ℕ} (at : Taken T pos k n v) (q : List Error) where
   pub expect_is : (j e : ℕ) → k ≡ j → expect j e q (drop pos T) ≡ ok (record { kind = k; newline = n; value = v }) (drop (pos + 2) T)
   unfolding expect then ifb
