@@ -57,6 +57,7 @@ pub enum Answer {
 pub type Queue = [u64; limit::QUEUE];
 
 // Where a reading stands: the tokens taken so far, how many errors wait, which they are, and the number of the stop, 0 for none.
+// Stays an array with a count, and a number with 0 for none: C keeps these words, and hands in any.
 #[derive(Clone, Copy, PartialEq, Eq)]
 pub struct Reader {
     pub position: usize,

@@ -1,4 +1,5 @@
 // The variants of `Flat`. specs/Flat.antt has the same.
+// Stays numbers: `Flat` is what C gets.
 
 pub const TREE: u64 = 0;
 

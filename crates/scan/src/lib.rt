@@ -28,6 +28,7 @@ pub enum Halt {
 }
 
 // A number that was read, and past which word of the tokens.
+// Stays a number where it may be none (a label, a keyword): 0, or 1 + it, is what the record has that it goes into, and nothing takes it apart before.
 #[derive(Clone, Copy)]
 pub struct Found {
     pub pos: usize,

@@ -1,4 +1,5 @@
 // The numbers of the errors, in the order of document 01's table, and 0 for the end. grammar's specs/Reading/Number.antt has the same.
+// Stays numbers and no enum: an error waits among the words of the reader that C keeps, and any number that stands there is answered.
 // No statement is left at the top level: on its way like an error, and answered as the end.
 pub const END: u64 = 0;
 

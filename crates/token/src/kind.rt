@@ -1,4 +1,5 @@
 // The token kinds: their places in the enum `Token` of the Rust, and after them the lexer error. specs/Kind.antt has the same numbers.
+// Stays numbers and no enum: a kind lies in a word that C lends, which may be any, and what decides by kinds answers for each number.
 pub const OPEN_PAREN: u64 = 0;
 
 pub const CLOSE_PAREN: u64 = 1;

@@ -1,4 +1,5 @@
 // The node kinds of a tree, as docs/TREE.md numbers them. specs/NodeKind.antt has the same.
+// Stays numbers and no enum: a record that C lends may have any, and what decides by kinds answers for each number.
 pub const ABSENT: u64 = 0;
 
 pub const LIST: u64 = 1;

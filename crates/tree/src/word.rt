@@ -1,4 +1,5 @@
 // First words of records: the kind of a node + CHILD for each of its children. A list has no child here: CHILD for each is added.
+// Stays numbers: they are words of memory that C lends.
 use crate::node;
 
 pub const CHILD: u64 = 256;
