@@ -10,10 +10,12 @@ use lib.ListN.{length, drop}
 use borrow.Author.Tests.{eq-eqb, ne_eqb, lt-ltb, le-ltb, ltb-true, ltb-false}
 use Rattle.token.specs.Look.{seen_word}
 use Rattle.token.specs.declared.Token.{Token}
-use Rattle.std.proofs.Common.{Result, Ok, Err}
+use Rattle.std.proofs.Common.{Option, Some, Result, Ok, Err}
 use Rattle.token.specs.declared.Unread.{Unread}
 use Rattle.token.specs.declared.Unread.TheVariants.{LexerError, Nothing, Bad}
-use Rattle.operator.specs.Operator.{op_level, op_number}
+use Rattle.operator.specs.Operator.{which_binary_op, precedence_level, binary_number, level_found, op_level, op_number}
+use Rattle.operator.specs.declared.BinaryOp.{BinaryOp}
+use Rattle.operator.specs.Laws.{precedence_least}
 use Rattle.tree.specs.Tree.{Tree}
 use Rattle.tree.specs.Node
 use Rattle.grammar.specs.Reading.Number
@@ -30,7 +32,7 @@ use Rattle.nodes.proofs.Algebra.{then_fail, then_ok, then_then, then_same}
 use Rattle.scan.proofs.Laws.{Looks}
 use Rattle.scan.proofs.Looking.{counted}
 use Rattle.scan.proofs.Text.{left}
-use Rattle.cycle.proofs.PathsExpr.{suc_pred}
+use Rattle.cycle.proofs.PathsExpr.{suc_pred, none_found}
 
 -- the operators of the levels up to l, after a left side: the right side of one of the level k is read at the level k - 1
 unfoldable pub climb : Depth → ℕ → ℕ → Tree → List Error → List ℕ → Res Tree
@@ -177,14 +179,26 @@ module _ (low : Depth) (l : ℕ) (acc : Tree) (q : List Error) where
   pub climb_looks : (T : List ℕ) (fuel p : ℕ) → length T ≤ p + fuel → Looks q (drop p T) (climb low l fuel acc q (drop p T))
   climb_looks T fuel p enough = record { go = _; is = climb_step fuel (drop p T) (left T p fuel enough) }
 
-  module _ {T : List ℕ} (fuel p : ℕ) (enough : length T ≤ p + fuel) {k n v : ℕ} (at : Taken T p k n v) {c : ℕ} (is : c ≡ op_level k) where
+  module _ {T : List ℕ} (fuel p : ℕ) (enough : length T ≤ p + fuel) {k n v : ℕ} (at : Taken T p k n v) {w : Option BinaryOp} (is : w ≡ which_binary_op k) where
     seen : climb low l fuel acc q (drop p T) ≡ climb_on low l (fuel - 1) acc q (drop p T) (record { kind = k; newline = n; value = v }) q (drop (p + 2) T)
     seen = climb_step fuel (drop p T) (left T p fuel enough) ∙ rw at.same (then_ok q _)
 
-    pub climb_ends : ((c ≡ 0 → ⊥) → l < c) → climb low l fuel acc q (drop p T) ≡ ok acc (drop p T)
-    climb_ends h = seen ∙ tested_ends (op_level k) l _ _ (rw is at h)
+    pub climb_none : ((op : BinaryOp) → w ≡ Some op → ⊥) → climb low l fuel acc q (drop p T) ≡ ok acc (drop p T)
+    unfolding op_level
+    climb_none e = seen ∙ tested_ends (op_level k) l _ _ (λ h. absurd (h (ap level_found (sym is ∙ none_found e))))
 
-    pub climb_takes : {x : ℕ} → (c ≡ 0 → ⊥) → c ≤ l → x ≡ op_number k → climb low l fuel acc q (drop p T) ≡ then q (binop_expr low (c - 1) q (drop (p + 2) T)) (λ t q₂ r. climb low l (fuel - 1) (Node.binary_op x acc t) q₂ r)
-    climb_takes h g i =
-        let e : pred (op_level k) ≡ c - 1 = omega arith in
-        seen ∙ tested_takes (op_level k) l _ _ (λ z. h (is ∙ z)) (omega arith) ∙ rw (e, i)
+    -- an operator of the level c
+    module _ {op : BinaryOp} (e : w ≡ Some op) {c : ℕ} (i : c ≡ precedence_level op) where
+      level_is : op_level k ≡ c
+      unfolding op_level
+      level_is = ap level_found (sym is ∙ e) ∙ sym i
+
+      pub climb_ends : l < c → climb low l fuel acc q (drop p T) ≡ ok acc (drop p T)
+      climb_ends h = seen ∙ tested_ends (op_level k) l _ _ (λ _. rw level_is h)
+
+      pub climb_takes : {x : ℕ} → c ≤ l → x ≡ binary_number op → climb low l fuel acc q (drop p T) ≡ then q (binop_expr low (c - 1) q (drop (p + 2) T)) (λ t q₂ r. climb low l (fuel - 1) (Node.binary_op x acc t) q₂ r)
+      unfolding op_number
+      climb_takes h j =
+          let m = precedence_least op in
+          let z : pred (op_level k) ≡ c - 1 = omega (arith, level_is) in
+          seen ∙ tested_takes (op_level k) l _ _ (λ x. omega (arith, level_is)) (omega (arith, level_is)) ∙ rw (z, ← is, e, j)

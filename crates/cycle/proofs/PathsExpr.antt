@@ -8,7 +8,10 @@ use lib.ListN.{length, drop}
 use borrow.Author.Tests.{eq-eqb, ne_eqb}
 use Rattle.token.specs.Kind
 use Rattle.token.specs.declared.Token.{Token}
-use Rattle.operator.specs.Operator.{unary_code, assign_code}
+use Rattle.std.proofs.Common.{Option, Some, None}
+use Rattle.operator.specs.Operator.{which_unary_op, which_assignment_op, unary_number, assignment_number, unary_code, assign_code}
+use Rattle.operator.specs.declared.UnaryOp.{UnaryOp}
+use Rattle.operator.specs.declared.AssignmentOp.{AssignmentOp}
 use Rattle.tree.specs.NodeKind
 use Rattle.tree.specs.Tree.{Tree, Forest, node, none, more, one, two, snoc}
 use Rattle.tree.specs.Node
@@ -76,21 +79,24 @@ list_stops d end q ts e = rw e (list_zero d q ts end)
 pub list_step : (d end : ℕ) (q : List Error) (ts : List ℕ) → (d ≡ 0 → ⊥) → (at_depth d).list end q ts ≡ stmts (at_depth (d - 1)) end (length ts) none q ts
 list_step d end q ts h = ap (λ (n : ℕ). (at_depth n).list end q ts) (sym (suc_pred d h)) ∙ list_suc (d - 1) q ts end
 
+-- what holds no operator is `None`
+pub none_found : {A : Type 0} {w : Option A} → ((op : A) → w ≡ Some op → ⊥) → w ≡ None
+none_found {w = Some op} h = absurd (h op refl)
+none_found {w = None} h = refl
+
 -- operands
 pub unary_looks : (low : Depth) (q : List Error) (ts : List ℕ) → Looks q ts (unary_expr low q ts)
 unfolding unary_expr
 unary_looks low q ts = record { go = _; is = refl }
 
-module _ (low : Depth) (q : List Error) {T : List ℕ} {pos k n v : ℕ} (at : Taken T pos k n v) {c : ℕ} (is : c ≡ unary_code k) where
-  pub unary_none : c ≡ 0 → unary_expr low q (drop pos T) ≡ primary_expr low q (drop pos T)
-  unfolding unary_expr then ifb
-  unary_none e = rw (at.same, eq-eqb _ _ (sym is ∙ e))
+module _ (low : Depth) (q : List Error) {T : List ℕ} {pos k n v : ℕ} (at : Taken T pos k n v) {w : Option UnaryOp} (is : w ≡ which_unary_op k) where
+  pub unary_none : ((op : UnaryOp) → w ≡ Some op → ⊥) → unary_expr low q (drop pos T) ≡ primary_expr low q (drop pos T)
+  unfolding unary_expr then ifb unary_code
+  unary_none h = rw (at.same, ← is, none_found h)
 
-  pub unary_some : (c ≡ 0 → ⊥) → unary_expr low q (drop pos T) ≡ then q (low.unary q (drop (pos + 2) T)) (λ t q₂ r. ok (Node.unary_op (c - 1) t) r)
-  unfolding unary_expr then ifb
-  unary_some h =
-      let e : pred (unary_code k) ≡ c - 1 = omega arith in
-      rw (at.same, ne_eqb _ _ (λ z. h (is ∙ z)), e)
+  pub unary_some : {op : UnaryOp} {c : ℕ} → w ≡ Some op → c ≡ unary_number op → unary_expr low q (drop pos T) ≡ then q (low.unary q (drop (pos + 2) T)) (λ t q₂ r. ok (Node.unary_op c t) r)
+  unfolding unary_expr then ifb unary_code
+  unary_some {op} e i = rw (at.same, ← is, e, ne_eqb (suc (unary_number op)) 0 (omega arith), i)
 
 -- binary operators
 binop_zero : (low : Depth) (q : List Error) (ts : List ℕ) → binop_expr low 0 q ts ≡ low.unary q ts
@@ -174,17 +180,15 @@ pub expr_step : (low : Depth) (q : List Error) (ts : List ℕ) → expr low q ts
 unfolding expr
 expr_step low q ts = refl
 
-module _ (low : Depth) (m : ℕ) (lhs : Tree) (q : List Error) {T : List ℕ} {pos k n v : ℕ} (at : Taken T pos k n v) {c : ℕ} (is : c ≡ assign_code k) where
-  pub expr_plain : c ≡ 0 → m ≡ 0 → expr_op low m lhs q (drop pos T) ≡ ok lhs (drop pos T)
-  unfolding then ifb
-  expr_plain e i = rw (at.same, eq-eqb _ _ (sym is ∙ e), eq-eqb _ _ i)
+module _ (low : Depth) (m : ℕ) (lhs : Tree) (q : List Error) {T : List ℕ} {pos k n v : ℕ} (at : Taken T pos k n v) {w : Option AssignmentOp} (is : w ≡ which_assignment_op k) where
+  pub expr_plain : ((op : AssignmentOp) → w ≡ Some op → ⊥) → m ≡ 0 → expr_op low m lhs q (drop pos T) ≡ ok lhs (drop pos T)
+  unfolding then ifb assign_code
+  expr_plain h i = rw (at.same, ← is, none_found h, eq-eqb _ _ i)
 
-  pub expr_alone : c ≡ 0 → (m ≡ 0 → ⊥) → expr_op low m lhs q (drop pos T) ≡ fail (keyword_alone m) q (drop pos T)
-  unfolding then ifb
-  expr_alone e i = rw (at.same, eq-eqb _ _ (sym is ∙ e), ne_eqb _ _ i)
+  pub expr_alone : ((op : AssignmentOp) → w ≡ Some op → ⊥) → (m ≡ 0 → ⊥) → expr_op low m lhs q (drop pos T) ≡ fail (keyword_alone m) q (drop pos T)
+  unfolding then ifb assign_code
+  expr_alone h i = rw (at.same, ← is, none_found h, ne_eqb _ _ i)
 
-  pub expr_assign : {b : ℕ} → (c ≡ 0 → ⊥) → b ≡ action m → expr_op low m lhs q (drop pos T) ≡ then q (expect_pattern Number.cannot_assign (to_pattern lhs) q (drop (pos + 2) T)) (λ p q₄ u. then q (low.right q u) λ rhs q₅ x. ok (node NodeKind.Assignment (b + 4 * (c - 1)) (two p rhs)) x)
-  unfolding then ifb
-  expr_assign h i =
-      let e : pred (assign_code k) ≡ c - 1 = omega arith in
-      rw (at.same, ne_eqb _ _ (λ z. h (is ∙ z)), e, i)
+  pub expr_assign : {op : AssignmentOp} {b c : ℕ} → w ≡ Some op → b ≡ action m → c ≡ assignment_number op → expr_op low m lhs q (drop pos T) ≡ then q (expect_pattern Number.cannot_assign (to_pattern lhs) q (drop (pos + 2) T)) (λ p q₄ u. then q (low.right q u) λ rhs q₅ x. ok (node NodeKind.Assignment (b + 4 * c) (two p rhs)) x)
+  unfolding then ifb assign_code
+  expr_assign {op} e i j = rw (at.same, ← is, e, ne_eqb (suc (assignment_number op)) 0 (omega arith), i, j)

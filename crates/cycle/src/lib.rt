@@ -26,11 +26,14 @@ use nodes::records::{
     list_under, literal, lone_unpack, mark, modified, path_end, target_name, tuple_end, unpack_end,
 };
 use nodes::{Counts, Head, Parameter};
-use operator::{PRECEDENCE_END, PRECEDENCE_START};
+use operator::{
+    PRECEDENCE_END, PRECEDENCE_START, precedence_level, which_assignment_op, which_binary_op,
+    which_unary_op,
+};
 use scan::queue::{Waiting, control_last, synchronized};
 use scan::tokens::{
-    action, assign_code, assign_keyword, continues, ends_control, expect, halts, is_control, look,
-    not_allowed, op_level, op_number, past, try_label, unary_code, unassigned,
+    action, assign_keyword, continues, ends_control, expect, halts, is_control, look, not_allowed,
+    past, try_label, unassigned,
 };
 use scan::{Cursor, Entry, Failure, Halt, Listed, Suite, Until, number};
 use token::kind;
@@ -57,17 +60,16 @@ fn unop(
         return Err(Halt::Stop(limit::TOO_DEEP));
     }
     let token = look(tokens, cursor.pos)?;
-    let code = unary_code(token.kind);
-    if code == 0 {
+    let Some(op) = which_unary_op(token.kind) else {
         return term(tokens, store, queue, depth - 1, cursor);
-    }
+    };
     let next = Cursor {
         pos: cursor.pos + 2,
         ..cursor
     };
     let operand = unop(tokens, store, queue, depth - 1, next)?;
     Ok(Cursor {
-        at: emit(store, operand.at, word::UNARY_OP, code - 1),
+        at: emit(store, operand.at, word::UNARY_OP, u64::from(op)),
         ..operand
     })
 }
@@ -431,10 +433,10 @@ fn binop(
     let mut left = unop(tokens, store, queue, depth, cursor)?;
     loop {
         let token = look(tokens, left.pos)?;
-        let l = op_level(token.kind);
-        if l == 0 {
+        let Some(op) = which_binary_op(token.kind) else {
             return Ok(left);
-        }
+        };
+        let l = precedence_level(op);
         if level < l {
             return Ok(left);
         }
@@ -444,7 +446,7 @@ fn binop(
         };
         let right = binop(tokens, store, queue, depth, l - 1, start)?;
         left = Cursor {
-            at: emit(store, right.at, word::BINARY_OP, op_number(token.kind)),
+            at: emit(store, right.at, word::BINARY_OP, u64::from(op)),
             ..right
         };
     }
@@ -527,17 +529,16 @@ fn expr(
     };
     let left = tuple(tokens, store, queue, depth, start)?;
     let token = look(tokens, left.pos)?;
-    let code = assign_code(token.kind);
-    if code == 0 {
+    let Some(op) = which_assignment_op(token.kind) else {
         return unassigned(keyword.number, left);
-    }
+    };
     let next = Cursor {
         pos: left.pos + 2,
         ..left
     };
     let target = expect_pattern(store, cursor.at, number::CANNOT_ASSIGN, next)?;
     let right = rhs(tokens, store, queue, depth, target)?;
-    let value = action(keyword.number) + 4 * (code - 1);
+    let value = action(keyword.number) + 4 * u64::from(op);
     Ok(Cursor {
         at: emit(store, right.at, word::ASSIGNMENT, value),
         ..right

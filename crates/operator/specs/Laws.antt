@@ -2,7 +2,8 @@
 use Rattle.std.specs.Prelude.{Option, Some, None, ◌≡◌, refl, ◌≢◌, true, false, List, [], ◌∷◌, ℕ, zero, suc, ◌-◌, ◌≤◌, ◌<◌, T, eqb, ltb, leb, length, get_or}
 use Rattle.std.proofs.Common.{ap, ⊎_elim, eq-zero-or-pos, arith, eqb→eq, ne_eqb, leb-true}
 use Rattle.operator.specs.declared.BinaryOp.{BinaryOp}
-use Rattle.operator.specs.Operator.{which_unary_op, which_binary_op, which_assignment_op, op_level, op_number, number_found, binary_code, binary_found, op_tokens, op_token, number_level, unary_code, unary_token, assign_code, assign_token, no_token, level_count}
+use Rattle.operator.specs.declared.AssignmentOp.{AssignmentOp}
+use Rattle.operator.specs.Operator.{which_unary_op, which_binary_op, which_assignment_op, precedence_level, assignment_number, op_level, op_number, number_found, binary_code, binary_found, op_tokens, op_token, number_level, unary_code, unary_token, assign_code, assign_token, no_token, level_count}
 use Rattle.operator.specs.Below.{sum_below, none_below, fails, passes, below, equal_below, most_below, back_below}
 use Rattle.operator.specs.Table.{column_count, decision, entry, faults}
 
@@ -84,6 +85,13 @@ number_found_code None = refl
 pub number_code : (k : ℕ) → binary_code k - 1 ≡ op_number k
 unfolding binary_code op_number
 number_code k = number_found_code (which_binary_op k)
+
+-- every operator has a level, and an assignment's number is at most 1 + that of the last operator
+pub precedence_least : (op : BinaryOp) → 1 ≤ precedence_level op
+precedence_least op = grind arith
+
+pub assignment_most : (op : AssignmentOp) → assignment_number op ≤ 18
+assignment_most op = grind arith
 
 -- a code that is none from 76 on is at most what it is at most before
 at_most : (code : ℕ → ℕ) (most : ℕ) → ((k : ℕ) → 76 ≤ k → code k ≡ 0) → T (below (λ k. leb (code k) most) 76) → (k : ℕ) → code k ≤ most

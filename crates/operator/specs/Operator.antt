@@ -110,6 +110,11 @@ binary_number NE = 15
 binary_number And = 16
 binary_number Or = 17
 
+-- an assignment's number is 0 if it is plain, else 1 + the number of its operator
+abbrev pub assignment_number : AssignmentOp → ℕ
+assignment_number Plain = 0
+assignment_number (With op) = suc (binary_number op)
+
 -- the level of the binary operator that a token kind is, 0 if it is none
 abbrev pub level_found : Option BinaryOp → ℕ
 level_found (Some op) = precedence_level op
@@ -144,8 +149,7 @@ unary_code kind = unary_found (which_unary_op kind)
 
 -- 0 if a token kind is no assignment operator, 1 if it is the plain one, else 2 + the number of its binary operator
 abbrev pub assignment_found : Option AssignmentOp → ℕ
-assignment_found (Some Plain) = 1
-assignment_found (Some (With op)) = suc (suc (binary_number op))
+assignment_found (Some op) = suc (assignment_number op)
 assignment_found None = 0
 
 unfoldable pub assign_code : ℕ → ℕ

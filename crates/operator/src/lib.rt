@@ -2,7 +2,7 @@
 #![tactic(auto)]
 
 ghost use Rattle.std.specs.Prelude.{◌≡◌, ◌≤◌, ◌<◌};
-ghost use Rattle.operator.specs.Operator.{which_unary_op as which_unary_op_def, which_binary_op as which_binary_op_def, which_assignment_op as which_assignment_op_def, precedence_level as precedence_level_def, unary_number, binary_number, unary_code as unary_code_def, op_level as op_level_def, op_number as op_number_def, assign_code as assign_code_def};
+ghost use Rattle.operator.specs.Operator.{which_unary_op as which_unary_op_def, which_binary_op as which_binary_op_def, which_assignment_op as which_assignment_op_def, precedence_level as precedence_level_def, unary_number, binary_number, assignment_number, unary_code as unary_code_def, op_level as op_level_def, op_number as op_number_def, assign_code as assign_code_def};
 ghost use Rattle.operator.specs.Table.{column_count, decision, faults};
 
 pub mod table;
@@ -144,6 +144,18 @@ impl From<BinaryOp> for u64 {
 
     fn from(op: BinaryOp) -> u64 {
         op as u64
+    }
+}
+
+// An assignment's number is 0 if it is plain, else 1 + the number of its operator.
+impl From<AssignmentOp> for u64 {
+    ghost from_gives = { λ op number. number ≡ assignment_number op };
+
+    fn from(op: AssignmentOp) -> u64 {
+        match op {
+            AssignmentOp::Plain => 0,
+            AssignmentOp::With(op) => 1 + u64::from(op),
+        }
     }
 }
 

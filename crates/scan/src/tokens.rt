@@ -1,7 +1,6 @@
 // What stands at a place of the tokens, and what is read of them without recursion.
 ghost use Rattle.std.specs.Prelude.{◌≡◌, ◌&&◌, ◌||◌, ◌+◌, ◌≤◌, eqb, length, drop};
 ghost use Rattle.token.specs.Kind;
-ghost use Rattle.operator.specs.Operator.{op_level as op_level_def, op_number as op_number_def, unary_code as unary_code_def, assign_code as assign_code_def};
 ghost use Rattle.grammar.specs.Reading.Look.{expect as expect_def, try_label as try_label_def, keyword as keyword_def, try_assign_keyword, action as action_def};
 ghost use Rattle.grammar.specs.Reading.Expr.{keyword_alone as keyword_alone_def};
 ghost use Rattle.grammar.specs.Reading.Primary.{atom_error as atom_error_def};
@@ -13,7 +12,6 @@ ghost use Rattle.scan.specs.Lists.{Within, Passes};
 
 use crate::{Cursor, Failure, Found, Halt, Listed, Suite, Until, number};
 use grammar::limit;
-use operator::AssignmentOp;
 use token::{Token, Unread, kind};
 
 pub fn look(tokens: &[u64], pos: usize) -> Result<Token, Halt>
@@ -139,45 +137,6 @@ pub fn unassigned(m: u64, cursor: Cursor) -> Result<Cursor, Halt>
         error: keyword_alone(m),
         pos: cursor.pos,
     }))
-}
-
-// The level of the binary operator that a token kind is, 0 if it is none.
-#[tactic(auto, unfolding(operator::specs::Operator::op_level))]
-pub fn op_level(kind: u64) -> u64
-    ensures { result ≡ op_level_def kind }
-{
-    operator::which_binary_op(kind).map_or(0, operator::precedence_level)
-}
-
-// The number of the binary operator that a token kind is, 0 if it is none.
-#[tactic(auto, unfolding(operator::specs::Operator::op_number))]
-pub fn op_number(kind: u64) -> u64
-    ensures { result ≡ op_number_def kind }
-{
-    operator::which_binary_op(kind).map_or(0, u64::from)
-}
-
-// 0 if a token kind is no unary operator, else 1 + its number.
-#[tactic(auto, unfolding(operator::specs::Operator::unary_code))]
-pub fn unary_code(kind: u64) -> u64
-    ensures { (result ≡ unary_code_def kind) × (result ≤ 4) }
-{
-    match operator::which_unary_op(kind) {
-        Some(op) => 1 + u64::from(op),
-        None => 0,
-    }
-}
-
-// 0 if a token kind is no assignment operator, 1 if it is the plain one, else 2 + the number of its binary operator.
-#[tactic(auto, unfolding(operator::specs::Operator::assign_code))]
-pub fn assign_code(kind: u64) -> u64
-    ensures { (result ≡ assign_code_def kind) × (result ≤ 19) }
-{
-    match operator::which_assignment_op(kind) {
-        Some(AssignmentOp::Plain) => 1,
-        Some(AssignmentOp::With(op)) => 2 + u64::from(op),
-        None => 0,
-    }
 }
 
 // The error of a token that is no atom.

@@ -86,8 +86,8 @@ binop-loop-token-init = Rattle.cycle.proofs.+reading.Answers.Binop.binop-loop-to
 pub binop-look-requires : goal.binop-look-requires
 binop-look-requires = Rattle.cycle.proofs.+reading.Answers.Binop.binop-look-requires
 
-pub binop-returns-then-l-eq0 : goal.binop-returns-then-l-eq0
-binop-returns-then-l-eq0 = Rattle.cycle.proofs.+reading.Answers.Binop.binop-returns-then-l-eq0
+pub binop-returns-in_default : goal.binop-returns-in_default
+binop-returns-in_default = Rattle.cycle.proofs.+reading.Answers.Binop.binop-returns-in_default
 
 pub binop-returns-then-level-l : goal.binop-returns-then-level-l
 binop-returns-then-level-l = Rattle.cycle.proofs.+reading.Answers.Binop.binop-returns-then-level-l
@@ -242,8 +242,8 @@ each-returns = Rattle.cycle.proofs.+reading.Answers.Each.each-returns
 pub expr-returns-in_err-left : goal.expr-returns-in_err-left
 expr-returns-in_err-left = Rattle.cycle.proofs.+reading.Answers.Expr.expr-returns-in_err-left
 
-pub expr-returns-then-code-eq0 : goal.expr-returns-then-code-eq0
-expr-returns-then-code-eq0 = Rattle.cycle.proofs.+reading.Answers.Expr.expr-returns-then-code-eq0
+pub expr-returns-in_default : goal.expr-returns-in_default
+expr-returns-in_default = Rattle.cycle.proofs.+reading.Answers.Expr.expr-returns-in_default
 
 pub expr-expect_pattern-requires : goal.expr-expect_pattern-requires
 expr-expect_pattern-requires = Rattle.cycle.proofs.+reading.Answers.Expr.expr-expect_pattern-requires
@@ -256,6 +256,9 @@ expr-rhs-requires = Rattle.cycle.proofs.+reading.Answers.Expr.expr-rhs-requires
 
 pub expr-returns-in_err-right : goal.expr-returns-in_err-right
 expr-returns-in_err-right = Rattle.cycle.proofs.+reading.Answers.Expr.expr-returns-in_err-right
+
+pub expr-overflow_add-value : goal.expr-overflow_add-value
+expr-overflow_add-value = Rattle.cycle.proofs.+reading.Answers.Expr.expr-overflow_add-value
 
 pub expr-emit-requires : goal.expr-emit-requires
 expr-emit-requires = Rattle.cycle.proofs.+reading.Answers.Expr.expr-emit-requires
@@ -680,8 +683,8 @@ turn-returns-in-Err-Stop-stmt = Rattle.cycle.proofs.+reading.Answers.Turn.turn-r
 pub unop-returns-then-depth-eq0 : goal.unop-returns-then-depth-eq0
 unop-returns-then-depth-eq0 = Rattle.cycle.proofs.+reading.Answers.Unop.unop-returns-then-depth-eq0
 
-pub unop-returns-then-code-eq0 : goal.unop-returns-then-code-eq0
-unop-returns-then-code-eq0 = Rattle.cycle.proofs.+reading.Answers.Unop.unop-returns-then-code-eq0
+pub unop-returns-in_default : goal.unop-returns-in_default
+unop-returns-in_default = Rattle.cycle.proofs.+reading.Answers.Unop.unop-returns-in_default
 
 pub unop-returns-in_err-operand : goal.unop-returns-in_err-operand
 unop-returns-in_err-operand = Rattle.cycle.proofs.+reading.Answers.Unop.unop-returns-in_err-operand

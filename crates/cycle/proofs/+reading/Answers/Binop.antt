@@ -3,9 +3,10 @@ use mathlib.Core.Path.{refl, ◌∙◌}
 use Prim.Native.Nat.{◌-◌}
 use native.Mathlib.Omega.{arith}
 use lib.ListN.{length, drop, length-drop}
+use Rattle.operator.specs.Laws.{precedence_least}
 use Rattle.scan.proofs.Laws.{hands, way, here, link, goes, done, undone, taken, fails, fails_unseen, as_agrees, prefix, rebased, relabel, home}
 use Rattle.nodes.proofs.Made.{made_two}
-use Rattle.cycle.proofs.Climb.{binop_step, climb_looks, climb_ends, climb_takes}
+use Rattle.cycle.proofs.Climb.{binop_step, climb_looks, climb_none, climb_ends, climb_takes}
 use Rattle.cycle.proofs.PathsExpr.{binop_unary}
 use Rattle.cycle.proofs.+reading.Goals as goal
 
@@ -30,13 +31,13 @@ binop-look-requires t c = let f = done c.in_ok-left.ensures in
     let g = i.run f.what (rebased f (omega (arith, c.requires))) in
     g.moved.within
 
-pub binop-returns-then-l-eq0 : goal.binop-returns-then-l-eq0
-binop-returns-then-l-eq0 t c = let f = done c.in_ok-left.ensures in
+pub binop-returns-in_default : goal.binop-returns-in_default
+binop-returns-in_default t c = let f = done c.in_ok-left.ensures in
     let path = goes _ (way _ (binop_step _ _ _ _ c.if-level-eq-PRECEDENCE_END.false)) f.same in
     let i = c.loop-token.invariant in
     let g = i.run f.what (rebased f (omega (arith, c.requires))) in
     let tk = taken c.in_ok-token.ensures in
-    record { how = home path (prefix f (omega arith)) f.moved.more (relabel g g.what refl (link g.same (way _ (climb_ends _ _ g.what _ i.fuel _ i.enough tk c.op_level-l.ensures (λ h. absurd (h c.if-l-eq0.true))))) g.moved g.room) }
+    record { how = home path (prefix f (omega arith)) f.moved.more (relabel g g.what refl (link g.same (way _ (climb_none _ _ g.what _ i.fuel _ i.enough tk c.which_binary_op.ensures c.in_default.not-Some))) g.moved g.room) }
 
 pub binop-returns-then-level-l : goal.binop-returns-then-level-l
 binop-returns-then-level-l t c = let f = done c.in_ok-left.ensures in
@@ -44,14 +45,14 @@ binop-returns-then-level-l t c = let f = done c.in_ok-left.ensures in
     let i = c.loop-token.invariant in
     let g = i.run f.what (rebased f (omega (arith, c.requires))) in
     let tk = taken c.in_ok-token.ensures in
-    record { how = home path (prefix f (omega arith)) f.moved.more (relabel g g.what refl (link g.same (way _ (climb_ends _ _ g.what _ i.fuel _ i.enough tk c.op_level-l.ensures (λ h. c.if-level-l.true)))) g.moved g.room) }
+    record { how = home path (prefix f (omega arith)) f.moved.more (relabel g g.what refl (link g.same (way _ (climb_ends _ _ g.what _ i.fuel _ i.enough tk c.which_binary_op.ensures c.in-Some.is c.precedence_level-l.ensures c.if-level-l.true))) g.moved g.room) }
 
 pub binop-binop-requires : goal.binop-binop-requires
 binop-binop-requires t c = let f = done c.in_ok-left.ensures in
     let i = c.loop-token.invariant in
     let g = i.run f.what (rebased f (omega (arith, c.requires))) in
     let tk = taken c.in_ok-token.ensures in
-    let n = c.if-l-eq0.false in
+    let n = precedence_least c.in-Some.op in
     let m = c.if-level-l.false in
     omega (arith, c.requires)
 
@@ -72,7 +73,7 @@ binop-loop-token-preserved t c = let f = done c.in_ok-left.ensures in
     record {
       fuel = i.fuel - 1;
       enough = omega arith;
-      run = λ u x. let g = i.run u x in made_two 13 g w e (goes _ (link g.same (way _ (climb_takes _ _ g.what _ i.fuel _ i.enough tk c.op_level-l.ensures c.if-l-eq0.false c.if-level-l.false c.op_number.ensures))) w.same) (omega arith) (omega arith) refl;
+      run = λ u x. let g = i.run u x in made_two 13 g w e (goes _ (link g.same (way _ (climb_takes _ _ g.what _ i.fuel _ i.enough tk c.which_binary_op.ensures c.in-Some.is c.precedence_level-l.ensures c.if-level-l.false c.from.ensures))) w.same) (omega arith) (omega arith) refl;
       kept = omega arith;
     }
 
@@ -82,7 +83,7 @@ binop-returns-in_err-right t c = let f = done c.in_ok-left.ensures in
     let i = c.loop-token.invariant in
     let g = i.run f.what (rebased f (omega (arith, c.requires))) in
     let tk = taken c.in_ok-token.ensures in
-    let on = link g.same (way _ (climb_takes _ _ g.what _ i.fuel _ i.enough tk c.op_level-l.ensures c.if-l-eq0.false c.if-level-l.false (refl))) in
+    let on = link g.same (way _ (climb_takes _ _ g.what _ i.fuel _ i.enough tk c.which_binary_op.ensures c.in-Some.is c.precedence_level-l.ensures c.if-level-l.false refl)) in
     hands c.from_residual-in_err-right.ensures.1 (fails _ (link path on) (undone c.in_err-right.ensures) (prefix g (omega (arith, c.requires, c.unop-2.auto.store, f.moved, f.room, g.moved, g.room, tk.within)) ∙ prefix f (omega (arith, c.requires, c.unop-2.auto.store, f.moved, f.room, g.moved, g.room, tk.within))) (omega (arith, c.requires, c.unop-2.auto.store, f.moved, f.room, g.moved, g.room, tk.within)))
 
 pub binop-returns-in_err-token : goal.binop-returns-in_err-token

@@ -6,6 +6,7 @@ use lib.Dec.{eqb}
 use borrow.Author.Tests.{eqb-true, eqb-false}
 use native.Mathlib.Omega.{arith}
 use lib.ListN.{take}
+use Rattle.operator.specs.Laws.{assignment_most}
 use Rattle.tree.specs.Tree.{two, count, records}
 use Rattle.grammar.specs.Reading.Look.{action}
 use Rattle.grammar.specs.Reading.Depth.{at_depth}
@@ -27,9 +28,9 @@ expr-returns-in_err-left t c = let x = found c.in_ok-keyword.ensures in
     let s0 = told _ x (way _ (expr_step _ _ _)) in
     hands c.from_residual-in_err-left.ensures.1 (fails _ s0 (undone c.in_err-left.ensures) refl (omega arith))
 
-pub expr-returns-then-code-eq0 : goal.expr-returns-then-code-eq0
+pub expr-returns-in_default : goal.expr-returns-in_default
 unfolding unassigned_result
-expr-returns-then-code-eq0 t c = let x = found c.in_ok-keyword.ensures in
+expr-returns-in_default t c = let x = found c.in_ok-keyword.ensures in
     let xo = x.got.on in
     let xw = x.got.within in
     let s0 = told _ x (way _ (expr_step _ _ _)) in
@@ -37,8 +38,8 @@ expr-returns-then-code-eq0 t c = let x = found c.in_ok-keyword.ensures in
     let s1 = goes _ s0 w.same in
     let tk = taken c.in_ok-token.ensures in
     either_way (eqb c.in_ok-keyword.keyword.number 0)
-    (λ e. record { how = relabel w w.what refl (link s1 (way _ (expr_plain (at_depth c.args.depth) c.in_ok-keyword.keyword.number w.what _ tk c.assign_code-code.ensures.0 c.if-code-eq0.true (eqb-true _ _ e)))) (omega (arith, c.requires, w.moved, xo)) (omega (arith, c.requires, w.moved, w.room, xo)) })
-    (λ e. record { how = record { how = record { same = link s1 (way _ (expr_alone (at_depth c.args.depth) c.in_ok-keyword.keyword.number w.what _ tk c.assign_code-code.ensures.0 c.if-code-eq0.true (eqb-false _ _ e))); moved = omega (arith, c.requires, w.moved, xo); far = omega (arith, c.requires, w.moved, xo); text = prefix w (omega (arith, c.requires)) } } })
+    (λ e. record { how = relabel w w.what refl (link s1 (way _ (expr_plain (at_depth c.args.depth) c.in_ok-keyword.keyword.number w.what _ tk c.which_assignment_op.ensures c.in_default.not-Some (eqb-true _ _ e)))) (omega (arith, c.requires, w.moved, xo)) (omega (arith, c.requires, w.moved, w.room, xo)) })
+    (λ e. record { how = record { how = record { same = link s1 (way _ (expr_alone (at_depth c.args.depth) c.in_ok-keyword.keyword.number w.what _ tk c.which_assignment_op.ensures c.in_default.not-Some (eqb-false _ _ e))); moved = omega (arith, c.requires, w.moved, xo); far = omega (arith, c.requires, w.moved, xo); text = prefix w (omega (arith, c.requires)) } } })
     c.unassigned.ensures
 
 pub expr-expect_pattern-requires : goal.expr-expect_pattern-requires
@@ -60,7 +61,7 @@ expr-returns-in_err-target t c = let x = found c.in_ok-keyword.ensures in
     let tk = taken c.in_ok-token.ensures in
     let small = shape_small (given (tuple_shape _ _ _) w.same) in
     let whole = stands w small (omega (arith, c.requires)) (omega (arith, c.requires, w.moved, w.room, xo, xw, c.tuple.auto.store)) in
-    let q2 = link s1 (way _ (expr_assign (at_depth c.args.depth) c.in_ok-keyword.keyword.number w.what _ tk c.assign_code-code.ensures.0 c.if-code-eq0.false refl)) in
+    let q2 = link s1 (way _ (expr_assign (at_depth c.args.depth) c.in_ok-keyword.keyword.number w.what _ tk c.which_assignment_op.ensures c.in-Some.is refl refl)) in
     let kept = prefix w (omega (arith, c.requires)) in
     hands c.from_residual-in_err-target.ensures.1 (unstored_fails _ (unstored (c.in_err-target.ensures w.what c.args.tokens.now whole tk.within)) q2 kept (omega (arith, c.requires, w.moved, xo)))
 
@@ -90,12 +91,18 @@ expr-returns-in_err-right t c = let x = found c.in_ok-keyword.ensures in
     let pt = stored (c.in_ok-target.ensures w.what c.args.tokens.now whole tk.within) in
     let po = pt.got.on in
     let pw = pt.got.within in
-    let q2 = link s1 (way _ (expr_assign (at_depth c.args.depth) c.in_ok-keyword.keyword.number w.what _ tk c.assign_code-code.ensures.0 c.if-code-eq0.false refl)) in
+    let q2 = link s1 (way _ (expr_assign (at_depth c.args.depth) c.in_ok-keyword.keyword.number w.what _ tk c.which_assignment_op.ensures c.in-Some.is refl refl)) in
     let s3 = gets _ pt.got q2 in
     let kept = prefix w (omega (arith, c.requires)) in
     let stays = stored_prefix c.args.cursor.at c.tuple.new.store pt (omega (arith, c.requires, c.tuple.auto.store)) ∙ kept in
     let up = stored_up c.args.cursor.at c.tuple.new.store pt (omega (arith, c.requires, c.tuple.auto.store)) in
     hands c.from_residual-in_err-right.ensures.1 (fails _ s3 (undone c.in_err-right.ensures) stays (omega (arith, c.requires, w.moved, w.room, xo, xw, po, pw, up)))
+
+pub expr-overflow_add-value : goal.expr-overflow_add-value
+expr-overflow_add-value t c = let x = found c.in_ok-keyword.ensures in
+    let m = action_le c.in_ok-keyword.keyword.number in
+    let n = assignment_most c.in-Some.op in
+    omega arith
 
 pub expr-emit-requires : goal.expr-emit-requires
 expr-emit-requires t c = let x = found c.in_ok-keyword.ensures in
@@ -129,7 +136,7 @@ expr-returns t c =
     let kept = prefix w (omega (arith, c.requires)) in
     let up = stored_up c.args.cursor.at c.tuple.new.store pt (omega (arith, c.requires, c.tuple.auto.store)) in
     let u = done c.in_ok-right.ensures in
-    let q4 = link s1 (way _ (expr_assign (at_depth c.args.depth) c.in_ok-keyword.keyword.number w.what _ tk c.assign_code-code.ensures.0 c.if-code-eq0.false c.action.ensures)) in
+    let q4 = link s1 (way _ (expr_assign (at_depth c.args.depth) c.in_ok-keyword.keyword.number w.what _ tk c.which_assignment_op.ensures c.in-Some.is c.action.ensures c.from.ensures)) in
     let e = c.emit.ensures in
     let en = e.next in
     let text = pt.text ∙ ap (λ (l : List ℕ). l ++ records pt.got.what) kept in
