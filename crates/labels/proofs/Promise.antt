@@ -3,13 +3,11 @@
 -- 65 with the record number 0, exactly if no tokens' clean reading, limits aside, gives a tree with these records, so exactly where the writer answers 65;
 -- the number of an offence and the number of its record, exactly if that record offends and none before it in store order does: 67 if it has a label, 68 if it has none;
 -- else that nothing is wrong.
-use Rattle.std.specs.Prelude.{◌≡◌, ◌↔◌, true, List, [], ◌∷◌, ℕ, zero, suc, ◌+◌, ◌*◌, ◌%◌, ◌<◌, get_or}
+use Rattle.std.specs.Prelude.{◌≡◌, ◌↔◌, true, List, [], ◌∷◌, ℕ, zero, suc, ◌+◌, ◌*◌, ◌%◌, ◌<◌, get_or, Option, Some, None}
 use Rattle.std.proofs.Math.Path.{refl}
 use Rattle.std.proofs.Common.{sym, ap, ◌∙◌, subst, true≢false, arith}
 use Rattle.tree.specs.Tree.{Tree, records}
-use Rattle.tree.specs.Maybe.{Maybe, nothing, just}
 use Rattle.tree.specs.Decode.{decode}
-use Rattle.tree.specs.Records.{nothing_just, just_same}
 use Rattle.grammar.specs.Reading.Limit.{no_statement}
 use Rattle.grammar.specs.Reading.Result.{ifb}
 use Rattle.grammar.specs.Canonical.Writing.{readable, write_stmt}
@@ -17,9 +15,8 @@ use Rattle.grammar.proofs.Laws.Facts.{not_true, by_test}
 use Rattle.grammar.specs.Given.{Given}
 use Rattle.grammar.proofs.Laws.Small.{valid_small}
 use Rattle.writer.specs.Promise.{said, answers_65 as writer_answers_65, given_valid, readable_given, given_decoded, decoded_given}
-use Rattle.std.specs.declared.option.Option.{Option}
-use Rattle.std.specs.declared.option.Option.TheVariants.{Some, None}
 use Rattle.std.specs.declared.result.Result.TheVariants.{Ok, Err}
+use Rattle.std.proofs.lemmas.Option.{none-some, same_Some}
 use Rattle.labels.specs.declared.Offence.{Offence}
 use Rattle.labels.specs.declared.Offence.TheVariants.{Labelled, Unlabelled}
 use Rattle.labels.specs.declared.Refusal.TheVariants.{NoStatement, Offends}
@@ -100,9 +97,9 @@ module _ (words : List ℕ) where
   unfolding check_labels ifb
   not_given_is n = go (decode words) refl
     where
-      go : (d : Maybe Tree) → decode words ≡ d → check_labels words ≡ Err NoStatement
-      go nothing d = rw d
-      go (just t) d = rw (d, not_true (readable t) (λ r. n (decoded_given d r)))
+      go : (d : Option Tree) → decode words ≡ d → check_labels words ≡ Err NoStatement
+      go None d = rw d
+      go (Some t) d = rw (d, not_true (readable t) (λ r. n (decoded_given d r)))
 
   -- the check's answer is that of any outcome that there can be
   pub sole : {a : Labels} → Outcome words a → check_labels words ≡ a
@@ -122,12 +119,12 @@ module _ (words : List ℕ) where
   pub outcome : Outcome words (check_labels words)
   outcome = go (decode words) refl
     where
-      go : (d : Maybe Tree) → decode words ≡ d → Outcome words (check_labels words)
-      go nothing e = is (not_given (λ g. nothing_just (sym e ∙ given_decoded g)))
-      go (just t) e =
+      go : (d : Option Tree) → decode words ≡ d → Outcome words (check_labels words)
+      go None e = is (not_given (λ g. absurd (none-some _ (sym e ∙ given_decoded g))))
+      go (Some t) e =
           by_test (readable t)
           (λ r. let g = decoded_given e r in given_outcome g (first_is 0 (offences [] g.tree)))
-          (λ r. is (not_given (λ g. true≢false (sym (readable_given g) ∙ ap readable (just_same (sym (given_decoded g) ∙ e)) ∙ r))))
+          (λ r. is (not_given (λ g. true≢false (sym (readable_given g) ∙ ap readable (same_Some _ _ (sym (given_decoded g) ∙ e)) ∙ r))))
 
 -- ---------------------------------------------------------------- the record that is answered
 -- it is a break or a continue, and the offence says whether it has a label
