@@ -39,9 +39,6 @@ pub data Outcome (words : List ℕ) : Labels → Type 0 where
   offends : (g : Given words) {i : ℕ} {o : Offence} → First g.tree i o → Outcome words (Err (Offends o i))
   fine : (g : Given words) → Clean g.tree → Outcome words (Ok tt)
 
-some_none : {o : Offence} → Some o ≡ None → ⊥
-some_none e = cc
-
 -- ---------------------------------------------------------------- the first of some offences
 pub data FirstAs (k : ℕ) (os : List (Option Offence)) : Labels → Type 0 where
   one : {o : Offence} (i : ℕ) → get_or os i None ≡ Some o → ((j : ℕ) → j < i → get_or os j None ≡ None) → FirstAs k os (Err (Offends o (k + i)))
@@ -74,7 +71,7 @@ first_is k (Some o ∷ os) =
 -- there is no other
 first_one : (k : ℕ) (os : List (Option Offence)) (i : ℕ) (o : Offence) → get_or os i None ≡ Some o → ((j : ℕ) → j < i → get_or os j None ≡ None) → first k os ≡ Err (Offends o (k + i))
 unfolding first
-first_one k [] i o h b = absurd (some_none (sym h))
+first_one k [] i o h b = absurd (none-some _ h)
 first_one k (m ∷ os) zero o h b =
     let z : k + 0 ≡ k = omega arith in
     rw (z, h)
@@ -136,13 +133,13 @@ offence_says : (r : List Enclosing) (k l : ℕ) {o : Offence} → offence r k l 
 unfolding offence
 offence_says r k l {o} e =
     by_test (is_jump k)
-    (λ j. by_test (any_serves k l r) (λ a. absurd (some_none (sym e ∙ rw (j, a)))) λ a. let s : Some o ≡ Some (offender l) = sym e ∙ rw (j, a) in (j, cc))
-    (λ j. absurd (some_none (sym e ∙ rw j)))
+    (λ j. by_test (any_serves k l r) (λ a. absurd (none-some _ (sym (rw (j, a)) ∙ e))) λ a. let s : Some o ≡ Some (offender l) = sym e ∙ rw (j, a) in (j, cc))
+    (λ j. absurd (none-some _ (sym (rw j) ∙ e)))
 
 behind_at : (L : List ℕ) (i : ℕ) {o : Offence} → get_or (behind L) i None ≡ Some o → Points L i o
 unfolding behind
-behind_at [] i e = absurd (some_none (sym e))
-behind_at (w ∷ []) i e = absurd (some_none (sym e))
+behind_at [] i e = absurd (none-some _ e)
+behind_at (w ∷ []) i e = absurd (none-some _ e)
 behind_at (w ∷ v ∷ r) zero e = let o = offence_says (enclosing 1 r) (w % 256) v e in record { jump = o.0; label = o.1 }
 behind_at (w ∷ v ∷ r) (suc i) e =
     let p = behind_at r i e in

@@ -9,7 +9,8 @@ use borrow.Author.Tests.{eqb-true, eqb-false}
 use lib.Dec.{eqb}
 use lib.ListN.{length, take, drop, get_or, length-append, length-take, length-drop, take-append-drop}
 use lib.Seq.{take-take, take-add, take_at, drop_at, drop-drop, drop-append-add, length-take-le}
-use Rattle.std.specs.Prelude.{Option, Some, None}
+use Rattle.std.specs.Prelude.{Option, Some}
+use Rattle.std.proofs.lemmas.Option.{none-some}
 use Rattle.tree.specs.NodeKind
 use Rattle.tree.specs.Tree.{Tree, Forest, node, one, two, count, records}
 use Rattle.tree.specs.Rows.{end, on, rows, push, Starts, rows_push}
@@ -51,15 +52,12 @@ module _ {from to dest : ℕ} {S S' : List ℕ} (p : Copied from to dest S S') w
   copied_then : (m n : ℕ) → dest ≡ m → dest + (to - from) ≡ n → drop m S' ≡ drop from (take to S) ++ drop n S
   copied_then m n d e = ap (λ (k : ℕ). drop k S') (sym d) ∙ p.onward ∙ ap (λ (k : ℕ). drop from (take to S) ++ drop k S) e
 
-some_not : {p : Tree} (m : Option Tree) → m ≡ Some p → m ≡ None → ⊥
-some_not m a b = let z : ◌≡◌ {A = ℕ} 0 1 = cc in omega arith
-
 -- an access that is a pattern has a path, and an attribute or an index last
 shape_from : {C S : List ℕ} {i : ℕ} {t : Tree} {p : Tree} → i ≤ length S → Receives C S i t → conv t pattern ≡ Some p → Shape C S i t
 shape_from {S = S} {i = i} {t = t} h q e =
     by_test (has_members (get_or S (i - 4) 0))
     (λ z. let l = some_members _ z in shape_of h q l.0 l.1)
-    (λ z. absurd (some_not (conv t pattern) e (path_none q z)))
+    (λ z. absurd (none-some _ (sym (path_none q z) ∙ e)))
 
 module _ {B : List ℕ} {p : Tree} {S : List ℕ} {i w : ℕ} (a : Access B p S i w) where
   pub reach : i ≤ length S
@@ -72,7 +70,7 @@ module _ {B : List ℕ} {p : Tree} {S : List ℕ} {i w : ℕ} (a : Access B p S 
   pub sure_index : (get_or S (i - 6) 0 ≡ Word.Attribute → ⊥) → get_or S (i - 6) 0 ≡ Word.Index
   sure_index n =
       by_test (eqb (get_or S (i - 6) 0) Word.Index) (λ z. eqb-true _ _ z)
-      (λ z. absurd (some_not (conv a.tree pattern) a.same (no_item_step sure_shape n (eqb-false _ _ z))))
+      (λ z. absurd (none-some _ (sym (no_item_step sure_shape n (eqb-false _ _ z)) ∙ a.same)))
 
 -- the words of the two patterns
 attribute_records : (v : ℕ) (t : Tree) (w : ℕ) (f : Forest) (x : ℕ) (Z : List ℕ) → rows (push (on end t) f) ++ (NodeKind.List + 256 * count f) ∷ w ∷ Word.Primary ∷ v ∷ Word.AttributePattern ∷ x ∷ Z ≡ records (node NodeKind.AttributePattern x (one (receiver v t w f))) ++ Z
@@ -188,8 +186,8 @@ sure_tuple {m = m} {S = S} {i = i} h x e a b c d =
     by_test (eqb (get_or S (i - 2) 0) Word.Tuple)
     (λ z. by_test (has_members (get_or S (i - 4) 0))
     (λ y. let l = some_members _ y in record { tuple = eqb-true _ _ z; list = l.0; some = l.1 })
-    (λ y. absurd (some_not m e (tuple_none h x (eqb-true _ _ z) y))))
-    (λ z. absurd (some_not m e (no_pattern x a b c (eqb-false _ _ z) d)))
+    (λ y. absurd (none-some _ (sym (tuple_none h x (eqb-true _ _ z) y) ∙ e))))
+    (λ z. absurd (none-some _ (sym (no_pattern x a b c (eqb-false _ _ z) d) ∙ e)))
 
 -- what an unpack or a tuple becomes is a record or two
 over_size : (a b : Bool) (x v : ℕ) → (2 ≤ length (over_as a b x v)) × (length (over_as a b x v) ≤ 4)
@@ -239,7 +237,7 @@ over_two {S = S} {w = w} {a = a} {b = b} h p q e =
     }
 
 pub sure_pat : {m : Option Tree} {B S Y : List ℕ} {i : ℕ} {p : Tree} → (x : View m B S i Y) → m ≡ Some p → Is (conv x.tree pattern)
-sure_pat {m = m} x e = top_pat x (some_not m e)
+sure_pat x e = top_pat x (λ z. none-some _ (sym z ∙ e))
 
 -- what stands up to i is no shorter than what stands before the trees
 pub not_below : {m : Option Tree} {B Y : List ℕ} (S : List ℕ) (i : ℕ) → i ≤ length S → Ahead m B (take i S) Y → length B ≤ i

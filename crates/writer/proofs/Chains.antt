@@ -7,10 +7,11 @@ use native.Mathlib.Omega.{arith}
 use lib.Dec.{eqb, ltb}
 use borrow.Author.Tests.{eq-eqb, ne_eqb}
 use Rattle.std.specs.Prelude.{Option, Some, None}
+use Rattle.std.specs.Option.{option_map_or}
 use Rattle.tree.specs.NodeKind
 use Rattle.tree.specs.Tree.{Tree, Forest, node, none, more}
 use Rattle.tables.specs.Kinds.{passes}
-use Rattle.writer.specs.Stack.{SpotAs, Spot, Somewhere, Says, LastOf, KidOf, kid_in, maybe}
+use Rattle.writer.specs.Stack.{SpotAs, Spot, Somewhere, Says, LastOf, KidOf, kid_in}
 use Rattle.tables.specs.Children.{kind_in, count_in, value_in, last_tree, last_in}
 use Rattle.tables.specs.Check.{begins_labelled, first_labelled, ends_single, last_single}
 use Rattle.writer.proofs.Laws.{at_many}
@@ -54,30 +55,30 @@ pub labelled_first : (k v : ℕ) (f : Forest) → passes k ≡ true → begins_l
 unfolding begins_labelled
 labelled_first k v f p = rw p
 
-pub labelled_down : (m : Option Tree) → passes (kind_in m) ≡ true → maybe false begins_labelled m ≡ maybe false begins_labelled (kid_in 1 m)
+pub labelled_down : (m : Option Tree) → passes (kind_in m) ≡ true → option_map_or begins_labelled m false ≡ option_map_or begins_labelled (kid_in 1 m) false
 unfolding begins_labelled
 labelled_down None p = refl
 labelled_down (Some (node k v none)) p = rw p
 labelled_down (Some (node k v (more t f))) p = rw p
 
-pub labelled_here : (m : Option Tree) → passes (kind_in m) ≡ false → maybe false begins_labelled m ≡ eqb (kind_in m) NodeKind.Block && ltb 0 (value_in m)
+pub labelled_here : (m : Option Tree) → passes (kind_in m) ≡ false → option_map_or begins_labelled m false ≡ eqb (kind_in m) NodeKind.Block && ltb 0 (value_in m)
 unfolding begins_labelled
 labelled_here None p = refl
 labelled_here (Some (node k v f)) p = rw p
 
 -- ---------------------------------------------------------------- how it ends
-last_is : (f : Forest) → last_single f ≡ maybe false ends_single (last_tree f)
+last_is : (f : Forest) → last_single f ≡ option_map_or ends_single (last_tree f) false
 unfolding ends_single last_tree
 last_is none = refl
 last_is (more t none) = refl
 last_is (more t (more u f)) = last_is (more u f)
 
-pub single_down : (m : Option Tree) → kind_in m ≡ NodeKind.Assignment → maybe false ends_single m ≡ maybe false ends_single (last_in m)
+pub single_down : (m : Option Tree) → kind_in m ≡ NodeKind.Assignment → option_map_or ends_single m false ≡ option_map_or ends_single (last_in m) false
 unfolding ends_single last_tree
 single_down None e = refl
 single_down (Some (node k v f)) e = rw (eq-eqb k NodeKind.Assignment e) (last_is f)
 
-pub single_here : (m : Option Tree) → (kind_in m ≡ NodeKind.Assignment → ⊥) → maybe false ends_single m ≡ eqb (kind_in m) NodeKind.Tuple && eqb (count_in (last_in m)) 1
+pub single_here : (m : Option Tree) → (kind_in m ≡ NodeKind.Assignment → ⊥) → option_map_or ends_single m false ≡ eqb (kind_in m) NodeKind.Tuple && eqb (count_in (last_in m)) 1
 unfolding ends_single
 single_here None n = refl
 single_here (Some (node k v f)) n = rw (ne_eqb k NodeKind.Assignment n)

@@ -8,12 +8,13 @@ use native.Mathlib.Decide.{ℕ_discrete}
 use lib.Dec.{eqb}
 use borrow.Author.Tests.{eq-eqb, ne_eqb}
 use Rattle.std.specs.Prelude.{Option, Some, None}
+use Rattle.std.specs.Option.{option_map_or}
 use Rattle.tree.specs.NodeKind
 use Rattle.tree.specs.Tree.{Tree, Forest, node, none, more, kind_of, head_kind}
 use Rattle.grammar.specs.Canonical.Write.{tail_of, target_atom, target_items, target_path, target_receiver, is_target, has_function}
 use Rattle.grammar.specs.Reading.Function.{target_name}
 use Rattle.tables.specs.Kinds.{target_item, name_is, gives_name}
-use Rattle.writer.specs.Stack.{Skipped, SpotAs, Spot, Somewhere, Says, KidOf, nth_tree, kid_in, push, maybe}
+use Rattle.writer.specs.Stack.{Skipped, SpotAs, Spot, Somewhere, Says, KidOf, nth_tree, kid_in, push}
 use Rattle.tables.specs.Children.{kind_in, value_in, children_in, first_tree}
 use Rattle.tables.specs.Check.{name_given, function_form}
 use Rattle.writer.specs.Verdict.{Fit}
@@ -67,7 +68,7 @@ pub receiver_is : (f : Forest) → target_receiver f ≡ target_atom (head_kind 
 receiver_is none = refl
 receiver_is (more (node k v f) g) = refl
 
-pub target_is : (m : Option Tree) → maybe false is_target m ≡ eqb (kind_in m) NodeKind.IdentifierPattern || ((eqb (kind_in m) NodeKind.AttributePattern || eqb (kind_in m) NodeKind.IndexPattern) && target_receiver (children_in m))
+pub target_is : (m : Option Tree) → option_map_or is_target m false ≡ eqb (kind_in m) NodeKind.IdentifierPattern || ((eqb (kind_in m) NodeKind.AttributePattern || eqb (kind_in m) NodeKind.IndexPattern) && target_receiver (children_in m))
 target_is None = refl
 target_is (Some (node k v f)) = refl
 
@@ -100,7 +101,7 @@ name_same k v n = go (eqb k NodeKind.IdentifierPattern)
     go false = refl
 
 pub has_is : (f : Forest) → kind_in (first_tree (tail_of f)) ≡ NodeKind.FunctionDef → (first_tree (children_in (first_tree (tail_of f))) ≡ None → ⊥)
-    → has_function f ≡ gives_name (kind_in (first_tree f)) (value_in (first_tree f)) (name_given f) && maybe false is_target (first_tree f)
+    → has_function f ≡ gives_name (kind_in (first_tree f)) (value_in (first_tree f)) (name_given f) && option_map_or is_target (first_tree f) false
 has_is none e n = absurd (n refl)
 has_is (more p none) e n = absurd (n refl)
 has_is (more p (more (node k v none) f)) e n = absurd (n refl)
@@ -111,7 +112,7 @@ has_is (more (node k v h) (more (node j w (more (node a b c) d)) f)) e n = ap (�
 pub record Behind (L : List ℕ) (p b n : ℕ) : Type 0 where
   pub target : (m : Option Tree) (s : List Tree) → Spot L p m s → Spot L b (kid_in 1 m) s
   pub name : Says L p (λ m. value_in (kid_in 1 (kid_in 2 m))) n
-  pub form : (m : Option Tree) (s : List Tree) → Spot L p m s → has_function (children_in m) ≡ gives_name (kind_in (kid_in 1 m)) (value_in (kid_in 1 m)) n && maybe false is_target (kid_in 1 m)
+  pub form : (m : Option Tree) (s : List Tree) → Spot L p m s → has_function (children_in m) ≡ gives_name (kind_in (kid_in 1 m)) (value_in (kid_in 1 m)) n && option_map_or is_target (kid_in 1 m) false
 
 -- the target's records end where those of the function begin, which begin with its signature's
 pub behind : {L : List ℕ} {p q z b k n : ℕ} → KidOf L p 2 q → KidOf L q 1 z → Says L q kind_in k → k ≡ NodeKind.FunctionDef → (z ≡ 0 → ⊥) → Skipped L z b → Says L z value_in n → Behind L p b n
@@ -144,7 +145,7 @@ module _ {L : List ℕ} {p b n : ℕ} (w : Behind L p b n) where
     unnamed e = record { how = λ m s h. rw (w.form m s h, ← ge.how _ _ (w.target m s h), e) }
 
     -- it is: then by whether the target can be one, and by whether there is a name
-    pub named : {r a z : Bool} → g ≡ true → Says L b (maybe false is_target) r → a ≡ r → z ≡ eqb n 0 → Says L p (λ m. function_form (children_in m)) (cond a (cond z 1 2) 0)
+    pub named : {r a z : Bool} → g ≡ true → Says L b (λ m. option_map_or is_target m false) r → a ≡ r → z ≡ eqb n 0 → Says L p (λ m. function_form (children_in m)) (cond a (cond z 1 2) 0)
     unfolding function_form
     named e t ae ze =
         record {

@@ -7,13 +7,14 @@ use native.Mathlib.Omega.{arith}
 use lib.Dec.{eqb}
 use lib.ListN.{length}
 use Rattle.std.specs.Prelude.{Some}
+use Rattle.std.specs.Option.{option_map_or}
 use Rattle.tree.specs.Tree.{Tree, Forest, node, none, more}
 use Rattle.tree.specs.Records.{stack_records, back}
 use Rattle.tables.specs.Demand.{demand, fits}
 use Rattle.tables.specs.Kinds.{unlabelled, closed}
 use Rattle.tables.specs.Sound.{sound}
 use Rattle.tables.specs.Class as Class
-use Rattle.writer.specs.Stack.{At, maybe}
+use Rattle.writer.specs.Stack.{At}
 use Rattle.tables.specs.Children.{kind_in, count_in, value_in, children_in}
 use Rattle.tables.specs.Check.{class_of, mode_of, begins_labelled, ends_single, banned, kids_fit, node_fits, all_fit, all_fits, legal_tree}
 use Rattle.writer.proofs.Laws.{pop, at_many, at_length}
@@ -26,7 +27,7 @@ not_or false b = refl
 
 -- by what was asked in turn: the class, how it begins, how it ends
 pub kid_is : (t : Tree) (asked k v : ℕ) {c : ℕ} {g a b : Bool} → c ≡ class_of t → g ≡ fits asked c → a ≡ unlabelled k v && begins_labelled t
-    → b ≡ not (closed k) && maybe false ends_single (Some t) → g && (not a && not b) ≡ fits asked (class_of t) && not (banned k v t)
+    → b ≡ not (closed k) && option_map_or ends_single (Some t) false → g && (not a && not b) ≡ fits asked (class_of t) && not (banned k v t)
 kid_is t asked k v {a = a} {b = b} ce ge ae be = rw (← not_or a b, ge, ae, be, ce)
 
 -- ---------------------------------------------------------------- one node

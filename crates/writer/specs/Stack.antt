@@ -43,11 +43,6 @@ pub record Somewhere (L : List ℕ) (p : ℕ) : Type 0 where
   pub rest : List Tree
   pub spot : Spot L p tree rest
 
--- what is to be said of a tree, and something else where there is none
-abbrev pub maybe : {A : Type 0} → A → (Tree → A) → Option Tree → A
-maybe a g None = a
-maybe a g (Some t) = g t
-
 -- the answer r is what is to be said of the tree at p
 pub record Says {A : Type 0} (L : List ℕ) (p : ℕ) (what : Option Tree → A) (r : A) : Type 0 where
   pub how : (m : Option Tree) (s : List Tree) → Spot L p m s → r ≡ what m

@@ -1,8 +1,9 @@
 // `fun` with a target: whether it can give an assignment, and which trees serve it.
 ghost use Rattle.std.specs.Prelude.{false, ◌&&◌};
+ghost use Rattle.std.specs.Option.{option_map_or};
 ghost use Rattle.tree.specs.Tree.{head_kind};
 ghost use Rattle.grammar.specs.Canonical.Write.{tail_of, target_atom as target_atom_def, target_items as target_items_def, target_path, is_target as is_target_def};
-ghost use Rattle.writer.specs.Stack.{Here, Somewhere, Says, Skipped, kid_in, maybe};
+ghost use Rattle.writer.specs.Stack.{Here, Somewhere, Says, Skipped, kid_in};
 ghost use Rattle.writer.specs.Standing.{Tells, first_of, name_serves, serves as serves_def};
 ghost use Rattle.tables.specs.Children.{kind_in, value_in, children_in};
 ghost use Rattle.tables.specs.Kinds.{gives_name as gives_name_def};
@@ -54,7 +55,7 @@ pub fn target_receiver(records: &[u64], p: usize) -> bool
 // Whether the pattern that ends at p can be a target.
 fn is_target(records: &[u64], p: usize) -> bool
     requires { Somewhere records.now p }
-    ensures { Says records.now p (maybe false is_target_def) result }
+    ensures { Says records.now p (λ m. option_map_or is_target_def m false) result }
 {
     let receiver = kid_of(records, p, 1);
     match kind_at(records, p) {

@@ -5,9 +5,9 @@ use Prim.Native.Nat.{◌-◌, ◌≤◌}
 use native.Mathlib.Omega.{arith}
 use borrow.Author.Tests.{eq-eqb, ne_eqb}
 use Rattle.std.specs.Prelude.{Some}
+use Rattle.std.specs.Option.{option_map_or}
 use Rattle.tables.specs.Kinds.{passes}
 use Rattle.tables.specs.Check.{begins_labelled, first_labelled}
-use Rattle.writer.specs.Stack.{maybe}
 use Rattle.writer.specs.Standing.{On}
 use Rattle.writer.proofs.Places.{stands, no_first}
 use Rattle.writer.proofs.Chains.{labelled_down, labelled_first, labelled_here}
@@ -39,7 +39,7 @@ count_at-n-requires c = node_place c.requires.0
 pub returns-then-n-eq0 : goal.returns-then-n-eq0
 returns-then-n-eq0 c = let k = c.kind_at-kind.ensures in
     let n = c.count_at-n.ensures in
-    record { how = λ t s a. sym (labelled_down (Some t) (rw (← k.how _ s (stands a)) (first_begins (goal.at.returns-then-n-eq0 c).Then-passes)) ∙ ap (maybe false begins_labelled) (no_first t (sym (n.how _ s (stands a)) ∙ c.if-n-eq0.true))) }
+    record { how = λ t s a. sym (labelled_down (Some t) (rw (← k.how _ s (stands a)) (first_begins (goal.at.returns-then-n-eq0 c).Then-passes)) ∙ ap (λ m. option_map_or begins_labelled m false) (no_first t (sym (n.how _ s (stands a)) ∙ c.if-n-eq0.true))) }
 
 pub overflow_sub-h : goal.overflow_sub-h
 overflow_sub-h c = omega (arith, (first_one (goal.at.overflow_sub-h c).Else-n-eq0).2)
