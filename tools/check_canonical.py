@@ -27,9 +27,8 @@ ROOT = os.path.dirname(os.path.dirname(os.path.abspath(__file__)))
 # of grammar, what its specs/ and its proofs/ keep: the definitions of reading and of canonical tokens, and the table of sheets, which defines `canonical`
 KEPT = {"specs": ("Reading", "Canonical", "Levels"), "proofs": ("Sheets",)}
 HEADER = """-- Scratch: sheets and what they come to.
-use Rattle.std.specs.Prelude.{◌≡◌, refl, Bool, true, List, [], ◌∷◌, ℕ}
+use Rattle.std.specs.Prelude.{◌≡◌, refl, Bool, true, List, [], ◌∷◌, ℕ, Option, Some, option_and_then}
 use Rattle.tree.specs.Tree.{all_records}
-use Rattle.tree.specs.Maybe.{Maybe, just, bindM}
 use Rattle.grammar.specs.Reading.Limit.{depth_limit}
 use Rattle.grammar.specs.Canonical.Write.{run}
 use Rattle.grammar.specs.Canonical.Writing.{clean_reading, same_words}
@@ -39,13 +38,13 @@ abbrev each : {A : Type 0} → (List ℕ → A) → List (List ℕ) → List A
 each f [] = []
 each f (s ∷ ss) = f s ∷ each f ss
 
-unfoldable again : List ℕ → Maybe Bool
+unfoldable again : List ℕ → Option Bool
 unfolding canonical
 again ts =
-    bindM (clean_reading depth_limit ts) λ f. bindM (clean_reading depth_limit (run f)) λ g. just (same_words (all_records f) (all_records g))
+    option_and_then (λ f. option_and_then (λ g. Some (same_words (all_records f) (all_records g))) (clean_reading depth_limit (run f))) (clean_reading depth_limit ts)
 
-abbrev always : List ℕ → Maybe Bool
-always ts = just true
+abbrev always : List ℕ → Option Bool
+always ts = Some true
 """
 
 
@@ -99,7 +98,7 @@ def scratch_module(pairs, clean, chunk):
     text = HEADER
     for n in range(0, len(pairs), chunk):
         part = pairs[n:n + chunk]
-        wanted = list_of("just " + text_of(canonical) for _, canonical in part)
+        wanted = list_of("Some " + text_of(canonical) for _, canonical in part)
         text += theorem("written_%d" % n, "each canonical " + list_of(text_of(sheet) for sheet, _ in part), wanted, "canonical")
         text += theorem("rewritten_%d" % n, "each canonical " + list_of(text_of(canonical) for _, canonical in part), wanted, "canonical")
     for n in range(0, len(clean), chunk):

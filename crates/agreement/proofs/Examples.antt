@@ -3,13 +3,12 @@
 -- `) a b` from a reader behind `)` with an error that waits, once that was handed over. `) a b` behind a call that passed over `a` has those of `b`.
 -- `(a)` and `a` have other canonical tokens, and other remaining answers. Of `)` nothing is supposed: it is not clean. And of an entry that answers rightly and
 -- leaves its reader where it was the contract does not hold: `not_moved`.
-use Rattle.std.specs.Prelude.{◌≡◌, refl, ◌≢◌, Bool, true, false, List, [], ◌∷◌, ℕ, suc, ◌*◌, ◌%◌, ◌≤◌, eqb, length, replicate}
+use Rattle.std.specs.Prelude.{◌≡◌, refl, ◌≢◌, Bool, true, false, List, [], ◌∷◌, ℕ, suc, ◌*◌, ◌%◌, ◌≤◌, eqb, length, replicate, Some, None}
 use Rattle.std.proofs.Common.{sym, ap, subst, arith, eqb-true, length-drop}
+use Rattle.std.proofs.lemmas.Option.{none-some}
 use Rattle.token.specs.Kind
 use Rattle.tree.specs.Tree.{Tree, Forest, none, more, one, records}
 use Rattle.tree.specs.Node
-use Rattle.tree.specs.Maybe.{nothing, just}
-use Rattle.tree.specs.Records.{nothing_just}
 use Rattle.grammar.specs.Reading.Limit.{depth_limit, length_limit}
 use Rattle.grammar.specs.Reading.Number
 use Rattle.grammar.specs.Reading.Result.{ifb}
@@ -47,13 +46,13 @@ made T R [] = record { given = []; ran = no_call }
 made T R (c ∷ cs) = let m = made T (next_stmt R T (length c.store)).step.reader cs in record { given = _; ran = a_call (gives_own c.entry R T c.store) m.ran }
 
 -- a clean reading is of whole tokens
-clean_even : (ts : List ℕ) {f : Forest} → clean_reading depth_limit ts ≡ just f → length ts % 2 ≡ 0
+clean_even : (ts : List ℕ) {f : Forest} → clean_reading depth_limit ts ≡ Some f → length ts % 2 ≡ 0
 unfolding clean_reading ifb
 clean_even ts {f} e = go (eqb (length ts % 2) 0) refl e
   where
-    go : (b : Bool) → eqb (length ts % 2) 0 ≡ b → ifb b (λ _. clean_from depth_limit (suc (length ts)) ts) (λ _. nothing) ≡ just f → length ts % 2 ≡ 0
+    go : (b : Bool) → eqb (length ts % 2) 0 ≡ b → ifb b (λ _. clean_from depth_limit (suc (length ts)) ts) (λ _. None) ≡ Some f → length ts % 2 ≡ 0
     go true x e = eqb-true _ _ x
-    go false x e = nothing_just e
+    go false x e = absurd (none-some _ e)
 
 -- trees and the end are no faults, and no stop with 62
 no_fault : (f : Forest) → NoFault (answers_of f)
@@ -67,7 +66,7 @@ lacks_answers none = lacks_more {a = end} (λ e. let z : ◌≡◌ {A = ℕ} 0 1
 lacks_answers (more t f) = lacks_more {a = tree (records t)} (λ e. let z : ◌≡◌ {A = ℕ} 0 1 = cc in omega arith) (lacks_answers f)
 
 -- what the theorem supposes holds of a reader and some calls, where what they leave reads cleanly and is not too long or too deep
-sheet_left : (T : List ℕ) (R : Reader) (cs : List Call) (f : Forest) → length T ≤ 2 * length_limit → Accepted T R → NonePending (defined T R cs) → clean_reading depth_limit (unread T (defined T R cs)) ≡ just f
+sheet_left : (T : List ℕ) (R : Reader) (cs : List Call) (f : Forest) → length T ≤ 2 * length_limit → Accepted T R → NonePending (defined T R cs) → clean_reading depth_limit (unread T (defined T R cs)) ≡ Some f
     → length (run f) ≤ 2 * length_limit → need (Node.list f) own ≤ depth_limit → Left
 sheet_left T R cs f h a c e l d =
     let m = made T R cs in
@@ -189,7 +188,7 @@ other_grouped xs ys h i e =
 -- `)` is no clean sheet, so the theorem supposes nothing of it
 pub not_clean : (xs : List Seen) → Afresh (symbol Kind.CloseParen eof) xs → NoFault xs → ⊥
 unfolding Sheets.canonical
-not_clean xs r g = nothing_just (clean_is refl (faultless r g (before_fresh refl (omega arith))).clean)
+not_clean xs r g = absurd (none-some _ (clean_is refl (faultless r g (before_fresh refl (omega arith))).clean))
 
 -- an entry that answers the first statement of `a b` rightly, and leaves the reader where it was, does not meet its contract
 pub not_moved : (entry : Entry) (answer : Answer) (store : List ℕ) → Gives entry fresh (name 0 (name 1 eof)) (replicate 48 7) (record { step = record { answer = answer; reader = fresh }; store = store }) → ⊥

@@ -1,9 +1,8 @@
 -- Document 02, P1: what advisers rely on of each tree that is returned, by either entry, from any reader, also of one that comes before errors that wait: how its operators stand by their
 -- levels, of the tree and of the records that the store holds (`levels`). Who goes over any tree's records, as `in_order` does, learns it of that tree (`scan_says`). Assumes nothing.
-use Rattle.std.specs.Prelude.{◌≡◌, refl, true, List, [], ◌++◌, ℕ, ◌-◌, ◌*◌, ◌/◌, length, take, replicate}
+use Rattle.std.specs.Prelude.{◌≡◌, refl, true, List, [], ◌++◌, ℕ, ◌-◌, ◌*◌, ◌/◌, length, take, replicate, Some}
 use Rattle.std.proofs.Common.{arith, take_at}
 use Rattle.tree.specs.Tree.{Tree, records}
-use Rattle.tree.specs.Maybe.{just}
 use Rattle.tree.specs.Decode.{decode}
 use Rattle.tree.specs.Records.{records_length, decode_records, decode_text}
 use Rattle.grammar.specs.Levels.{in_order}
@@ -32,7 +31,7 @@ pub levels : (entry : Entry) (R : Reader) (T S : List ℕ) (g : Called) → Give
 levels entry R T S g k = rw (given_is entry R T S g k) (outcome_of_tree _ (length S) (λ t h. stored (length S) h) (outcome R T (length S)))
 
 -- of any words that are a tree's records: where the scan passes, the operators stand by their levels
-pub scan_says : (words : List ℕ) {t : Tree} → decode words ≡ just t → in_order [] words ≡ true → Ordered t
+pub scan_says : (words : List ℕ) {t : Tree} → decode words ≡ Some t → in_order [] words ≡ true → Ordered t
 scan_says words d e =
     let (text, small) = decode_text d in
     leveled_ordered (in_order_leveled small (rw text e))

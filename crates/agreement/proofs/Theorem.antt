@@ -1,9 +1,8 @@
 -- Demand 3: what Statement.antt says holds of any two sheets and any calls on them. Assumes nothing.
-use Rattle.std.specs.Prelude.{◌≡◌, refl, ◌↔◌, List, [], ℕ, ◌*◌, ◌-◌, ◌%◌, ◌≤◌, length}
+use Rattle.std.specs.Prelude.{◌≡◌, refl, ◌↔◌, List, [], ℕ, ◌*◌, ◌-◌, ◌%◌, ◌≤◌, length, Some}
 use Rattle.std.proofs.Common.{sym, ap, ◌∙◌, subst, arith, length-drop}
 use Rattle.tree.specs.Tree.{Forest, records}
 use Rattle.tree.specs.Node
-use Rattle.tree.specs.Maybe.{just}
 use Rattle.tree.specs.Records.{records_same}
 use Rattle.grammar.specs.Reading.Limit.{depth_limit}
 use Rattle.grammar.specs.Reading.Next.{Accepted, fresh}
@@ -28,7 +27,7 @@ use Rattle.agreement.proofs.Laws.Writer.{rewritten}
 -- what is known of one sheet
 record Known (s : Left) : Type 0 where
   before : Before s.sheet s.after (part s)
-  given : clean_reading depth_limit (part s) ≡ just (trees_of (part s))
+  given : clean_reading depth_limit (part s) ≡ Some (trees_of (part s))
   clean : Clean (part s) (trees_of (part s))
   answered : s.answers ≡ answers_of (trees_of (part s))
   valid : Valids stmt (trees_of (part s))

@@ -1,7 +1,6 @@
 -- Answers as they are compared, readings to the first end, and canonical tokens. Definitions; they assume nothing.
-use Rattle.std.specs.Prelude.{◌≡◌, ◌≢◌, Bool, true, false, List, [], ◌∷◌, ℕ, ◌*◌, ◌-◌, ◌/◌, ◌≤◌, length, take}
+use Rattle.std.specs.Prelude.{◌≡◌, ◌≢◌, Bool, true, false, List, [], ◌∷◌, ℕ, ◌*◌, ◌-◌, ◌/◌, ◌≤◌, length, take, unwrap_or}
 use Rattle.tree.specs.Tree.{Forest, none, more, records}
-use Rattle.tree.specs.Maybe.{Maybe, nothing, just}
 use Rattle.grammar.specs.Reading.Limit.{depth_limit, length_limit, store_share, too_deep, short_store}
 use Rattle.grammar.specs.Reading.Next.{Called, number, fresh, next_stmt}
 use Rattle.grammar.specs.Canonical.Write.{run}
@@ -73,14 +72,9 @@ unfoldable pub answers_of : Forest → List Seen
 answers_of none = end ∷ []
 answers_of (more t f) = tree (records t) ∷ answers_of f
 
--- the trees of a reading, none if it was not clean
-abbrev pub forest : Maybe Forest → Forest
-forest nothing = none
-forest (just f) = f
-
--- the trees that the definition gives for a sheet: those of its clean reading at the depth limit
+-- the trees that the definition gives for a sheet: those of its clean reading at the depth limit, none if it has none
 abbrev pub trees_of : List ℕ → Forest
-trees_of sheet = forest (clean_reading depth_limit sheet)
+trees_of sheet = unwrap_or (clean_reading depth_limit sheet) none
 
 -- a sheet's canonical tokens: the run for these trees, `EOF` alone if there are none
 abbrev pub canonical : List ℕ → List ℕ

@@ -7,10 +7,11 @@ use native.Mathlib.Omega.{arith}
 use lib.Dec.{eqb}
 use lib.ListN.{length, take, drop}
 use borrow.Author.Tests.{eq-eqb, ne_eqb, eqb-true}
+use Rattle.std.specs.Prelude.{Option, Some, None}
 use Rattle.token.specs.Kind
 use Rattle.token.specs.declared.Token.{Token}
 use Rattle.tree.specs.NodeKind
-use Rattle.tree.specs.Maybe.{Maybe, nothing, just}
+use Rattle.tree.specs.Choice.{pick}
 use Rattle.tree.specs.Tree.{Tree, Forest, node, none, more, count, records, kind_of}
 use Rattle.tree.specs.Node
 use Rattle.grammar.proofs.Laws.Keep.{Holds, k_ok, k_failed, k_on, k_any, k_if, k_tested}
@@ -20,7 +21,6 @@ use Rattle.grammar.specs.Reading.Number
 use Rattle.grammar.specs.Reading.Result.{Res, ok, then, ifb, Error}
 use Rattle.grammar.specs.Reading.Look.{expect, expect_pattern}
 use Rattle.grammar.specs.Reading.Pattern.{to_pattern, conv, last_of, front_of, by_item, receiver}
-use Rattle.tree.specs.Maybe.{pick}
 use Rattle.grammar.specs.Reading.Expr.{Depth, Stmts}
 use Rattle.grammar.specs.Reading.Primary.{atom, path, with_path, literal}
 use Rattle.grammar.specs.Reading.Block.{body, block_of}
@@ -102,7 +102,7 @@ Names k v t = kind_of t ≡ NodeKind.IdentifierPattern → (k ≡ Kind.Identifie
 -- an expression of which that is true as a pattern
 data Named (k v : ℕ) : Tree → Type 0 where
   the_name : k ≡ Kind.Identifier → Named k v (Node.identifier v)
-  no_name : {j x : ℕ} → to_pattern (node j x none) ≡ nothing → Named k v (node j x none)
+  no_name : {j x : ℕ} → to_pattern (node j x none) ≡ None → Named k v (node j x none)
 
 literal_named : (tok : Token) (q : List Error) (rest : List ℕ) → Holds (Named tok.kind tok.value) (literal tok q rest)
 unfolding literal conv
@@ -116,11 +116,11 @@ unfolding atom then ifb
 atom_named low q {T} {pos} {k} {n} {v} at e = rw (at.same, ne_eqb _ _ e) (literal_named (record { kind = k; newline = n; value = v }) q (drop (pos + 2) T))
 
 -- no item makes a name alone
-data Other : Maybe Tree → Type 0 where
-  is_none : Other nothing
-  is_other : {t : Tree} → (kind_of t ≡ NodeKind.IdentifierPattern → ⊥) → Other (just t)
+data Other : Option Tree → Type 0 where
+  is_none : Other None
+  is_other : {t : Tree} → (kind_of t ≡ NodeKind.IdentifierPattern → ⊥) → Other (Some t)
 
-other_pick : (b : Bool) {x y : Unit {0} → Maybe Tree} → ((u : Unit {0}) → Other (x u)) → ((u : Unit {0}) → Other (y u)) → Other (pick b x y)
+other_pick : (b : Bool) {x y : Unit {0} → Option Tree} → ((u : Unit {0}) → Other (x u)) → ((u : Unit {0}) → Other (y u)) → Other (pick b x y)
 other_pick true f g = f tt
 other_pick false f g = g tt
 
@@ -133,20 +133,20 @@ path_other : (a i : Tree) (f : Forest) → Other (to_pattern (Node.primary a (mo
 unfolding conv
 path_other a i f = item_other (receiver 0 a 0 (front_of i f)) (last_of i f)
 
-expect_other : {k v : ℕ} (e : ℕ) (m : Maybe Tree) (q : List Error) (ts : List ℕ) → Other m → Holds (Names k v) (expect_pattern e m q ts)
+expect_other : {k v : ℕ} (e : ℕ) (m : Option Tree) (q : List Error) (ts : List ℕ) → Other m → Holds (Names k v) (expect_pattern e m q ts)
 unfolding expect_pattern
-expect_other e nothing q ts is_none = k_failed
-expect_other e (just t) q ts (is_other h) = k_ok (λ x. absurd (h x))
+expect_other e None q ts is_none = k_failed
+expect_other e (Some t) q ts (is_other h) = k_ok (λ x. absurd (h x))
 
-name_pattern : (v : ℕ) → to_pattern (Node.identifier v) ≡ just (node NodeKind.IdentifierPattern v none)
+name_pattern : (v : ℕ) → to_pattern (Node.identifier v) ≡ Some (node NodeKind.IdentifierPattern v none)
 unfolding conv
 name_pattern v = refl
 
-expect_name : {k v : ℕ} (e : ℕ) (m : Maybe Tree) (q : List Error) (ts : List ℕ) → k ≡ Kind.Identifier → m ≡ just (node NodeKind.IdentifierPattern v none) → Holds (Names k v) (expect_pattern e m q ts)
+expect_name : {k v : ℕ} (e : ℕ) (m : Option Tree) (q : List Error) (ts : List ℕ) → k ≡ Kind.Identifier → m ≡ Some (node NodeKind.IdentifierPattern v none) → Holds (Names k v) (expect_pattern e m q ts)
 unfolding expect_pattern
 expect_name e m q ts i j = rw j (k_ok (λ x. (i, refl)))
 
-expect_none : {k v : ℕ} (e : ℕ) (m : Maybe Tree) (q : List Error) (ts : List ℕ) → m ≡ nothing → Holds (Names k v) (expect_pattern e m q ts)
+expect_none : {k v : ℕ} (e : ℕ) (m : Option Tree) (q : List Error) (ts : List ℕ) → m ≡ None → Holds (Names k v) (expect_pattern e m q ts)
 unfolding expect_pattern
 expect_none e m q ts j = rw j k_failed
 

@@ -2,11 +2,10 @@
 -- and all three in turn the last that is read and the first that is stopped; readings that are finished, which do not count; and trees whose canonical tokens are
 -- deeper than what was read, or less deep. Of each sheet every call from a fresh reader to the end or the stop, with the answer, the whole reader and every word of the
 -- store; of its tree the writer's answer and every word of the output. Assumes nothing.
-use Rattle.std.specs.Prelude.{◌≡◌, refl, List, [], ◌∷◌, ◌++◌, ℕ, suc, ◌*◌, ◌-◌, ◌/◌, length, replicate}
+use Rattle.std.specs.Prelude.{◌≡◌, refl, List, [], ◌∷◌, ◌++◌, ℕ, suc, ◌*◌, ◌-◌, ◌/◌, length, replicate, Option, Some, None}
 use Rattle.token.specs.Kind
 use Rattle.tree.specs.Tree.{Tree, Forest, none, more, one, records}
 use Rattle.tree.specs.Node
-use Rattle.tree.specs.Maybe.{Maybe, nothing, just}
 use Rattle.tree.specs.Decode.{gather, stacked, decode}
 use Rattle.grammar.specs.Reading.Limit.{too_deep}
 use Rattle.grammar.specs.Reading.Next.{fresh, Called}
@@ -19,8 +18,8 @@ use Rattle.grammar.specs.declared.Written.TheVariants.{Tokens, Stopped}
 pub record Row : Type 0 where
   pub sheet : List ℕ
   pub stmt : Tree
-  pub position : Maybe ℕ
-  pub tokens : Maybe (List ℕ)
+  pub position : Option ℕ
+  pub tokens : Option (List ℕ)
 
 -- what a row comes to
 pub record Outcome : Type 0 where
@@ -37,14 +36,14 @@ found (w ∷ rows) =
     record { steps = calls (suc (length w.sheet)) (8 * length w.sheet) w.sheet fresh; wrote = write_stmt (records w.stmt) room } ∷ found rows
 
 -- a tree and the end, or a stop that leaves the reader where it was
-abbrev pub says : Tree → Maybe ℕ → List Said
-says t nothing = stopped too_deep 0 ∷ []
-says t (just p) = tree t p [] ∷ end p ∷ []
+abbrev pub says : Tree → Option ℕ → List Said
+says t None = stopped too_deep 0 ∷ []
+says t (Some p) = tree t p [] ∷ end p ∷ []
 
 -- tokens and zeros, or zeros alone
-abbrev pub writes : Maybe (List ℕ) → Wrote
-writes nothing = bare room (Stopped too_deep)
-writes (just ws) = record { answer = Tokens (length ws / 2); output = ws ++ replicate (room - length ws) 0 }
+abbrev pub writes : Option (List ℕ) → Wrote
+writes None = bare room (Stopped too_deep)
+writes (Some ws) = record { answer = Tokens (length ws / 2); output = ws ++ replicate (room - length ws) 0 }
 
 abbrev pub expected : List Row → List Outcome
 expected [] = []
@@ -112,41 +111,41 @@ for_two = Node.for_loop 0 (Node.tuple_pattern (more (Node.identifier_pattern 0) 
 pub table : List Row
 table =
     -- operands: 36 and 37 minus signs before a
-    record { sheet = times 36 sign (a eof); stmt = Node.expression (times 36 negated a_tree); position = just 37; tokens = just (times 36 sign (a stmt_end)) } ∷
-    record { sheet = times 37 sign (a eof); stmt = Node.expression (times 37 negated a_tree); position = nothing; tokens = nothing } ∷
+    record { sheet = times 36 sign (a eof); stmt = Node.expression (times 36 negated a_tree); position = Some 37; tokens = Some (times 36 sign (a stmt_end)) } ∷
+    record { sheet = times 37 sign (a eof); stmt = Node.expression (times 37 negated a_tree); position = None; tokens = None } ∷
     -- right sides: 36 and 37 times a = before a
-    record { sheet = times 36 a_is (a eof); stmt = Node.expression (times 36 assigned a_tree); position = just 73; tokens = just (times 36 a_is (a stmt_end)) } ∷
-    record { sheet = times 37 a_is (a eof); stmt = Node.expression (times 37 assigned a_tree); position = nothing; tokens = nothing } ∷
+    record { sheet = times 36 a_is (a eof); stmt = Node.expression (times 36 assigned a_tree); position = Some 73; tokens = Some (times 36 a_is (a stmt_end)) } ∷
+    record { sheet = times 37 a_is (a eof); stmt = Node.expression (times 37 assigned a_tree); position = None; tokens = None } ∷
     -- statement lists: 37 and 38 loops, one in the other
-    record { sheet = times 37 (s Kind.Loop) (times 37 (s Kind.End) eof); stmt = times 36 looped (loop none); position = just 74; tokens = just (times 37 (s Kind.Loop) (times 37 closed [])) } ∷
-    record { sheet = times 38 (s Kind.Loop) (times 38 (s Kind.End) eof); stmt = times 37 looped (loop none); position = nothing; tokens = nothing } ∷
+    record { sheet = times 37 (s Kind.Loop) (times 37 (s Kind.End) eof); stmt = times 36 looped (loop none); position = Some 74; tokens = Some (times 37 (s Kind.Loop) (times 37 closed [])) } ∷
+    record { sheet = times 38 (s Kind.Loop) (times 38 (s Kind.End) eof); stmt = times 37 looped (loop none); position = None; tokens = None } ∷
     -- all three in turn, nine times begin a = -, before a and before - a
     record {
       sheet = times 9 begin_a_is_minus (a (times 9 (s Kind.End) eof));
       stmt = Node.expression (times 9 assigned_in_block a_tree);
-      position = just 46;
-      tokens = just (times 9 begin_a_is_minus (a (times 9 result_closed stmt_end)));
+      position = Some 46;
+      tokens = Some (times 9 begin_a_is_minus (a (times 9 result_closed stmt_end)));
     } ∷
-    record { sheet = times 9 begin_a_is_minus (sign (a (times 9 (s Kind.End) eof))); stmt = Node.expression (times 9 assigned_in_block (negated a_tree)); position = nothing; tokens = nothing } ∷
+    record { sheet = times 9 begin_a_is_minus (sign (a (times 9 (s Kind.End) eof))); stmt = Node.expression (times 9 assigned_in_block (negated a_tree)); position = None; tokens = None } ∷
     -- what is finished does not count: a loop over 38 times a = a; loop end;
     record {
       sheet = s Kind.Loop (times 38 two_stmts (s Kind.End eof));
       stmt = loop (times 38 two_trees none);
-      position = just 268;
-      tokens = just (s Kind.Loop (times 38 two_stmts (closed [])));
+      position = Some 268;
+      tokens = Some (s Kind.Loop (times 38 two_stmts (closed [])));
     } ∷
     -- canonical tokens that are less deep than what was read: a group vanishes in a pattern. 36 and 37 times ( before a, as many ), and = a
-    record { sheet = times 36 (s Kind.OpenParen) (a (times 36 (s Kind.CloseParen) (s Kind.OpAssign (a eof)))); stmt = Node.expression (assigned a_tree); position = just 75; tokens = just (a_is (a stmt_end)) } ∷
-    record { sheet = times 37 (s Kind.OpenParen) (a (times 37 (s Kind.CloseParen) (s Kind.OpAssign (a eof)))); stmt = Node.expression (assigned a_tree); position = nothing; tokens = just (a_is (a stmt_end)) } ∷
+    record { sheet = times 36 (s Kind.OpenParen) (a (times 36 (s Kind.CloseParen) (s Kind.OpAssign (a eof)))); stmt = Node.expression (assigned a_tree); position = Some 75; tokens = Some (a_is (a stmt_end)) } ∷
+    record { sheet = times 37 (s Kind.OpenParen) (a (times 37 (s Kind.CloseParen) (s Kind.OpAssign (a eof)))); stmt = Node.expression (assigned a_tree); position = None; tokens = Some (a_is (a stmt_end)) } ∷
     -- canonical tokens that are one deeper than what was read: for a, b in c in 35, 36 and 37 loops
     record {
       sheet = times 35 (s Kind.Loop) (for_bare (times 35 (s Kind.End) eof));
       stmt = times 35 looped for_two;
-      position = just 78;
-      tokens = just (times 35 (s Kind.Loop) (for_written (times 35 closed [])));
+      position = Some 78;
+      tokens = Some (times 35 (s Kind.Loop) (for_written (times 35 closed [])));
     } ∷
-    record { sheet = times 36 (s Kind.Loop) (for_bare (times 36 (s Kind.End) eof)); stmt = times 36 looped for_two; position = just 80; tokens = nothing } ∷
-    record { sheet = times 37 (s Kind.Loop) (for_bare (times 37 (s Kind.End) eof)); stmt = times 37 looped for_two; position = nothing; tokens = nothing } ∷
+    record { sheet = times 36 (s Kind.Loop) (for_bare (times 36 (s Kind.End) eof)); stmt = times 36 looped for_two; position = Some 80; tokens = None } ∷
+    record { sheet = times 37 (s Kind.Loop) (for_bare (times 37 (s Kind.End) eof)); stmt = times 37 looped for_two; position = None; tokens = None } ∷
     []
 
 pub depths_tried : found table ≡ expected table

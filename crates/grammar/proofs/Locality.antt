@@ -10,9 +10,8 @@
 --    with nothing waiting: these are the calls of the edited sheet, and a sheet has no others. Where there is no such call, all stay. That start is not behind the place.
 -- 8. Whatever follows the first a tokens, the calls on the sheet begin with those that stay: an error or a stop among them is answered whatever follows.
 -- 9. Ten sheets with what each call looks at, and what edits leave of the calls: `looks_tried` in Looks.antt.
-use Rattle.std.specs.Prelude.{◌≡◌, refl, true, false, List, [], ◌∷◌, ◌++◌, ℕ, suc, ◌-◌, ◌*◌, ◌/◌, ◌≤◌, max, ltb, length, drop}
+use Rattle.std.specs.Prelude.{◌≡◌, refl, true, false, List, [], ◌∷◌, ◌++◌, ℕ, suc, ◌-◌, ◌*◌, ◌/◌, ◌≤◌, max, ltb, length, drop, Some, None}
 use Rattle.std.proofs.Common.{ap, arith, length-drop}
-use Rattle.tree.specs.Maybe.{nothing, just}
 use Rattle.grammar.specs.Reading.Limit.{depth_limit}
 use Rattle.grammar.specs.Reading.Result.{Error}
 use Rattle.grammar.specs.Reading.Next.{next, reader_at, fresh, next_stmt}
@@ -63,14 +62,14 @@ peeked R T m y =
     ends_map (λ r i. omega arith) (next_peeked depth_limit [] (drop (2 * R.position) T))
 
 -- 7
-pub edited : {a m : ℕ} {h X : List ℕ} (Z : List ℕ) → Changed a h X m → {ks fs : List KeptCall} (p : ℕ) → Calls (h ++ Z) m fresh ks → restart a ks ≡ just p → Calls (h ++ X) m (reader_at p []) fs
+pub edited : {a m : ℕ} {h X : List ℕ} (Z : List ℕ) → Changed a h X m → {ks fs : List KeptCall} (p : ℕ) → Calls (h ++ Z) m fresh ks → restart a ks ≡ Some p → Calls (h ++ X) m (reader_at p []) fs
     → Calls (h ++ X) m fresh (stay a ks ++ fs)
 edited Z c p r e = read_again (rw e at (stays Z c r))
 
-pub unedited : {a m : ℕ} {h X : List ℕ} (Z : List ℕ) → Changed a h X m → {ks : List KeptCall} → Calls (h ++ Z) m fresh ks → restart a ks ≡ nothing → Calls (h ++ X) m fresh ks
+pub unedited : {a m : ℕ} {h X : List ℕ} (Z : List ℕ) → Changed a h X m → {ks : List KeptCall} → Calls (h ++ Z) m fresh ks → restart a ks ≡ None → Calls (h ++ X) m fresh ks
 unedited {a} Z c {ks} r e = none_again (rw (e, stay_all a ks e) at (stays Z c r))
 
-pub restarts_before : {a m : ℕ} {h X : List ℕ} (Z : List ℕ) → Changed a h X m → {ks : List KeptCall} (p : ℕ) → Calls (h ++ Z) m fresh ks → restart a ks ≡ just p → p ≤ a
+pub restarts_before : {a m : ℕ} {h X : List ℕ} (Z : List ℕ) → Changed a h X m → {ks : List KeptCall} (p : ℕ) → Calls (h ++ Z) m fresh ks → restart a ks ≡ Some p → p ≤ a
 restarts_before Z c p r e = again_before (rw e at (stays Z c r))
 
 pub calls_same : {T : List ℕ} {m : ℕ} {R : Reader} {ks js : List KeptCall} → Calls T m R ks → Calls T m R js → ks ≡ js

@@ -1,8 +1,7 @@
 -- What the calls on some sheets look at, and what edits leave of them, as one table and one theorem: from a fresh reader, every call to the first end or stop.
 -- Assumes nothing.
-use Rattle.std.specs.Prelude.{◌≡◌, refl, List, [], ◌∷◌, ◌++◌, ℕ, suc, ◌*◌, length}
+use Rattle.std.specs.Prelude.{◌≡◌, refl, List, [], ◌∷◌, ◌++◌, ℕ, suc, ◌*◌, length, Option, Some, None}
 use Rattle.token.specs.Kind
-use Rattle.tree.specs.Maybe.{Maybe, nothing, just}
 use Rattle.grammar.specs.Reading.Next.{fresh, Called}
 use Rattle.grammar.specs.Reading.Looked.{words_of, bad_record, meets, is_bad, looks, call_looks}
 use Rattle.grammar.specs.Reading.Kept.{KeptCall, Calls, last_call, then_call, stay, restart}
@@ -22,7 +21,7 @@ kept_calls ts = let m : ℕ = 8 * length ts in kept_from ts m fresh (calls (suc 
 pub record Edit : Type 0 where
   pub behind : ℕ
   pub stays : ℕ
-  pub again : Maybe ℕ
+  pub again : Option ℕ
 
 -- a sheet, the furthest token that each of its calls looks at, from 1, and what edits leave of these calls
 pub record Row : Type 0 where
@@ -49,35 +48,35 @@ bad r = words_of bad_record ++ r
 abbrev a : List ℕ → List ℕ
 a = name 7
 
-abbrev edit : ℕ → ℕ → Maybe ℕ → Edit
+abbrev edit : ℕ → ℕ → Option ℕ → Edit
 edit n k p = record { behind = n; stays = k; again = p }
 
 pub table : List Row
 table =
     -- nothing at all: the place behind the last token
-    record { sheet = []; looked = 1 ∷ []; edits = edit 0 0 (just 0) ∷ [] } ∷
+    record { sheet = []; looked = 1 ∷ []; edits = edit 0 0 (Some 0) ∷ [] } ∷
     -- a + a: a tree, the end
-    record { sheet = a (s Kind.OpAdd (a eof)); looked = 4 ∷ 4 ∷ []; edits = edit 0 0 (just 0) ∷ edit 3 0 (just 0) ∷ edit 4 2 nothing ∷ [] } ∷
+    record { sheet = a (s Kind.OpAdd (a eof)); looked = 4 ∷ 4 ∷ []; edits = edit 0 0 (Some 0) ∷ edit 3 0 (Some 0) ∷ edit 4 2 None ∷ [] } ∷
     -- a, no EOF: 2, the end; each looks for a token behind the last
-    record { sheet = a []; looked = 2 ∷ 2 ∷ []; edits = edit 0 0 (just 0) ∷ edit 1 0 (just 0) ∷ [] } ∷
+    record { sheet = a []; looked = 2 ∷ 2 ∷ []; edits = edit 0 0 (Some 0) ∷ edit 1 0 (Some 0) ∷ [] } ∷
     -- loop end a: the first call looks at no token behind end
-    record { sheet = s Kind.Loop (s Kind.End (a eof)); looked = 2 ∷ 4 ∷ 4 ∷ []; edits = edit 1 0 (just 0) ∷ edit 2 1 (just 2) ∷ edit 3 1 (just 2) ∷ edit 4 3 nothing ∷ [] } ∷
+    record { sheet = s Kind.Loop (s Kind.End (a eof)); looked = 2 ∷ 4 ∷ 4 ∷ []; edits = edit 1 0 (Some 0) ∷ edit 2 1 (Some 2) ∷ edit 3 1 (Some 2) ∷ edit 4 3 None ∷ [] } ∷
     -- ) a a: 47, with the resynchronization that follows it, a tree, the end
-    record { sheet = s Kind.CloseParen (a (a eof)); looked = 3 ∷ 4 ∷ 4 ∷ []; edits = edit 2 0 (just 0) ∷ edit 3 1 (just 2) ∷ [] } ∷
+    record { sheet = s Kind.CloseParen (a (a eof)); looked = 3 ∷ 4 ∷ 4 ∷ []; edits = edit 2 0 (Some 0) ∷ edit 3 1 (Some 2) ∷ [] } ∷
     -- begin a; continue; end: a tree, 17 from the queue, which looks at no token, the end
     record {
       sheet = s Kind.Begin (a (s Kind.Semicolon (s Kind.Continue (s Kind.Semicolon (s Kind.End eof)))));
       looked = 7 ∷ 0 ∷ 7 ∷ [];
-      edits = edit 6 0 (just 0) ∷ edit 7 3 nothing ∷ [];
+      edits = edit 6 0 (Some 0) ∷ edit 7 3 None ∷ [];
     } ∷
     -- a + and a bad record, and others behind it: stopped 60
-    record { sheet = a (s Kind.OpAdd (bad (a (bad eof)))); looked = 3 ∷ []; edits = edit 2 0 (just 0) ∷ edit 3 1 nothing ∷ [] } ∷
+    record { sheet = a (s Kind.OpAdd (bad (a (bad eof)))); looked = 3 ∷ []; edits = edit 2 0 (Some 0) ∷ edit 3 1 None ∷ [] } ∷
     -- a; and a bad record: a tree, then stopped 60
-    record { sheet = a (s Kind.Semicolon (bad eof)); looked = 2 ∷ 3 ∷ []; edits = edit 1 0 (just 0) ∷ edit 2 1 (just 1) ∷ edit 3 2 nothing ∷ [] } ∷
+    record { sheet = a (s Kind.Semicolon (bad eof)); looked = 2 ∷ 3 ∷ []; edits = edit 1 0 (Some 0) ∷ edit 2 1 (Some 1) ∷ edit 3 2 None ∷ [] } ∷
     -- 37 minus signs: stopped 62 before the 38th token is looked at
-    record { sheet = times 37 (s Kind.OpSub) (a eof); looked = 37 ∷ []; edits = edit 36 0 (just 0) ∷ edit 37 1 nothing ∷ [] } ∷
+    record { sheet = times 37 (s Kind.OpSub) (a eof); looked = 37 ∷ []; edits = edit 36 0 (Some 0) ∷ edit 37 1 None ∷ [] } ∷
     -- an odd number of words: stopped 60 for the length
-    record { sheet = a (7 ∷ []); looked = 2 ∷ []; edits = edit 1 0 (just 0) ∷ [] } ∷
+    record { sheet = a (7 ∷ []); looked = 2 ∷ []; edits = edit 1 0 (Some 0) ∷ [] } ∷
     []
 
 pub looks_tried : found table ≡ table

@@ -2,12 +2,11 @@
 -- with the answer, the whole reader and every word of the store, and the sheet's canonical tokens where it reads cleanly.
 -- Rows behind them rule out a wrong grouping, a wrong resynchronization, writers that leave a token out, and the errors 24, 28 and 32 where they seem near.
 -- Then trees on either side of what document 02 says of operators, `levels_tried`. Assumes nothing.
-use Rattle.std.specs.Prelude.{◌≡◌, refl, Bool, true, false, List, [], ◌∷◌, ℕ, zero, suc, ◌*◌, ◌+◌, length}
+use Rattle.std.specs.Prelude.{◌≡◌, refl, Bool, true, false, List, [], ◌∷◌, ℕ, zero, suc, ◌*◌, ◌+◌, length, Option, Some, None, option_and_then}
 use Rattle.token.specs.Kind
 use Rattle.operator.specs.Operator.{which_unary_op, which_binary_op, which_assignment_op, op_level, op_number, op_token, number_level, unary_code, unary_token, assign_code, assign_token}
 use Rattle.tree.specs.Tree.{Tree, none, more, one, count, snoc, records, all_records}
 use Rattle.tree.specs.Node
-use Rattle.tree.specs.Maybe.{Maybe, nothing, just, bindM}
 use Rattle.grammar.specs.Reading.Pattern.{conv, all_conv, last_of, front_of}
 use Rattle.grammar.specs.Reading.Limit.{depth_limit}
 use Rattle.grammar.specs.Reading.Number
@@ -61,20 +60,20 @@ all_called m [] = []
 all_called m (s ∷ ss) = called m s ∷ all_called m ss
 
 -- the canonical tokens of a sheet that reads cleanly
-unfoldable pub canonical : List ℕ → Maybe (List ℕ)
+unfoldable pub canonical : List ℕ → Option (List ℕ)
 unfolding calls op_token unary_token assign_token target_items write writes run clean_from clean_reading
-canonical ts = bindM (clean_reading depth_limit ts) λ f. just (run f)
+canonical ts = option_and_then (λ f. Some (run f)) (clean_reading depth_limit ts)
 
 -- a sheet, what its calls say, and its canonical tokens
 pub record Row : Type 0 where
   pub sheet : List ℕ
   pub says : List Said
-  pub tokens : Maybe (List ℕ)
+  pub tokens : Option (List ℕ)
 
 -- what a sheet comes to
 pub record Outcome : Type 0 where
   pub steps : List Called
-  pub tokens : Maybe (List ℕ)
+  pub tokens : Option (List ℕ)
 
 abbrev pub read : List Row → List Outcome
 read [] = []
@@ -126,27 +125,27 @@ assigned = Node.expression (Node.assignment 0 0 (Node.identifier_pattern a) (Nod
 pub table : List Row
 table =
     -- nothing at all
-    record { sheet = []; says = end 0 ∷ []; tokens = just eof } ∷
-    record { sheet = eof; says = end 0 ∷ []; tokens = just eof } ∷
+    record { sheet = []; says = end 0 ∷ []; tokens = Some eof } ∷
+    record { sheet = eof; says = end 0 ∷ []; tokens = Some eof } ∷
     -- a + 1, with the name 7
     record {
       sheet = newline (name 7 (s Kind.OpAdd (int 1 (newline eof))));
       says = tree (Node.expression (Node.binary_op 3 (Node.identifier 7) (Node.integer_literal 1))) 3 [] ∷ end 3 ∷ [];
-      tokens = just (name 7 (s Kind.OpAdd (int 1 (s Kind.Semicolon eof))));
+      tokens = Some (name 7 (s Kind.OpAdd (int 1 (s Kind.Semicolon eof))));
     } ∷
     -- a, no EOF
-    record { sheet = name a []; says = error Number.end_of_tokens 1 [] ∷ end 1 ∷ []; tokens = nothing } ∷
+    record { sheet = name a []; says = error Number.end_of_tokens 1 [] ∷ end 1 ∷ []; tokens = None } ∷
     -- ) a b
     record {
       sheet = s Kind.CloseParen (name a (name b eof));
       says = error Number.unmatched_paren 2 [] ∷ tree (just_name b) 3 [] ∷ end 3 ∷ [];
-      tokens = nothing;
+      tokens = None;
     } ∷
     -- ) assert a
     record {
       sheet = s Kind.CloseParen (s Kind.Assert (name a eof));
       says = error Number.unmatched_paren 1 [] ∷ tree (Node.assert (Node.identifier a)) 3 [] ∷ end 3 ∷ [];
-      tokens = nothing;
+      tokens = None;
     } ∷
     -- begin 1; continue; end
     record {
@@ -154,92 +153,92 @@ table =
       says =
           tree (Node.expression (Node.block 0 (Node.expr_block (Node.stmt_list (one (Node.expression (Node.integer_literal 1))) (Node.continue 0)) Node.absent))) 6 (Number.continue_not_last ∷ [])
           ∷ error Number.continue_not_last 6 [] ∷ end 6 ∷ [];
-      tokens = nothing;
+      tokens = None;
     } ∷
     -- a label, begin end
-    record { sheet = Kind.Label ∷ a ∷ s Kind.Begin (s Kind.End eof); says = error Number.label_alone 3 [] ∷ end 3 ∷ []; tokens = nothing } ∷
+    record { sheet = Kind.Label ∷ a ∷ s Kind.Begin (s Kind.End eof); says = error Number.label_alone 3 [] ∷ end 3 ∷ []; tokens = None } ∷
     -- class a
-    record { sheet = s Kind.Class (name a eof); says = error Number.class_definition 2 [] ∷ end 2 ∷ []; tokens = nothing } ∷
+    record { sheet = s Kind.Class (name a eof); says = error Number.class_definition 2 [] ∷ end 2 ∷ []; tokens = None } ∷
     -- a ,
-    record { sheet = name a (s Kind.Comma eof); says = error Number.no_expression 3 [] ∷ end 3 ∷ []; tokens = nothing } ∷
+    record { sheet = name a (s Kind.Comma eof); says = error Number.no_expression 3 [] ∷ end 3 ∷ []; tokens = None } ∷
     -- begin, a lexer error, a end
     record {
       sheet = s Kind.Begin (s Kind.LexerError (name a (s Kind.End eof)));
       says = error Number.lexer_error 3 [] ∷ error Number.no_expression 4 [] ∷ end 4 ∷ [];
-      tokens = nothing;
+      tokens = None;
     } ∷
     -- a (b) in one line, and in two
     record {
       sheet = name a (s Kind.OpenParen (name b (s Kind.CloseParen eof)));
       says = tree (Node.expression (Node.primary (Node.identifier a) (one (Node.invoke (one (Node.identifier b)))))) 4 [] ∷ end 4 ∷ [];
-      tokens = just (name a (s Kind.OpenParen (name b (s Kind.CloseParen (s Kind.Semicolon eof)))));
+      tokens = Some (name a (s Kind.OpenParen (name b (s Kind.CloseParen (s Kind.Semicolon eof)))));
     } ∷
     record {
       sheet = name a (newline (s Kind.OpenParen (name b (s Kind.CloseParen eof))));
       says = tree (just_name a) 1 [] ∷ tree (Node.expression (Node.group 0 (Node.identifier b))) 4 [] ∷ end 4 ∷ [];
-      tokens = just (name a (s Kind.Semicolon (s Kind.OpenParen (name b (s Kind.CloseParen (s Kind.Semicolon eof))))));
+      tokens = Some (name a (s Kind.Semicolon (s Kind.OpenParen (name b (s Kind.CloseParen (s Kind.Semicolon eof))))));
     } ∷
     -- the same canonical tokens: a; b and a b
     record {
       sheet = name a (s Kind.Semicolon (name b eof));
       says = tree (just_name a) 1 [] ∷ tree (just_name b) 3 [] ∷ end 3 ∷ [];
-      tokens = just (name a (s Kind.Semicolon (name b (s Kind.Semicolon eof))));
+      tokens = Some (name a (s Kind.Semicolon (name b (s Kind.Semicolon eof))));
     } ∷
     record {
       sheet = name a (name b eof);
       says = tree (just_name a) 1 [] ∷ tree (just_name b) 2 [] ∷ end 2 ∷ [];
-      tokens = just (name a (s Kind.Semicolon (name b (s Kind.Semicolon eof))));
+      tokens = Some (name a (s Kind.Semicolon (name b (s Kind.Semicolon eof))));
     } ∷
     -- local a = 1 and (a) = 1, where the group vanishes
     record {
       sheet = s Kind.Local (name a (s Kind.OpAssign (int 1 eof)));
       says = tree assigned 4 [] ∷ end 4 ∷ [];
-      tokens = just (name a (s Kind.OpAssign (int 1 (s Kind.Semicolon eof))));
+      tokens = Some (name a (s Kind.OpAssign (int 1 (s Kind.Semicolon eof))));
     } ∷
     record {
       sheet = s Kind.OpenParen (name a (s Kind.CloseParen (s Kind.OpAssign (int 1 eof))));
       says = tree assigned 5 [] ∷ end 5 ∷ [];
-      tokens = just (name a (s Kind.OpAssign (int 1 (s Kind.Semicolon eof))));
+      tokens = Some (name a (s Kind.OpAssign (int 1 (s Kind.Semicolon eof))));
     } ∷
     -- not the same: (a) and a
     record {
       sheet = s Kind.OpenParen (name a (s Kind.CloseParen eof));
       says = tree (Node.expression (Node.group 0 (Node.identifier a))) 3 [] ∷ end 3 ∷ [];
-      tokens = just (s Kind.OpenParen (name a (s Kind.CloseParen (s Kind.Semicolon eof))));
+      tokens = Some (s Kind.OpenParen (name a (s Kind.CloseParen (s Kind.Semicolon eof))));
     } ∷
-    record { sheet = name a eof; says = tree (just_name a) 1 [] ∷ end 1 ∷ []; tokens = just (name a (s Kind.Semicolon eof)) } ∷
+    record { sheet = name a eof; says = tree (just_name a) 1 [] ∷ end 1 ∷ []; tokens = Some (name a (s Kind.Semicolon eof)) } ∷
     -- a - b - c groups leftward
     record {
       sheet = name a (s Kind.OpSub (name b (s Kind.OpSub (name c eof))));
       says = tree (Node.expression (Node.binary_op 4 (Node.binary_op 4 (Node.identifier a) (Node.identifier b)) (Node.identifier c))) 5 [] ∷ end 5 ∷ [];
-      tokens = just (name a (s Kind.OpSub (name b (s Kind.OpSub (name c (s Kind.Semicolon eof))))));
+      tokens = Some (name a (s Kind.OpSub (name b (s Kind.OpSub (name c (s Kind.Semicolon eof))))));
     } ∷
     -- begin a end: a semicolon follows the block's result
     record {
       sheet = s Kind.Begin (name a (s Kind.End eof));
       says = tree (Node.expression (Node.block 0 (Node.expr_block (Node.stmt_list none Node.absent) (Node.identifier a)))) 3 [] ∷ end 3 ∷ [];
-      tokens = just (s Kind.Begin (name a (s Kind.Semicolon (s Kind.End (s Kind.Semicolon eof)))));
+      tokens = Some (s Kind.Begin (name a (s Kind.Semicolon (s Kind.End (s Kind.Semicolon eof)))));
     } ∷
     -- (a...)... = b: parentheses stand round a pack inside a pack
     record {
       sheet = s Kind.OpenParen (name a (s Kind.Ellipsis (s Kind.CloseParen (s Kind.Ellipsis (s Kind.OpAssign (name b eof))))));
       says = tree (Node.expression (Node.assignment 0 0 (Node.pack (Node.pack (Node.identifier_pattern a))) (Node.identifier b))) 7 [] ∷ end 7 ∷ [];
-      tokens = just (s Kind.OpenParen (name a (s Kind.Ellipsis (s Kind.CloseParen (s Kind.Ellipsis (s Kind.OpAssign (name b (s Kind.Semicolon eof))))))));
+      tokens = Some (s Kind.OpenParen (name a (s Kind.Ellipsis (s Kind.CloseParen (s Kind.Ellipsis (s Kind.OpAssign (name b (s Kind.Semicolon eof))))))));
     } ∷
     -- ) else a b: a resynchronization passes over else
     record {
       sheet = s Kind.CloseParen (s Kind.Else (name a (name b eof)));
       says = error Number.unmatched_paren 3 [] ∷ tree (just_name b) 4 [] ∷ end 4 ∷ [];
-      tokens = nothing;
+      tokens = None;
     } ∷
     -- a... ...: the second `...` is a statement of its own, not nested
     record {
       sheet = name a (s Kind.Ellipsis (s Kind.Ellipsis eof));
       says = tree (Node.expression (Node.unpack (Node.identifier a))) 2 [] ∷ error Number.ellipsis_not_allowed 3 [] ∷ end 3 ∷ [];
-      tokens = nothing;
+      tokens = None;
     } ∷
     -- fun (a end: what follows a parameter is judged before the parameters' closing is looked for
-    record { sheet = s Kind.Fun (s Kind.OpenParen (name a (s Kind.End eof))); says = error Number.invalid_param 4 [] ∷ end 4 ∷ []; tokens = nothing } ∷
+    record { sheet = s Kind.Fun (s Kind.OpenParen (name a (s Kind.End eof))); says = error Number.invalid_param 4 [] ∷ end 4 ∷ []; tokens = None } ∷
     -- fun (a = 1, b) end: the default takes the comma, so b is no parameter out of order
     record {
       sheet = s Kind.Fun (s Kind.OpenParen (name a (s Kind.OpAssign (int 1 (s Kind.Comma (name b (s Kind.CloseParen (s Kind.End eof))))))));
@@ -248,7 +247,7 @@ table =
           (Node.signature_def 0 none (one (Node.default_def (Node.named a Node.read_only) (Node.tuple (more (Node.integer_literal 1) (one (Node.identifier b)))))) Node.absent)
           (Node.expr_block (Node.stmt_list none Node.absent) Node.absent))) 9 []
           ∷ end 9 ∷ [];
-      tokens = just (s Kind.Fun (s Kind.OpenParen (name a (s Kind.OpAssign (int 1 (s Kind.Comma (name b (s Kind.CloseParen (s Kind.End (s Kind.Semicolon eof))))))))));
+      tokens = Some (s Kind.Fun (s Kind.OpenParen (name a (s Kind.OpAssign (int 1 (s Kind.Comma (name b (s Kind.CloseParen (s Kind.End (s Kind.Semicolon eof))))))))));
     } ∷
     -- begin - a + b * c; continue; end: a tree before an error that waits, with a sign, a sum and a product
     record {
@@ -258,7 +257,7 @@ table =
           (one (Node.expression (Node.binary_op 3 (Node.unary_op 0 (Node.identifier a)) (Node.binary_op 0 (Node.identifier b) (Node.identifier c)))))
           (Node.continue 0)) Node.absent))) 11 (Number.continue_not_last ∷ [])
           ∷ error Number.continue_not_last 11 [] ∷ end 11 ∷ [];
-      tokens = nothing;
+      tokens = None;
     } ∷
     []
 

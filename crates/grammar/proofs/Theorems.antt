@@ -9,12 +9,11 @@
 -- 7. Of two sheets that read cleanly, the trees are the same exactly if the canonical runs are, and each run reads back to those trees.
 -- 8. Trees with the same records are the same, and decoding a tree's records gives the tree; words that decode to no tree are no clean reading's.
 -- 9. The sheets of document 01 say what it says, those with the same and with other canonical tokens among them: `sheets_tried` in Sheets.antt.
-use Rattle.std.specs.Prelude.{◌≡◌, refl, ◌↔◌, ◌≢◌, Bool, true, false, List, [], ◌∷◌, ◌++◌, ℕ, suc, ◌*◌, ◌-◌, ◌/◌, ◌≤◌, max, eqb, ltb, length, replicate}
+use Rattle.std.specs.Prelude.{◌≡◌, refl, ◌↔◌, ◌≢◌, Bool, true, false, List, [], ◌∷◌, ◌++◌, ℕ, suc, ◌*◌, ◌-◌, ◌/◌, ◌≤◌, max, eqb, ltb, length, replicate, Option, Some, None}
 use Rattle.std.proofs.Common.{sym, ap, ◌∙◌, subst, le_refl, arith, eqb-true, eq-eqb, le-leb}
 use Rattle.token.specs.Kind
 use Rattle.tree.specs.Tree.{Tree, Forest, none, more, one, records}
 use Rattle.tree.specs.Node
-use Rattle.tree.specs.Maybe.{Maybe, nothing, just}
 use Rattle.tree.specs.Decode.{decode}
 use Rattle.tree.specs.Records.{Small, decode_records, records_same, decode_text}
 use Rattle.grammar.specs.Reading.Limit.{depth_limit, too_deep, no_statement, short_output}
@@ -42,7 +41,7 @@ use Rattle.grammar.proofs.Laws.Sound.Stmt.{depth_sound}
 use Rattle.grammar.proofs.Laws.Back.Depths.{next_back, stmt_back, reading_back, depth_is}
 
 -- 1
-pub sound : (d : ℕ) (ts : List ℕ) (f : Forest) → clean_reading d ts ≡ just f → Valids stmt f
+pub sound : (d : ℕ) (ts : List ℕ) (f : Forest) → clean_reading d ts ≡ Some f → Valids stmt f
 sound d ts f e = clean_sound d ts f e
 
 pub sound_roles : (d : ℕ) → Sound (at_depth d)
@@ -71,7 +70,7 @@ pub reads_back : {t : Tree} → Valid stmt t → (d : ℕ) → need t own ≤ d 
 unfolding reach
 reads_back h d l q r = rw (stmt_back h d q r, le-leb _ d l)
 
-pub run_reads_back : {f : Forest} → Valids stmt f → (d : ℕ) → need (Node.list f) own ≤ d → clean_reading d (run f) ≡ just f
+pub run_reads_back : {f : Forest} → Valids stmt f → (d : ℕ) → need (Node.list f) own ≤ d → clean_reading d (run f) ≡ Some f
 run_reads_back h d l = reading_back h d l
 
 -- 3
@@ -79,7 +78,7 @@ pub among_valid : {t : Tree} {f : Forest} → Among t f → Valids stmt f → Va
 among_valid first (v_more h f) = h
 among_valid (later a) (v_more h f) = among_valid a f
 
-one_back : {t : Tree} → Valid stmt t → clean_reading (need t own) (run (one t)) ≡ just (one t)
+one_back : {t : Tree} → Valid stmt t → clean_reading (need t own) (run (one t)) ≡ Some (one t)
 one_back {t} h = reading_back (v_more h v_none) (need t own) (one_need t)
 
 pub valid_given : (t : Tree) → Valid stmt t ↔ GivenBy t
@@ -92,19 +91,19 @@ pub readable_valid : (t : Tree) → Small t → (readable t ≡ true) ↔ Valid 
 unfolding readable
 readable_valid t s = ((λ e. go (clean_reading (need t own) (run (one t))) refl e), λ h. rw (one_back h) (same_words_refl (records t)))
   where
-    go : (m : Maybe Forest) → clean_reading (need t own) (run (one t)) ≡ m → gives t m ≡ true → Valid stmt t
-    go nothing c e = clash e refl
-    go (just none) c e = clash e refl
-    go (just (more u none)) c e =
+    go : (m : Option Forest) → clean_reading (need t own) (run (one t)) ≡ m → gives t m ≡ true → Valid stmt t
+    go None c e = clash e refl
+    go (Some none) c e = clash e refl
+    go (Some (more u none)) c e =
         let h = among_valid first (sound (need t own) (run (one t)) (one u) c) in
         subst (Valid stmt) (sym (records_same s (valid_small h) (same_words_are (records t) (records u) e))) h
-    go (just (more u (more v f))) c e = clash e refl
+    go (Some (more u (more v f))) c e = clash e refl
 
-refused : (t : Tree) (m : ℕ) → readable t ≡ false → (written (just t) m).answer ≡ Refused no_statement
+refused : (t : Tree) (m : ℕ) → readable t ≡ false → (written (Some t) m).answer ≡ Refused no_statement
 unfolding ifb
 refused t m e = rw e
 
-not_refused : (t : Tree) (m : ℕ) → readable t ≡ true → (written (just t) m).answer ≡ Refused no_statement → ⊥
+not_refused : (t : Tree) (m : ℕ) → readable t ≡ true → (written (Some t) m).answer ≡ Refused no_statement → ⊥
 unfolding ifb
 not_refused t m e h = go (exceeds_depth t) (ltb m (length (statement_words t))) (rw e at h)
   where
@@ -124,9 +123,9 @@ refused_65 words m = (
   λ n. go n (decode words) refl,
 )
   where
-    go : (Given words → ⊥) → (d : Maybe Tree) → decode words ≡ d → (written d m).answer ≡ Refused no_statement
-    go n nothing e = refl
-    go n (just t) e =
+    go : (Given words → ⊥) → (d : Option Tree) → decode words ≡ d → (written d m).answer ≡ Refused no_statement
+    go n None e = refl
+    go n (Some t) e =
         let s = decode_text e in
         refused t m (not_true (readable t) λ x. n (record { tree = t; text = s.0; by = (valid_given t).0 ((readable_valid t s.1).0 x) }))
 
@@ -158,25 +157,25 @@ run_in_turn none = refl
 run_in_turn (more t f) = rw (run_in_turn f) (statement_first t (in_turn f))
 
 -- 7
-pub same_trees : (d e : ℕ) (ts us : List ℕ) (f g : Forest) → clean_reading d ts ≡ just f → clean_reading e us ≡ just g → (f ≡ g) ↔ (run f ≡ run g)
+pub same_trees : (d e : ℕ) (ts us : List ℕ) (f g : Forest) → clean_reading d ts ≡ Some f → clean_reading e us ≡ Some g → (f ≡ g) ↔ (run f ≡ run g)
 same_trees d e ts us f g a b = (
   (λ x. ap run x),
   λ x.
       let n : ℕ = max (need (Node.list f) own) (need (Node.list g) own) in
-      let p : clean_reading n (run f) ≡ just f = reading_back (sound d ts f a) n (omega arith) in
-      let q : clean_reading n (run g) ≡ just g = reading_back (sound e us g b) n (omega arith) in
+      let p : clean_reading n (run f) ≡ Some f = reading_back (sound d ts f a) n (omega arith) in
+      let q : clean_reading n (run g) ≡ Some g = reading_back (sound e us g b) n (omega arith) in
       let y : clean_reading n (run f) ≡ clean_reading n (run g) = ap (clean_reading n) x in
       cc,
 )
 
-pub run_again : (d : ℕ) (ts : List ℕ) (f : Forest) → clean_reading d ts ≡ just f → need (Node.list f) own ≤ depth_limit → clean_reading depth_limit (run f) ≡ just f
+pub run_again : (d : ℕ) (ts : List ℕ) (f : Forest) → clean_reading d ts ≡ Some f → need (Node.list f) own ≤ depth_limit → clean_reading depth_limit (run f) ≡ Some f
 run_again d ts f a l = reading_back (sound d ts f a) depth_limit l
 
 -- 8
 pub same_records : {t u : Tree} → Valid stmt t → Valid stmt u → records t ≡ records u → t ≡ u
 same_records h g e = records_same (valid_small h) (valid_small g) e
 
-pub decoded : {t : Tree} → Valid stmt t → decode (records t) ≡ just t
+pub decoded : {t : Tree} → Valid stmt t → decode (records t) ≡ Some t
 decoded h = decode_records (valid_small h)
 
 -- 9

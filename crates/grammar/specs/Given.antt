@@ -1,8 +1,7 @@
 -- What a clean reading gives: a tree among others, a tree that some tokens give, words that tell one; and the tokens of statements in turn. The theorems on them are in proofs/Theorems.antt.
-use Rattle.std.specs.Prelude.{◌≡◌, List, [], ◌++◌, ℕ}
+use Rattle.std.specs.Prelude.{◌≡◌, List, [], ◌++◌, ℕ, Some}
 use Rattle.token.specs.Kind
 use Rattle.tree.specs.Tree.{Tree, Forest, none, more, records}
-use Rattle.tree.specs.Maybe.{just}
 use Rattle.grammar.specs.Canonical.Write.{token}
 use Rattle.grammar.specs.Canonical.Writing.{clean_reading, statement_words}
 
@@ -16,7 +15,7 @@ pub record GivenBy (t : Tree) : Type 0 where
   pub depth : ℕ
   pub sheet : List ℕ
   pub statements : Forest
-  pub clean : clean_reading depth sheet ≡ just statements
+  pub clean : clean_reading depth sheet ≡ Some statements
   pub among : Among t statements
 
 -- the words are the records of a tree that a clean reading gives

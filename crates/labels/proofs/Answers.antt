@@ -4,8 +4,8 @@ use mathlib.Core.Bool.{true, false}
 use mathlib.Core.List.{List, [], ◌∷◌}
 use Prim.Native.Nat.{ℕ}
 use lib.ListN.{length}
+use Rattle.std.specs.Prelude.{Some, None}
 use Rattle.tree.specs.Tree.{Tree}
-use Rattle.tree.specs.Maybe.{nothing, just}
 use Rattle.tree.specs.Decode.{decode}
 use Rattle.grammar.specs.Reading.Result.{ifb}
 use Rattle.tables.specs.Check.{legal_tree}
@@ -16,11 +16,11 @@ use Rattle.std.specs.declared.result.Result.TheVariants.{Err}
 use Rattle.labels.specs.declared.Refusal.TheVariants.{NoStatement}
 use Rattle.labels.specs.Offences.{offences, first, check_labels}
 
-pub no_tree : (L : List ℕ) → decode L ≡ nothing → check_labels L ≡ Err NoStatement
+pub no_tree : (L : List ℕ) → decode L ≡ None → check_labels L ≡ Err NoStatement
 unfolding check_labels
 no_tree L e = rw e
 
-module _ {L : List ℕ} {t : Tree} (d : decode L ≡ just t) (a : At L (length L) (t ∷ [])) where
+module _ {L : List ℕ} {t : Tree} (d : decode L ≡ Some t) (a : At L (length L) (t ∷ [])) where
   pub illegal : legal_tree t ≡ false → check_labels L ≡ Err NoStatement
   unfolding check_labels ifb
   illegal e = rw (d, readable_is t (at_small a), e)

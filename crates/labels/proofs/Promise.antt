@@ -3,13 +3,11 @@
 -- 65 with the record number 0, exactly if no tokens' clean reading, limits aside, gives a tree with these records, so exactly where the writer answers 65;
 -- the number of an offence and the number of its record, exactly if that record offends and none before it in store order does: 67 if it has a label, 68 if it has none;
 -- else that nothing is wrong.
-use Rattle.std.specs.Prelude.{◌≡◌, ◌↔◌, true, List, [], ◌∷◌, ℕ, zero, suc, ◌+◌, ◌*◌, ◌%◌, ◌<◌, get_or}
+use Rattle.std.specs.Prelude.{◌≡◌, ◌↔◌, true, List, [], ◌∷◌, ℕ, zero, suc, ◌+◌, ◌*◌, ◌%◌, ◌<◌, get_or, Option, Some, None}
 use Rattle.std.proofs.Math.Path.{refl}
 use Rattle.std.proofs.Common.{sym, ap, ◌∙◌, subst, true≢false, arith}
 use Rattle.tree.specs.Tree.{Tree, records}
-use Rattle.tree.specs.Maybe.{Maybe, nothing, just}
 use Rattle.tree.specs.Decode.{decode}
-use Rattle.tree.specs.Records.{nothing_just, just_same}
 use Rattle.grammar.specs.Reading.Limit.{no_statement}
 use Rattle.grammar.specs.Reading.Result.{ifb}
 use Rattle.grammar.specs.Canonical.Writing.{readable, write_stmt}
@@ -17,9 +15,8 @@ use Rattle.grammar.proofs.Laws.Facts.{not_true, by_test}
 use Rattle.grammar.specs.Given.{Given}
 use Rattle.grammar.proofs.Laws.Small.{valid_small}
 use Rattle.writer.specs.Promise.{said, answers_65 as writer_answers_65, given_valid, readable_given, given_decoded, decoded_given}
-use Rattle.std.specs.declared.option.Option.{Option}
-use Rattle.std.specs.declared.option.Option.TheVariants.{Some, None}
 use Rattle.std.specs.declared.result.Result.TheVariants.{Ok, Err}
+use Rattle.std.proofs.lemmas.Option.{none-some, same_Some}
 use Rattle.labels.specs.declared.Offence.{Offence}
 use Rattle.labels.specs.declared.Offence.TheVariants.{Labelled, Unlabelled}
 use Rattle.labels.specs.declared.Refusal.TheVariants.{NoStatement, Offends}
@@ -41,9 +38,6 @@ pub data Outcome (words : List ℕ) : Labels → Type 0 where
   not_given : (Given words → ⊥) → Outcome words (Err NoStatement)
   offends : (g : Given words) {i : ℕ} {o : Offence} → First g.tree i o → Outcome words (Err (Offends o i))
   fine : (g : Given words) → Clean g.tree → Outcome words (Ok tt)
-
-some_none : {o : Offence} → Some o ≡ None → ⊥
-some_none e = cc
 
 -- ---------------------------------------------------------------- the first of some offences
 pub data FirstAs (k : ℕ) (os : List (Option Offence)) : Labels → Type 0 where
@@ -77,7 +71,7 @@ first_is k (Some o ∷ os) =
 -- there is no other
 first_one : (k : ℕ) (os : List (Option Offence)) (i : ℕ) (o : Offence) → get_or os i None ≡ Some o → ((j : ℕ) → j < i → get_or os j None ≡ None) → first k os ≡ Err (Offends o (k + i))
 unfolding first
-first_one k [] i o h b = absurd (some_none (sym h))
+first_one k [] i o h b = absurd (none-some _ h)
 first_one k (m ∷ os) zero o h b =
     let z : k + 0 ≡ k = omega arith in
     rw (z, h)
@@ -100,9 +94,9 @@ module _ (words : List ℕ) where
   unfolding check_labels ifb
   not_given_is n = go (decode words) refl
     where
-      go : (d : Maybe Tree) → decode words ≡ d → check_labels words ≡ Err NoStatement
-      go nothing d = rw d
-      go (just t) d = rw (d, not_true (readable t) (λ r. n (decoded_given d r)))
+      go : (d : Option Tree) → decode words ≡ d → check_labels words ≡ Err NoStatement
+      go None d = rw d
+      go (Some t) d = rw (d, not_true (readable t) (λ r. n (decoded_given d r)))
 
   -- the check's answer is that of any outcome that there can be
   pub sole : {a : Labels} → Outcome words a → check_labels words ≡ a
@@ -122,12 +116,12 @@ module _ (words : List ℕ) where
   pub outcome : Outcome words (check_labels words)
   outcome = go (decode words) refl
     where
-      go : (d : Maybe Tree) → decode words ≡ d → Outcome words (check_labels words)
-      go nothing e = is (not_given (λ g. nothing_just (sym e ∙ given_decoded g)))
-      go (just t) e =
+      go : (d : Option Tree) → decode words ≡ d → Outcome words (check_labels words)
+      go None e = is (not_given (λ g. absurd (none-some _ (sym e ∙ given_decoded g))))
+      go (Some t) e =
           by_test (readable t)
           (λ r. let g = decoded_given e r in given_outcome g (first_is 0 (offences [] g.tree)))
-          (λ r. is (not_given (λ g. true≢false (sym (readable_given g) ∙ ap readable (just_same (sym (given_decoded g) ∙ e)) ∙ r))))
+          (λ r. is (not_given (λ g. true≢false (sym (readable_given g) ∙ ap readable (same_Some _ _ (sym (given_decoded g) ∙ e)) ∙ r))))
 
 -- ---------------------------------------------------------------- the record that is answered
 -- it is a break or a continue, and the offence says whether it has a label
@@ -139,13 +133,13 @@ offence_says : (r : List Enclosing) (k l : ℕ) {o : Offence} → offence r k l 
 unfolding offence
 offence_says r k l {o} e =
     by_test (is_jump k)
-    (λ j. by_test (any_serves k l r) (λ a. absurd (some_none (sym e ∙ rw (j, a)))) λ a. let s : Some o ≡ Some (offender l) = sym e ∙ rw (j, a) in (j, cc))
-    (λ j. absurd (some_none (sym e ∙ rw j)))
+    (λ j. by_test (any_serves k l r) (λ a. absurd (none-some _ (sym (rw (j, a)) ∙ e))) λ a. let s : Some o ≡ Some (offender l) = sym e ∙ rw (j, a) in (j, cc))
+    (λ j. absurd (none-some _ (sym (rw j) ∙ e)))
 
 behind_at : (L : List ℕ) (i : ℕ) {o : Offence} → get_or (behind L) i None ≡ Some o → Points L i o
 unfolding behind
-behind_at [] i e = absurd (some_none (sym e))
-behind_at (w ∷ []) i e = absurd (some_none (sym e))
+behind_at [] i e = absurd (none-some _ e)
+behind_at (w ∷ []) i e = absurd (none-some _ e)
 behind_at (w ∷ v ∷ r) zero e = let o = offence_says (enclosing 1 r) (w % 256) v e in record { jump = o.0; label = o.1 }
 behind_at (w ∷ v ∷ r) (suc i) e =
     let p = behind_at r i e in

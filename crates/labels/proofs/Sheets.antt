@@ -1,10 +1,9 @@
 -- Sheets about labels, each of one statement, with what the check answers of its tree, and trees that no sheet within the limits gives: one table and one theorem,
 -- `labels_tried`. Each row tells the right reading of document 02 from a wrong one that is near. Assumes nothing.
-use Rattle.std.specs.Prelude.{◌≡◌, refl, List, [], ◌∷◌, ℕ}
+use Rattle.std.specs.Prelude.{◌≡◌, refl, List, [], ◌∷◌, ℕ, Option, Some, None}
 use Rattle.token.specs.Kind
 use Rattle.tree.specs.Tree.{Tree, Forest, none, more, one, records}
 use Rattle.tree.specs.Node
-use Rattle.tree.specs.Maybe.{Maybe, nothing, just}
 use Rattle.tree.specs.Decode.{gather, stacked, decode}
 use Rattle.grammar.specs.Reading.Limit.{depth_limit}
 use Rattle.grammar.specs.Canonical.Need.{need}
@@ -16,10 +15,10 @@ use Rattle.labels.specs.declared.Refusal.TheVariants.{NoStatement, Offends}
 use Rattle.labels.specs.Offences.{Labels, offence, inside, offences, first, check_labels}
 
 -- the records of a sheet's one statement
-abbrev pub only : Maybe Forest → List ℕ
-only nothing = []
-only (just none) = []
-only (just (more t f)) = records t
+abbrev pub only : Option Forest → List ℕ
+only None = []
+only (Some none) = []
+only (Some (more t f)) = records t
 
 abbrev pub read : List ℕ → List ℕ
 read sheet = only (clean_reading depth_limit sheet)

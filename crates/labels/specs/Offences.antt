@@ -1,12 +1,9 @@
 -- Which `break` or `continue` of a statement leads nowhere (document 02, P2), and the check of a statement's records as a whole. Definitions; they assume nothing.
-use Rattle.std.specs.Prelude.{Bool, true, false, ◌&&◌, ◌||◌, List, [], ◌∷◌, ◌++◌, ℕ, suc, eqb}
-use Rattle.std.specs.declared.option.Option.{Option}
-use Rattle.std.specs.declared.option.Option.TheVariants.{Some, None}
+use Rattle.std.specs.Prelude.{Bool, true, false, ◌&&◌, ◌||◌, List, [], ◌∷◌, ◌++◌, ℕ, suc, eqb, Option, Some, None}
 use Rattle.std.specs.declared.result.Result.{Result}
 use Rattle.std.specs.declared.result.Result.TheVariants.{Ok, Err}
 use Rattle.tree.specs.NodeKind
 use Rattle.tree.specs.Tree.{Tree, Forest, node, none, more}
-use Rattle.tree.specs.Maybe.{Maybe, nothing, just}
 use Rattle.tree.specs.Decode.{decode}
 use Rattle.grammar.specs.Reading.Limit.{no_statement, offender_labelled, offender_unlabelled}
 use Rattle.grammar.specs.Reading.Result.{ifb}
@@ -82,9 +79,9 @@ unfoldable pub first : ℕ → List (Option Offence) → Labels
 first i [] = Ok tt
 first i (o ∷ os) = noted i o (first (suc i) os)
 
-abbrev pub checked : Maybe Tree → Labels
-checked nothing = Err NoStatement
-checked (just t) = ifb (readable t) (λ _. first 0 (offences [] t)) (λ _. Err NoStatement)
+abbrev pub checked : Option Tree → Labels
+checked None = Err NoStatement
+checked (Some t) = ifb (readable t) (λ _. first 0 (offences [] t)) (λ _. Err NoStatement)
 
 -- the check, of the records of one statement with nothing after them
 unfoldable pub check_labels : List ℕ → Labels

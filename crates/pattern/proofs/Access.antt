@@ -5,11 +5,11 @@ use mathlib.Core.List.{List, ◌++◌, append_assoc}
 use Prim.Native.Nat.{ℕ, suc, ◌+◌, ◌*◌, ◌-◌, ◌/◌, ◌%◌, ◌≤◌, ◌<◌}
 use native.Mathlib.Omega.{arith}
 use lib.ListN.{length, take, get_or}
+use Rattle.std.specs.Prelude.{Option, Some, None}
 use Rattle.tree.specs.NodeKind
 use Rattle.tree.specs.Tree.{Tree, Forest, node, none, one, two, count, records}
 use Rattle.tree.specs.Records.{Small, Smalls}
 use Rattle.tree.specs.Rows.{Row, end, on, rows, width, SmallRow, push, Trees, width_push, small_push, rows_long}
-use Rattle.tree.specs.Maybe.{Maybe, nothing, just}
 use Rattle.grammar.specs.Reading.Pattern.{pattern, receiver, by_item, by_path, conv}
 use Rattle.pattern.specs.Word
 use Rattle.pattern.specs.Contract.{Is, has_members}
@@ -72,17 +72,17 @@ module _ {C S : List ℕ} {i : ℕ} {t : Tree} (p : Receives C S i t) where
       let o = rows_long (on end p.atom) in
       omega arith
 
-  not_path_step : (get_or S (i - 4) 0 % 256 ≡ NodeKind.List → ⊥) → conv t pattern ≡ nothing
+  not_path_step : (get_or S (i - 4) 0 % 256 ≡ NodeKind.List → ⊥) → conv t pattern ≡ None
   not_path_step z =
       let k = p.node_of in
       p.is ∙ ap (by_path p.v p.atom) k.shape ∙ not_path p.v p.atom k.kind k.val k.kids k.less (λ q. z (ap (λ (n : ℕ). n % 256) k.word ∙ q))
 
-  no_path_step : get_or S (i - 4) 0 < 256 → conv t pattern ≡ nothing
+  no_path_step : get_or S (i - 4) 0 < 256 → conv t pattern ≡ None
   no_path_step z =
       let k = p.node_of in
       p.is ∙ ap (by_path p.v p.atom) k.shape ∙ no_path p.v p.atom k.kind k.val k.kids (omega arith)
 
-  pub path_none : has_members (get_or S (i - 4) 0) ≡ false → conv t pattern ≡ nothing
+  pub path_none : has_members (get_or S (i - 4) 0) ≡ false → conv t pattern ≡ None
   path_none z = no_member _ z not_path_step no_path_step
 
 module _ {C S : List ℕ} {i : ℕ} {t : Tree} (h : i ≤ length S) (p : Receives C S i t) where
@@ -120,7 +120,7 @@ module _ {C S : List ℕ} {i : ℕ} {t : Tree} (s : Shape C S i t) where
   abbrev receiver_of : Tree
   receiver_of = receiver s.v s.atom s.w s.front
 
-  last_is : {m : Maybe Tree} → by_item receiver_of (node s.node_of.kind s.node_of.val s.node_of.kids) ≡ m → conv t pattern ≡ m
+  last_is : {m : Option Tree} → by_item receiver_of (node s.node_of.kind s.node_of.val s.node_of.kids) ≡ m → conv t pattern ≡ m
   last_is e = s.is ∙ ap (by_item receiver_of) s.node_of.shape ∙ e
 
   wide : width before_last ≡ get_or S (i - 4) 0 / 256
@@ -135,16 +135,16 @@ module _ {C S : List ℕ} {i : ℕ} {t : Tree} (s : Shape C S i t) where
   pub front_trees : (j : ℕ) → take j S ≡ C ++ rows before_last → Trees C (take j S) (get_or S (i - 4) 0 / 256)
   front_trees j e = record { row = before_last; many = wide; small = all_small; text = e }
 
-  pub no_item_step : (get_or S (i - 6) 0 ≡ Word.Attribute → ⊥) → (get_or S (i - 6) 0 ≡ Word.Index → ⊥) → conv t pattern ≡ nothing
+  pub no_item_step : (get_or S (i - 6) 0 ≡ Word.Attribute → ⊥) → (get_or S (i - 6) 0 ≡ Word.Index → ⊥) → conv t pattern ≡ None
   no_item_step a b =
       let n = s.node_of in
       last_is (no_item receiver_of n.kind n.val n.kids (λ q. a (n.word ∙ q)) (λ q. b (n.word ∙ q)))
 
   -- an attribute last: the rest of the path and the atom stand before it
-  attribute_of : get_or S (i - 6) 0 ≡ Word.Attribute → (s.node_of.kids ≡ none) × (by_item receiver_of (node s.node_of.kind s.node_of.val s.node_of.kids) ≡ just (node NodeKind.AttributePattern s.node_of.val (one receiver_of)))
+  attribute_of : get_or S (i - 6) 0 ≡ Word.Attribute → (s.node_of.kids ≡ none) × (by_item receiver_of (node s.node_of.kind s.node_of.val s.node_of.kids) ≡ Some (node NodeKind.AttributePattern s.node_of.val (one receiver_of)))
   attribute_of e = let n = s.node_of in attribute_is receiver_of n.kind n.val n.kids (sym n.word ∙ e)
 
-  pub attribute_pat : get_or S (i - 6) 0 ≡ Word.Attribute → conv t pattern ≡ just (node NodeKind.AttributePattern (get_or S (i - 5) 0) (one receiver_of))
+  pub attribute_pat : get_or S (i - 6) 0 ≡ Word.Attribute → conv t pattern ≡ Some (node NodeKind.AttributePattern (get_or S (i - 5) 0) (one receiver_of))
   attribute_pat e = last_is ((attribute_of e).1 ∙ rw s.node_of.value)
 
   pub attribute_text : get_or S (i - 6) 0 ≡ Word.Attribute → take (i - 6) S ≡ C ++ rows before_last
@@ -160,7 +160,7 @@ module _ {C S : List ℕ} {i : ℕ} {t : Tree} (s : Shape C S i t) where
       let n = s.node_of in
       index_is receiver_of n.kind n.val n.kids n.less (sym n.word ∙ e)
 
-  pub index_pat : (e : get_or S (i - 6) 0 ≡ Word.Index) → conv t pattern ≡ just (node NodeKind.IndexPattern 0 (two receiver_of (index_of e).expr))
+  pub index_pat : (e : get_or S (i - 6) 0 ≡ Word.Index) → conv t pattern ≡ Some (node NodeKind.IndexPattern 0 (two receiver_of (index_of e).expr))
   index_pat e = last_is (index_of e).is
 
   pub index_text : (e : get_or S (i - 6) 0 ≡ Word.Index) → take (i - 6) S ≡ C ++ rows (on before_last (index_of e).expr)
@@ -183,24 +183,24 @@ module _ {C S : List ℕ} {i : ℕ} {t : Tree} (s : Shape C S i t) where
       record { row = on end (index_of e).expr; many = refl; small = (tt, index_small e); text = index_text e ∙ rw append_assoc }
 
 -- the top of a row is an access
-module _ {m : Maybe Tree} {B S : List ℕ} {i : ℕ} {Y : List ℕ} (x : View m B S i Y) where
+module _ {m : Option Tree} {B S : List ℕ} {i : ℕ} {Y : List ℕ} (x : View m B S i Y) where
   pub top_text : take i S ≡ (B ++ rows x.under) ++ records x.tree
   unfolding rows
   top_text = x.whole ∙ rw append_assoc
 
-  pub no_top : conv x.tree pattern ≡ nothing → m ≡ nothing
+  pub no_top : conv x.tree pattern ≡ None → m ≡ None
   no_top e = none_of m (x.same ∙ none_on_top x.under x.tree Y e)
 
-  pub top_passed : {T : List ℕ} (p : Tree) → conv x.tree pattern ≡ just p → T ≡ B ++ rows x.under → Ahead m B T (records p ++ Y)
+  pub top_passed : {T : List ℕ} (p : Tree) → conv x.tree pattern ≡ Some p → T ≡ B ++ rows x.under → Ahead m B T (records p ++ Y)
   top_passed p e t = record { row = x.under; small = x.rest; text = t; same = x.same ∙ pattern_on_top x.under x.tree Y p e }
 
-  pub top_pat : (m ≡ nothing → ⊥) → Is (conv x.tree pattern)
+  pub top_pat : (m ≡ None → ⊥) → Is (conv x.tree pattern)
   top_pat d = go (conv x.tree pattern) refl
     where
-      go : (c : Maybe Tree) → conv x.tree pattern ≡ c → Is (conv x.tree pattern)
-      go nothing e = absurd (d (no_top e))
-      go (just p) e = record { what = p; same = e }
+      go : (c : Option Tree) → conv x.tree pattern ≡ c → Is (conv x.tree pattern)
+      go None e = absurd (d (no_top e))
+      go (Some p) e = record { what = p; same = e }
 
-pub top_primary : {m : Maybe Tree} {B S : List ℕ} {i : ℕ} {Y : List ℕ} → i ≤ length S → (x : View m B S i Y) → get_or S (i - 2) 0 ≡ Word.Primary → Receives (B ++ rows x.under) S i x.tree
+pub top_primary : {m : Option Tree} {B S : List ℕ} {i : ℕ} {Y : List ℕ} → i ≤ length S → (x : View m B S i Y) → get_or S (i - 2) 0 ≡ Word.Primary → Receives (B ++ rows x.under) S i x.tree
 unfolding rows
 top_primary {B = B} {S = S} {i = i} h x e = primary_at (B ++ rows x.under) S i x.tree h x.small (top_text x) e

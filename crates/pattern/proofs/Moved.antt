@@ -9,10 +9,11 @@ use borrow.Author.Tests.{eqb-true, eqb-false}
 use lib.Dec.{eqb}
 use lib.ListN.{length, take, drop, get_or, length-append, length-take, length-drop, take-append-drop}
 use lib.Seq.{take-take, take-add, take_at, drop_at, drop-drop, drop-append-add, length-take-le}
+use Rattle.std.specs.Prelude.{Option, Some}
+use Rattle.std.proofs.lemmas.Option.{none-some}
 use Rattle.tree.specs.NodeKind
 use Rattle.tree.specs.Tree.{Tree, Forest, node, one, two, count, records}
 use Rattle.tree.specs.Rows.{end, on, rows, push, Starts, rows_push}
-use Rattle.tree.specs.Maybe.{Maybe, nothing, just}
 use Rattle.tree.specs.Store.{Emitted, Copied}
 use Rattle.std.proofs.lemmas.Slice.{between_is}
 use Rattle.grammar.specs.Reading.Pattern.{pattern, receiver, conv, to_pattern}
@@ -51,15 +52,12 @@ module _ {from to dest : ℕ} {S S' : List ℕ} (p : Copied from to dest S S') w
   copied_then : (m n : ℕ) → dest ≡ m → dest + (to - from) ≡ n → drop m S' ≡ drop from (take to S) ++ drop n S
   copied_then m n d e = ap (λ (k : ℕ). drop k S') (sym d) ∙ p.onward ∙ ap (λ (k : ℕ). drop from (take to S) ++ drop k S) e
 
-just_not : {p : Tree} (m : Maybe Tree) → m ≡ just p → m ≡ nothing → ⊥
-just_not m a b = let z : ◌≡◌ {A = ℕ} 0 1 = cc in omega arith
-
 -- an access that is a pattern has a path, and an attribute or an index last
-shape_from : {C S : List ℕ} {i : ℕ} {t : Tree} {p : Tree} → i ≤ length S → Receives C S i t → conv t pattern ≡ just p → Shape C S i t
+shape_from : {C S : List ℕ} {i : ℕ} {t : Tree} {p : Tree} → i ≤ length S → Receives C S i t → conv t pattern ≡ Some p → Shape C S i t
 shape_from {S = S} {i = i} {t = t} h q e =
     by_test (has_members (get_or S (i - 4) 0))
     (λ z. let l = some_members _ z in shape_of h q l.0 l.1)
-    (λ z. absurd (just_not (conv t pattern) e (path_none q z)))
+    (λ z. absurd (none-some _ (sym (path_none q z) ∙ e)))
 
 module _ {B : List ℕ} {p : Tree} {S : List ℕ} {i w : ℕ} (a : Access B p S i w) where
   pub reach : i ≤ length S
@@ -72,7 +70,7 @@ module _ {B : List ℕ} {p : Tree} {S : List ℕ} {i w : ℕ} (a : Access B p S 
   pub sure_index : (get_or S (i - 6) 0 ≡ Word.Attribute → ⊥) → get_or S (i - 6) 0 ≡ Word.Index
   sure_index n =
       by_test (eqb (get_or S (i - 6) 0) Word.Index) (λ z. eqb-true _ _ z)
-      (λ z. absurd (just_not (conv a.tree pattern) a.same (no_item_step sure_shape n (eqb-false _ _ z))))
+      (λ z. absurd (none-some _ (sym (no_item_step sure_shape n (eqb-false _ _ z)) ∙ a.same)))
 
 -- the words of the two patterns
 attribute_records : (v : ℕ) (t : Tree) (w : ℕ) (f : Forest) (x : ℕ) (Z : List ℕ) → rows (push (on end t) f) ++ (NodeKind.List + 256 * count f) ∷ w ∷ Word.Primary ∷ v ∷ Word.AttributePattern ∷ x ∷ Z ≡ records (node NodeKind.AttributePattern x (one (receiver v t w f))) ++ Z
@@ -83,7 +81,7 @@ index_records : (v : ℕ) (t : Tree) (w : ℕ) (f : Forest) (u : Tree) (Z : List
 unfolding rows records count
 index_records v t w f u Z = rw rows_push (simp (append_assoc, append-nil))
 
-same_pat : {p q : Tree} (m : Maybe Tree) → m ≡ just p → m ≡ just q → q ≡ p
+same_pat : {p q : Tree} (m : Option Tree) → m ≡ Some p → m ≡ Some q → q ≡ p
 same_pat m a b = cc
 
 module _ {B : List ℕ} {p : Tree} {S : List ℕ} {i w : ℕ} (a : Access B p S i w) where
@@ -153,19 +151,19 @@ module _ {B : List ℕ} {p : Tree} {S : List ℕ} {i w : ℕ} (a : Access B p S 
       }
 
 -- the work so far: trees that are to be patterns up to i, and from w on the records of those that are
-pub record Going (m : Maybe Tree) (B Z S : List ℕ) (i w : ℕ) : Type 0 where
+pub record Going (m : Option Tree) (B Z S : List ℕ) (i w : ℕ) : Type 0 where
   pub ahead : List ℕ
   pub left : Ahead m B (take i S) ahead
   pub done : drop w S ≡ ahead ++ Z
 
-pub go_same : {m : Maybe Tree} {B S Y : List ℕ} (Z : List ℕ) {i w : ℕ} → Ahead m B (take i S) Y → drop w S ≡ Y ++ Z → Going m B Z S i w
+pub go_same : {m : Option Tree} {B S Y : List ℕ} (Z : List ℕ) {i w : ℕ} → Ahead m B (take i S) Y → drop w S ≡ Y ++ Z → Going m B Z S i w
 go_same {Y = Y} Z a d = record { ahead = Y; left = a; done = d }
 
-pub go_emit : {m : Maybe Tree} {B S S' Y : List ℕ} (Z : List ℕ) {word value at r : ℕ} (n w : ℕ) → Ahead m B (take n S) (word ∷ value ∷ Y) → drop w S ≡ Y ++ Z → Emitted at word value r S S' → n ≤ at → at + 2 ≡ w → Going m B Z S' n at
+pub go_emit : {m : Option Tree} {B S S' Y : List ℕ} (Z : List ℕ) {word value at r : ℕ} (n w : ℕ) → Ahead m B (take n S) (word ∷ value ∷ Y) → drop w S ≡ Y ++ Z → Emitted at word value r S S' → n ≤ at → at + 2 ≡ w → Going m B Z S' n at
 go_emit {Y = Y} Z {word = word} {value = value} n w a d p h e =
     record { ahead = word ∷ value ∷ Y; left = rw (before_record p n h) a; done = record_then p w e ∙ ap (λ (l : List ℕ). word ∷ value ∷ l) d }
 
-pub go_access : {m : Maybe Tree} {B S S' Y : List ℕ} (Z : List ℕ) {i w r : ℕ} {p : Tree} → (x : View m B S i Y) → conv x.tree pattern ≡ just p → drop w S ≡ Y ++ Z → Moved (B ++ rows x.under) p S i w r S' → Going m B Z S' r (r + (w - i))
+pub go_access : {m : Option Tree} {B S S' Y : List ℕ} (Z : List ℕ) {i w r : ℕ} {p : Tree} → (x : View m B S i Y) → conv x.tree pattern ≡ Some p → drop w S ≡ Y ++ Z → Moved (B ++ rows x.under) p S i w r S' → Going m B Z S' r (r + (w - i))
 go_access {S' = S'} {Y = Y} Z {r = r} {p = p} x e d q =
     record {
       ahead = records p ++ Y;
@@ -173,7 +171,7 @@ go_access {S' = S'} {Y = Y} Z {r = r} {p = p} x e d q =
       done = q.tail ∙ ap (λ (l : List ℕ). records p ++ l) d ∙ sym (append_assoc (records p) Y Z);
     }
 
-abbrev pub an_access : {m : Maybe Tree} {B S Y : List ℕ} {i w : ℕ} {p : Tree} → (x : View m B S i Y) → conv x.tree pattern ≡ just p → get_or S (i - 2) 0 ≡ Word.Primary → i ≤ w → w ≤ length S → Access (B ++ rows x.under) p S i w
+abbrev pub an_access : {m : Option Tree} {B S Y : List ℕ} {i w : ℕ} {p : Tree} → (x : View m B S i Y) → conv x.tree pattern ≡ Some p → get_or S (i - 2) 0 ≡ Word.Primary → i ≤ w → w ≤ length S → Access (B ++ rows x.under) p S i w
 an_access x e k a b = record { tree = x.tree; small = x.small; text = top_text x; same = e; kind = k; before = a; within = b }
 
 -- what is no identifier, group, unpack or access and yet a pattern is a tuple
@@ -182,14 +180,14 @@ record Members (S : List ℕ) (i : ℕ) : Type 0 where
   list : get_or S (i - 4) 0 % 256 ≡ NodeKind.List
   some : 256 ≤ get_or S (i - 4) 0
 
-sure_tuple : {m : Maybe Tree} {B S Y : List ℕ} {i : ℕ} {p : Tree} → i ≤ length S → View m B S i Y → m ≡ just p
+sure_tuple : {m : Option Tree} {B S Y : List ℕ} {i : ℕ} {p : Tree} → i ≤ length S → View m B S i Y → m ≡ Some p
     → (get_or S (i - 2) 0 ≡ Word.Identifier → ⊥) → (get_or S (i - 2) 0 ≡ Word.Group → ⊥) → (get_or S (i - 2) 0 ≡ Word.Unpack → ⊥) → (get_or S (i - 2) 0 ≡ Word.Primary → ⊥) → Members S i
 sure_tuple {m = m} {S = S} {i = i} h x e a b c d =
     by_test (eqb (get_or S (i - 2) 0) Word.Tuple)
     (λ z. by_test (has_members (get_or S (i - 4) 0))
     (λ y. let l = some_members _ y in record { tuple = eqb-true _ _ z; list = l.0; some = l.1 })
-    (λ y. absurd (just_not m e (tuple_none h x (eqb-true _ _ z) y))))
-    (λ z. absurd (just_not m e (no_pattern x a b c (eqb-false _ _ z) d)))
+    (λ y. absurd (none-some _ (sym (tuple_none h x (eqb-true _ _ z) y) ∙ e))))
+    (λ z. absurd (none-some _ (sym (no_pattern x a b c (eqb-false _ _ z) d) ∙ e)))
 
 -- what an unpack or a tuple becomes is a record or two
 over_size : (a b : Bool) (x v : ℕ) → (2 ≤ length (over_as a b x v)) × (length (over_as a b x v) ≤ 4)
@@ -198,12 +196,12 @@ over_size true false x v = (omega arith, omega arith)
 over_size false b x v = (omega arith, omega arith)
 
 -- an unpack or a tuple: what stands before i once its record is passed, and what it has become
-pub record Above (m : Maybe Tree) (B S : List ℕ) (i : ℕ) (Y : List ℕ) : Type 0 where
+pub record Above (m : Option Tree) (B S : List ℕ) (i : ℕ) (Y : List ℕ) : Type 0 where
   pub room : 4 ≤ i
   pub many : (2 ≤ length (over_words S i)) × (length (over_words S i) ≤ 4)
   pub next : Ahead m B (take (i - length (over_words S i)) S) (over_words S i ++ Y)
 
-pub sure_above : {m : Maybe Tree} {B S Y : List ℕ} {i : ℕ} {p : Tree} → i ≤ length S → View m B S i Y → m ≡ just p
+pub sure_above : {m : Option Tree} {B S Y : List ℕ} {i : ℕ} {p : Tree} → i ≤ length S → View m B S i Y → m ≡ Some p
     → (get_or S (i - 2) 0 ≡ Word.Identifier → ⊥) → (get_or S (i - 2) 0 ≡ Word.Group → ⊥) → (get_or S (i - 2) 0 ≡ Word.Primary → ⊥) → Above m B S i Y
 sure_above {S = S} {i = i} h x e a b c =
     let size = over_size (eqb (get_or S (i - 2) 0) Word.Unpack) (eqb (get_or S (i - 4) 0) Word.Absent) (get_or S (i - 4) 0) (get_or S (i - 3) 0) in
@@ -216,7 +214,7 @@ sure_above {S = S} {i = i} h x e a b c =
     (λ z. let t = sure_tuple h x e a b (eqb-false _ _ z) c in
     record { room = omega (arith, tuple_room h x t.tuple); many = size; next = rw z (tuple_step h x t.tuple t.list t.some) })
 
-pub go_over : {m : Maybe Tree} {B S S' Y : List ℕ} (Z : List ℕ) {i w r : ℕ} → Above m B S i Y → drop w S ≡ Y ++ Z → i ≤ w → Over (over_words S i) w S r S' → Going m B Z S' (i - r) (w - r)
+pub go_over : {m : Option Tree} {B S S' Y : List ℕ} (Z : List ℕ) {i w r : ℕ} → Above m B S i Y → drop w S ≡ Y ++ Z → i ≤ w → Over (over_words S i) w S r S' → Going m B Z S' (i - r) (w - r)
 go_over {S = S} {S' = S'} {Y = Y} Z {i = i} {w = w} {r = r} a d h o =
     let X = over_words S i in
     let e : take (i - r) S' ≡ take (i - length X) S = keep (i - r) (w - r) S S' (omega arith) o.head ∙ ap (λ (n : ℕ). take (i - n) S) o.many in
@@ -238,19 +236,19 @@ over_two {S = S} {w = w} {a = a} {b = b} h p q e =
       tail = record_then q (w - 2) (omega arith) ∙ ap (λ (l : List ℕ). a ∷ b ∷ l) (record_then p w (omega arith)) ∙ ap (λ (l : List ℕ). l ++ drop w S) (sym e);
     }
 
-pub sure_pat : {m : Maybe Tree} {B S Y : List ℕ} {i : ℕ} {p : Tree} → (x : View m B S i Y) → m ≡ just p → Is (conv x.tree pattern)
-sure_pat {m = m} x e = top_pat x (just_not m e)
+pub sure_pat : {m : Option Tree} {B S Y : List ℕ} {i : ℕ} {p : Tree} → (x : View m B S i Y) → m ≡ Some p → Is (conv x.tree pattern)
+sure_pat x e = top_pat x (λ z. none-some _ (sym z ∙ e))
 
 -- what stands up to i is no shorter than what stands before the trees
-pub not_below : {m : Maybe Tree} {B Y : List ℕ} (S : List ℕ) (i : ℕ) → i ≤ length S → Ahead m B (take i S) Y → length B ≤ i
+pub not_below : {m : Option Tree} {B Y : List ℕ} (S : List ℕ) (i : ℕ) → i ≤ length S → Ahead m B (take i S) Y → length B ≤ i
 not_below {B = B} S i h a = omega (arith, sym (length-take-le i S h) ∙ ap length a.text ∙ length-append B (rows a.row))
 
 -- where all is done
-same_words : (m : Maybe Tree) (p : Tree) (Y : List ℕ) → m ≡ just p → wordsM m ≡ just Y → Y ≡ records p
+same_words : (m : Option Tree) (p : Tree) (Y : List ℕ) → m ≡ Some p → wordsM m ≡ Some Y → Y ≡ records p
 same_words m p Y e w =
     cc
 
-base_text : {m : Maybe Tree} {B Y : List ℕ} (S : List ℕ) (i : ℕ) → i ≤ length S → Ahead m B (take i S) Y → take (length B) S ≡ B
+base_text : {m : Option Tree} {B Y : List ℕ} (S : List ℕ) (i : ℕ) → i ≤ length S → Ahead m B (take i S) Y → take (length B) S ≡ B
 base_text {B = B} S i h a =
     let l = not_below S i h a in
     sym (take-take (length B) i S l) ∙ ap (take (length B)) a.text ∙ take_at B (rows a.row) (length B) refl

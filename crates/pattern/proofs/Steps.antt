@@ -8,11 +8,12 @@ use borrow.Author.Tests.{eqb-true, eqb-false, leb-true, leb-false}
 use lib.Dec.{eqb}
 use lib.ListN.{length, take, get_or, length-take, length-append}
 use lib.Seq.{length-take-le}
+use Rattle.std.specs.Prelude.{Option, Some, None, is_some, option_and_then}
 use Rattle.tree.specs.NodeKind
 use Rattle.tree.specs.Tree.{Tree, Forest, node, none, one, count, records, all_records}
 use Rattle.tree.specs.Records.{Small, Smalls}
 use Rattle.tree.specs.Rows.{Row, end, on, rows, width, SmallRow, push, rows_push, small_push, rows_long, top}
-use Rattle.tree.specs.Maybe.{Maybe, nothing, just, is_just, bindM, both}
+use Rattle.tree.specs.Choice.{both}
 use Rattle.grammar.specs.Reading.Pattern.{pattern, maybe, members, over, modified, grouped, listed, conv, all_conv, to_pattern}
 use Rattle.grammar.proofs.Laws.Facts.{by_test}
 use Rattle.pattern.specs.Word
@@ -20,7 +21,7 @@ use Rattle.pattern.specs.Contract.{Whole, has_members}
 use Rattle.pattern.proofs.Conv.{ident, Over, group, unpack, absent, present, tuple, list_is, not_list, no_members, other, convR, wordsR, wordsM, pattern_on_top, none_on_top, same_as, wrapped, tupled}
 
 -- the words T are B and trees that are to be patterns, Y is what follows them, and all of that is the pattern m
-pub record Ahead (m : Maybe Tree) (B T Y : List ℕ) : Type 0 where
+pub record Ahead (m : Option Tree) (B T Y : List ℕ) : Type 0 where
   pub row : Row
   pub small : SmallRow row
   pub text : T ≡ B ++ rows row
@@ -59,7 +60,7 @@ at_node B S i a b r (node k v f) p q h s e =
     }
 
 -- the top of the row
-pub record View (m : Maybe Tree) (B S : List ℕ) (i : ℕ) (Y : List ℕ) : Type 0 where
+pub record View (m : Option Tree) (B S : List ℕ) (i : ℕ) (Y : List ℕ) : Type 0 where
   pub under : Row
   pub tree : Tree
   pub rest : SmallRow under
@@ -68,7 +69,7 @@ pub record View (m : Maybe Tree) (B S : List ℕ) (i : ℕ) (Y : List ℕ) : Typ
   pub here : Node B S i (i - 2) (i - 1) under tree
   pub same : wordsM m ≡ wordsR (convR (on under tree)) Y
 
-view_row : (m : Maybe Tree) (B S : List ℕ) (i : ℕ) (Y : List ℕ) (row : Row) → i ≤ length S → length B < i → SmallRow row → take i S ≡ B ++ rows row → wordsM m ≡ wordsR (convR row) Y → View m B S i Y
+view_row : (m : Option Tree) (B S : List ℕ) (i : ℕ) (Y : List ℕ) (row : Row) → i ≤ length S → length B < i → SmallRow row → take i S ≡ B ++ rows row → wordsM m ≡ wordsR (convR row) Y → View m B S i Y
 unfolding SmallRow rows
 view_row m B S i Y end h l s e w =
     let n : i ≡ length B = sym (length-take-le i S h) ∙ ap length (e ∙ append-nil B) in
@@ -76,7 +77,7 @@ view_row m B S i Y end h l s e w =
 view_row m B S i Y (on r t) h l s e w =
     record { under = r; tree = t; rest = s.0; small = s.1; whole = e; here = at_node B S i (i - 2) (i - 1) r t refl refl h s.1 e; same = w }
 
-module _ {m : Maybe Tree} {B S : List ℕ} {i : ℕ} {Y : List ℕ} where
+module _ {m : Option Tree} {B S : List ℕ} {i : ℕ} {Y : List ℕ} where
   pub view : i ≤ length S → Ahead m B (take i S) Y → length B < i → View m B S i Y
   view h a l = view_row m B S i Y a.row h l a.small a.text a.same
 
@@ -85,15 +86,15 @@ pub shorter : (S : List ℕ) (from i : ℕ) → from < i → length (take from S
 shorter S from i h = rw length-take (omega arith)
 
 -- a row's top that is no pattern
-pub none_of : (m : Maybe Tree) → wordsM m ≡ nothing → m ≡ nothing
-none_of nothing e = refl
-none_of (just p) e = absurd (let z : ◌≡◌ {A = ℕ} 0 1 = cc in omega arith)
+pub none_of : (m : Option Tree) → wordsM m ≡ None → m ≡ None
+none_of None e = refl
+none_of (Some p) e = absurd (let z : ◌≡◌ {A = ℕ} 0 1 = cc in omega arith)
 
-failed : {m : Maybe Tree} {B S : List ℕ} {i : ℕ} {Y : List ℕ} → (x : View m B S i Y) → conv (node x.here.kind x.here.val x.here.kids) pattern ≡ nothing → m ≡ nothing
+failed : {m : Option Tree} {B S : List ℕ} {i : ℕ} {Y : List ℕ} → (x : View m B S i Y) → conv (node x.here.kind x.here.val x.here.kids) pattern ≡ None → m ≡ None
 failed {m = m} {Y = Y} x e = none_of m (x.same ∙ none_on_top x.under x.tree Y (ap (λ (t : Tree). conv t pattern) x.here.shape ∙ e))
 
 -- where the row has ended
-row_end : (m : Maybe Tree) (B S : List ℕ) (i : ℕ) (Y : List ℕ) (row : Row) → i ≤ length S → i ≤ length B → take i S ≡ B ++ rows row → wordsM m ≡ wordsR (convR row) Y → wordsM m ≡ just Y
+row_end : (m : Option Tree) (B S : List ℕ) (i : ℕ) (Y : List ℕ) (row : Row) → i ≤ length S → i ≤ length B → take i S ≡ B ++ rows row → wordsM m ≡ wordsR (convR row) Y → wordsM m ≡ Some Y
 unfolding convR rows width
 row_end m B S i Y end h l e w = w
 row_end m B S i Y (on r t) h l e w =
@@ -101,28 +102,28 @@ row_end m B S i Y (on r t) h l e w =
     let o = rows_long (on r t) in
     absurd (omega arith)
 
-pub all_read : {m : Maybe Tree} {B : List ℕ} (S : List ℕ) (i : ℕ) {Y : List ℕ} → i ≤ length S → Ahead m B (take i S) Y → i ≤ length B → wordsM m ≡ just Y
+pub all_read : {m : Option Tree} {B : List ℕ} (S : List ℕ) (i : ℕ) {Y : List ℕ} → i ≤ length S → Ahead m B (take i S) Y → i ≤ length B → wordsM m ≡ Some Y
 all_read {m = m} {B = B} S i {Y = Y} h a l = row_end m B S i Y a.row h l a.text a.same
 
-pub decided_yes : (m : Maybe Tree) {Y : List ℕ} → wordsM m ≡ just Y → true ≡ is_just m
-decided_yes nothing e = absurd (let z : ◌≡◌ {A = ℕ} 0 1 = cc in omega arith)
-decided_yes (just p) e = refl
+pub decided_yes : (m : Option Tree) {Y : List ℕ} → wordsM m ≡ Some Y → true ≡ is_some m
+decided_yes None e = absurd (let z : ◌≡◌ {A = ℕ} 0 1 = cc in omega arith)
+decided_yes (Some p) e = refl
 
 -- at the start: one tree
 pub whole_ahead : {t : Tree} {S : List ℕ} {from to : ℕ} → Whole t S from to → Ahead (to_pattern t) (take from S) (take to S) []
 unfolding SmallRow rows convR
 whole_ahead {t = t} g = record { row = on end t; small = (tt, g.small); text = g.text; same = sym (go (to_pattern t)) }
   where
-    go : (n : Maybe Tree) → wordsR (both on (just end) n) [] ≡ wordsM n
-    go nothing = refl
-    go (just p) = ap just (append-nil (records p))
+    go : (n : Option Tree) → wordsR (both on (Some end) n) [] ≡ wordsM n
+    go None = refl
+    go (Some p) = ap Some (append-nil (records p))
 
 -- the steps that read the top's record only
 pub kid_small : (f : Forest) (u : Tree) → f ≡ one u → Smalls f → Small u
 unfolding Small
 kid_small f u e s = (rw e at s).0
 
-module _ {m : Maybe Tree} {B S : List ℕ} {i : ℕ} {Y : List ℕ} (x : View m B S i Y) where
+module _ {m : Option Tree} {B S : List ℕ} {i : ℕ} {Y : List ℕ} (x : View m B S i Y) where
   word_is : {n : ℕ} → get_or S (i - 2) 0 ≡ n → x.here.kind + 256 * count x.here.kids ≡ n
   word_is e = sym x.here.word ∙ e
 
@@ -166,11 +167,11 @@ module _ {m : Maybe Tree} {B S : List ℕ} {i : ℕ} {Y : List ℕ} (x : View m 
       let g = group_of e in
       let v : n.val ≡ 0 = sym n.value ∙ z in
       kid_ahead g.kid Y g.only
-      (same_as x.under (node n.kind n.val n.kids) g.kid Y (g.is ∙ ap (λ (v : ℕ). bindM (conv g.kid pattern) (λ p. just (modified v p))) v ∙ go (conv g.kid pattern)))
+      (same_as x.under (node n.kind n.val n.kids) g.kid Y (g.is ∙ ap (λ (v : ℕ). option_and_then (λ p. Some (modified v p)) (conv g.kid pattern)) v ∙ go (conv g.kid pattern)))
     where
-      go : (c : Maybe Tree) → bindM c (λ p. just p) ≡ c
-      go nothing = refl
-      go (just p) = refl
+      go : (c : Option Tree) → option_and_then (λ p. Some p) c ≡ c
+      go None = refl
+      go (Some p) = refl
 
   pub group_modified : get_or S (i - 2) 0 ≡ Word.Group → (get_or S (i - 1) 0 ≡ 0 → ⊥) → Ahead m B (take (i - 2) S) (Word.Modifier ∷ (get_or S (i - 1) 0 - 1) ∷ Y)
   group_modified e z =
@@ -179,15 +180,15 @@ module _ {m : Maybe Tree} {B S : List ℕ} {i : ℕ} {Y : List ℕ} (x : View m 
       let y = n.value in
       let v : n.val ≡ suc (get_or S (i - 1) 0 - 1) = omega arith in
       kid_ahead g.kid _ g.only
-      (wrapped x.under (node n.kind n.val n.kids) g.kid NodeKind.Modifier (get_or S (i - 1) 0 - 1) Y (g.is ∙ ap (λ (v : ℕ). bindM (conv g.kid pattern) (λ p. just (modified v p))) v))
+      (wrapped x.under (node n.kind n.val n.kids) g.kid NodeKind.Modifier (get_or S (i - 1) 0 - 1) Y (g.is ∙ ap (λ (v : ℕ). option_and_then (λ p. Some (modified v p)) (conv g.kid pattern)) v))
 
-  pub no_pattern : (get_or S (i - 2) 0 ≡ Word.Identifier → ⊥) → (get_or S (i - 2) 0 ≡ Word.Group → ⊥) → (get_or S (i - 2) 0 ≡ Word.Unpack → ⊥) → (get_or S (i - 2) 0 ≡ Word.Tuple → ⊥) → (get_or S (i - 2) 0 ≡ Word.Primary → ⊥) → m ≡ nothing
+  pub no_pattern : (get_or S (i - 2) 0 ≡ Word.Identifier → ⊥) → (get_or S (i - 2) 0 ≡ Word.Group → ⊥) → (get_or S (i - 2) 0 ≡ Word.Unpack → ⊥) → (get_or S (i - 2) 0 ≡ Word.Tuple → ⊥) → (get_or S (i - 2) 0 ≡ Word.Primary → ⊥) → m ≡ None
   no_pattern a b c d e =
       let n = x.here in
       failed x (other n.kind n.val n.kids (λ q. a (n.word ∙ q)) (λ q. b (n.word ∙ q)) (λ q. c (n.word ∙ q)) (λ q. d (n.word ∙ q)) (λ q. e (n.word ∙ q)))
 
-  no_tuple : (e : get_or S (i - 2) 0 ≡ Word.Tuple) → conv (tuple_of e).kid members ≡ nothing → m ≡ nothing
-  no_tuple e z = failed x ((tuple_of e).is ∙ ap (λ (t : Maybe Tree). bindM t (λ p. just (node NodeKind.TuplePattern 0 (one p)))) z)
+  no_tuple : (e : get_or S (i - 2) 0 ≡ Word.Tuple) → conv (tuple_of e).kid members ≡ None → m ≡ None
+  no_tuple e z = failed x ((tuple_of e).is ∙ ap (λ (t : Option Tree). option_and_then (λ p. Some (node NodeKind.TuplePattern 0 (one p))) t) z)
 
 -- what the test of a list's first word tells
 pub some_members : (n : ℕ) → has_members n ≡ true → (n % 256 ≡ NodeKind.List) × (256 ≤ n)
@@ -199,7 +200,7 @@ pub no_member : {P : Type 0} (n : ℕ) → has_members n ≡ false → ((n % 256
 no_member n e f g = by_test (eqb (n % 256) NodeKind.List) (λ z. g (leb-false _ _ (rw z at e))) (λ z. f (eqb-false _ _ z))
 
 -- the steps that read the record of the top's only child too
-module _ {m : Maybe Tree} {B S : List ℕ} {i : ℕ} {Y : List ℕ} (h : i ≤ length S) (x : View m B S i Y) where
+module _ {m : Option Tree} {B S : List ℕ} {i : ℕ} {Y : List ℕ} (h : i ≤ length S) (x : View m B S i Y) where
   kid_node : (u : Tree) → x.here.kids ≡ one u → Node B S (i - 2) (i - 4) (i - 3) x.under u
   kid_node u e = at_node B S (i - 2) (i - 4) (i - 3) x.under u (omega arith) (omega arith) (omega arith) (kid_small x.here.kids u e x.here.smalls) (kid_text x u e)
 
@@ -216,7 +217,7 @@ module _ {m : Maybe Tree} {B S : List ℕ} {i : ℕ} {Y : List ℕ} (h : i ≤ l
       let g = unpack_of x e in
       let k = kid_node g.kid g.only in
       let a = absent k.kind k.val k.kids (sym k.word ∙ z) in
-      let c : conv (node n.kind n.val n.kids) pattern ≡ just (node NodeKind.Pack 0 (one (node NodeKind.Absent k.val none))) = g.is ∙ ap (λ (t : Maybe Tree). bindM t (λ p. just (node NodeKind.Pack 0 (one p)))) (ap (λ (t : Tree). conv t maybe) k.shape ∙ a.1) in
+      let c : conv (node n.kind n.val n.kids) pattern ≡ Some (node NodeKind.Pack 0 (one (node NodeKind.Absent k.val none))) = g.is ∙ ap (λ (t : Option Tree). option_and_then (λ p. Some (node NodeKind.Pack 0 (one p))) t) (ap (λ (t : Tree). conv t maybe) k.shape ∙ a.1) in
       record {
         row = x.under;
         small = x.rest;
@@ -231,7 +232,7 @@ module _ {m : Maybe Tree} {B S : List ℕ} {i : ℕ} {Y : List ℕ} (h : i ≤ l
       let k = kid_node g.kid g.only in
       let a : conv g.kid maybe ≡ conv g.kid pattern = ap (λ (t : Tree). conv t maybe) k.shape ∙ present k.kind k.val k.kids (λ q. z (k.word ∙ q)) ∙ sym (ap (λ (t : Tree). conv t pattern) k.shape) in
       kid_ahead x g.kid _ g.only
-      (wrapped x.under (node n.kind n.val n.kids) g.kid NodeKind.Pack 0 Y (g.is ∙ ap (λ (t : Maybe Tree). bindM t (λ p. just (node NodeKind.Pack 0 (one p)))) a))
+      (wrapped x.under (node n.kind n.val n.kids) g.kid NodeKind.Pack 0 Y (g.is ∙ ap (λ (t : Option Tree). option_and_then (λ p. Some (node NodeKind.Pack 0 (one p))) t) a))
 
   pub tuple_room : get_or S (i - 2) 0 ≡ Word.Tuple → length B + 4 ≤ i
   tuple_room e = kid_room (tuple_of x e).kid (tuple_of x e).only
@@ -242,8 +243,8 @@ module _ {m : Maybe Tree} {B S : List ℕ} {i : ℕ} {Y : List ℕ} (h : i ≤ l
       let g = tuple_of x e in
       let k = kid_node g.kid g.only in
       let q : k.kind ≡ NodeKind.List = omega arith in
-      let c : conv (node n.kind n.val n.kids) pattern ≡ bindM (bindM (all_conv k.kids pattern) (listed k.val)) (λ p. just (node NodeKind.TuplePattern 0 (one p)))
-      = g.is ∙ ap (λ (t : Maybe Tree). bindM t (λ p. just (node NodeKind.TuplePattern 0 (one p)))) (ap (λ (t : Tree). conv t members) k.shape ∙ list_is k.kind k.val k.kids q) in
+      let c : conv (node n.kind n.val n.kids) pattern ≡ option_and_then (λ p. Some (node NodeKind.TuplePattern 0 (one p))) (option_and_then (listed k.val) (all_conv k.kids pattern))
+      = g.is ∙ ap (λ (t : Option Tree). option_and_then (λ p. Some (node NodeKind.TuplePattern 0 (one p))) t) (ap (λ (t : Tree). conv t members) k.shape ∙ list_is k.kind k.val k.kids q) in
       let y : get_or S (i - 4) 0 ≡ NodeKind.List + 256 * count k.kids = omega arith in
       record {
         row = push x.under k.kids;
@@ -252,15 +253,15 @@ module _ {m : Maybe Tree} {B S : List ℕ} {i : ℕ} {Y : List ℕ} (h : i ≤ l
         same = same_here x ∙ tupled x.under (node n.kind n.val n.kids) k.val k.kids Y c (omega arith) ∙ rw (y, k.value);
       }
 
-  tuple_not_list : get_or S (i - 2) 0 ≡ Word.Tuple → (get_or S (i - 4) 0 % 256 ≡ NodeKind.List → ⊥) → m ≡ nothing
+  tuple_not_list : get_or S (i - 2) 0 ≡ Word.Tuple → (get_or S (i - 4) 0 % 256 ≡ NodeKind.List → ⊥) → m ≡ None
   tuple_not_list e z =
       let k = kid_node (tuple_of x e).kid (tuple_of x e).only in
       no_tuple x e (ap (λ (t : Tree). conv t members) k.shape ∙ not_list k.kind k.val k.kids k.less (λ q. z (ap (λ (n : ℕ). n % 256) k.word ∙ q)))
 
-  tuple_empty : get_or S (i - 2) 0 ≡ Word.Tuple → get_or S (i - 4) 0 < 256 → m ≡ nothing
+  tuple_empty : get_or S (i - 2) 0 ≡ Word.Tuple → get_or S (i - 4) 0 < 256 → m ≡ None
   tuple_empty e z =
       let k = kid_node (tuple_of x e).kid (tuple_of x e).only in
       no_tuple x e (ap (λ (t : Tree). conv t members) k.shape ∙ no_members k.kind k.val k.kids (omega arith))
 
-  pub tuple_none : get_or S (i - 2) 0 ≡ Word.Tuple → has_members (get_or S (i - 4) 0) ≡ false → m ≡ nothing
+  pub tuple_none : get_or S (i - 2) 0 ≡ Word.Tuple → has_members (get_or S (i - 4) 0) ≡ false → m ≡ None
   tuple_none e z = no_member _ z (tuple_not_list e) (tuple_empty e)

@@ -1,9 +1,8 @@
 -- What the functions on patterns ask of the store, and say of it, as it was (S) and as it is (S'). Assumes nothing.
-use Rattle.std.specs.Prelude.{◌≡◌, Bool, true, false, ◌&&◌, List, [], ◌∷◌, ◌++◌, ℕ, ◌+◌, ◌-◌, ◌%◌, ◌≤◌, eqb, leb, length, take, drop, get_or}
+use Rattle.std.specs.Prelude.{◌≡◌, Bool, true, false, ◌&&◌, List, [], ◌∷◌, ◌++◌, ℕ, ◌+◌, ◌-◌, ◌%◌, ◌≤◌, eqb, leb, length, take, drop, get_or, Option, Some}
 use Rattle.tree.specs.NodeKind
 use Rattle.tree.specs.Tree.{Tree, records}
 use Rattle.tree.specs.Records.{Small}
-use Rattle.tree.specs.Maybe.{Maybe, just}
 use Rattle.grammar.specs.Reading.Pattern.{to_pattern, can_be_pattern}
 use Rattle.pattern.specs.Word
 
@@ -19,9 +18,9 @@ pub record ATree (S : List ℕ) (from to : ℕ) : Type 0 where
   pub whole : Whole tree S from to
 
 -- m is a pattern
-pub record Is (m : Maybe Tree) : Type 0 where
+pub record Is (m : Option Tree) : Type 0 where
   pub what : Tree
-  pub same : m ≡ just what
+  pub same : m ≡ Some what
 
 -- a first word is that of a list with members
 abbrev pub has_members : ℕ → Bool
@@ -32,7 +31,7 @@ pub record Access (B : List ℕ) (p : Tree) (S : List ℕ) (i w : ℕ) : Type 0 
   pub tree : Tree
   pub small : Small tree
   pub text : take i S ≡ B ++ records tree
-  pub same : to_pattern tree ≡ just p
+  pub same : to_pattern tree ≡ Some p
   pub kind : get_or S (i - 2) 0 ≡ Word.Primary
   pub before : i ≤ w
   pub within : w ≤ length S
@@ -67,7 +66,7 @@ pub record Over (X : List ℕ) (w : ℕ) (S : List ℕ) (r : ℕ) (S' : List ℕ
 -- the tree t, which is the pattern p, stands from «from» to «to»
 pub record Fit (t p : Tree) (S : List ℕ) (from to : ℕ) : Type 0 where
   pub whole : Whole t S from to
-  pub same : to_pattern t ≡ just p
+  pub same : to_pattern t ≡ Some p
 
 -- some expression that can be a pattern stands there
 pub record AFit (S : List ℕ) (from to : ℕ) : Type 0 where

@@ -1,9 +1,8 @@
 -- What is answered of a tree and left of the output is, by the tables and by grammar's definition, the same. Assumes nothing.
-use Rattle.std.specs.Prelude.{◌≡◌, refl, Bool, true, false, List, [], ◌∷◌, ◌++◌, ℕ, ◌-◌, leb, ltb, length, take, replicate}
+use Rattle.std.specs.Prelude.{◌≡◌, refl, Bool, true, false, List, [], ◌∷◌, ◌++◌, ℕ, ◌-◌, leb, ltb, length, take, replicate, Some}
 use Rattle.std.proofs.Common.{sym, ap, ◌∙◌, true≢false, arith, leb-true, leb-false, lt-ltb, le-ltb}
 use Rattle.token.specs.Kind
 use Rattle.tree.specs.Tree.{Tree}
-use Rattle.tree.specs.Maybe.{just}
 use Rattle.tree.specs.Records.{Small}
 use Rattle.grammar.specs.Reading.Limit.{depth_limit, too_deep, no_statement}
 use Rattle.grammar.specs.Reading.Result.{ifb}
@@ -44,11 +43,11 @@ readable_is t s =
     (λ e. not_true (readable t) (λ x. true≢false (sym (valid_legal ((readable_valid t s).0 x)) ∙ e)) ∙ sym e)
 
 -- what grammar's definition answers of a tree
-pub illegal_tree : (t : Tree) → Small t → legal_tree t ≡ false → (m : ℕ) → written (just t) m ≡ bare m (Refused no_statement)
+pub illegal_tree : (t : Tree) → Small t → legal_tree t ≡ false → (m : ℕ) → written (Some t) m ≡ bare m (Refused no_statement)
 unfolding ifb
 illegal_tree t s e m = rw (readable_is t s, e)
 
-pub legal_run : (t : Tree) → Small t → legal_tree t ≡ true → (m : ℕ) → written (just t) m ≡ run_out t m
+pub legal_run : (t : Tree) → Small t → legal_tree t ≡ true → (m : ℕ) → written (Some t) m ≡ run_out t m
 unfolding ifb run_out in_room
 legal_run t s e m =
     let v = legal_valid t e in

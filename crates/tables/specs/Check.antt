@@ -1,8 +1,7 @@
 -- What the code decides of a tree before it writes it: whether its records are sound and each child fits its place, at every node. Definitions; they assume nothing.
-use Rattle.std.specs.Prelude.{Bool, true, false, not, ◌&&◌, ◌||◌, ℕ, suc, ◌+◌, ◌%◌, eqb, ltb}
+use Rattle.std.specs.Prelude.{Bool, true, false, not, ◌&&◌, ◌||◌, ℕ, suc, ◌+◌, ◌%◌, eqb, ltb, Option}
 use Rattle.tree.specs.NodeKind
 use Rattle.tree.specs.Tree.{Tree, Forest, node, none, more, count}
-use Rattle.tree.specs.Maybe.{Maybe}
 use Rattle.grammar.specs.Canonical.Write.{tail_of, has_function}
 use Rattle.tables.specs.Choice.{when◌then◌else◌}
 use Rattle.tables.specs.Class as Class
@@ -53,7 +52,7 @@ inner_mode kind f =
     0
 
 -- as the code has it for no tree too: kind, value and mode 0
-abbrev pub inner_class : Maybe Tree → ℕ
+abbrev pub inner_class : Option Tree → ℕ
 inner_class m = class (kind_in m) (value_in m) (inner_mode (kind_in m) (children_in m))
 
 unfoldable pub mode_of : ℕ → Forest → ℕ
@@ -63,7 +62,7 @@ abbrev pub class_of : Tree → ℕ
 class_of (node k v f) = class k v (mode_of k f)
 
 -- the same at a place, where there may be no tree
-abbrev pub class_in : Maybe Tree → ℕ
+abbrev pub class_in : Option Tree → ℕ
 class_in m = class (kind_in m) (value_in m) (mode_of (kind_in m) (children_in m))
 
 -- whether the first token is a label

@@ -1,37 +1,36 @@
 -- The numbers of a tree's record and its children, where there may be no tree. Definitions; they assume nothing.
-use Rattle.std.specs.Prelude.{ℕ}
+use Rattle.std.specs.Prelude.{ℕ, Option, Some, None}
 use Rattle.tree.specs.Tree.{Tree, Forest, node, none, more, count}
-use Rattle.tree.specs.Maybe.{Maybe, nothing, just}
 
 -- the numbers of a tree's record, 0 where there is no tree
-abbrev pub kind_in : Maybe Tree → ℕ
-kind_in nothing = 0
-kind_in (just (node k v f)) = k
+abbrev pub kind_in : Option Tree → ℕ
+kind_in None = 0
+kind_in (Some (node k v f)) = k
 
-abbrev pub count_in : Maybe Tree → ℕ
-count_in nothing = 0
-count_in (just (node k v f)) = count f
+abbrev pub count_in : Option Tree → ℕ
+count_in None = 0
+count_in (Some (node k v f)) = count f
 
-abbrev pub value_in : Maybe Tree → ℕ
-value_in nothing = 0
-value_in (just (node k v f)) = v
+abbrev pub value_in : Option Tree → ℕ
+value_in None = 0
+value_in (Some (node k v f)) = v
 
-abbrev pub children_in : Maybe Tree → Forest
-children_in nothing = none
-children_in (just (node k v f)) = f
+abbrev pub children_in : Option Tree → Forest
+children_in None = none
+children_in (Some (node k v f)) = f
 
 -- the last of some trees and the first, if there is one
-unfoldable pub last_tree : Forest → Maybe Tree
-last_tree none = nothing
-last_tree (more t none) = just t
+unfoldable pub last_tree : Forest → Option Tree
+last_tree none = None
+last_tree (more t none) = Some t
 last_tree (more t (more u f)) = last_tree (more u f)
 
-abbrev pub first_tree : Forest → Maybe Tree
-first_tree none = nothing
-first_tree (more t f) = just t
+abbrev pub first_tree : Forest → Option Tree
+first_tree none = None
+first_tree (more t f) = Some t
 
 -- the last child
-abbrev pub last_in : Maybe Tree → Maybe Tree
+abbrev pub last_in : Option Tree → Option Tree
 last_in m = last_tree (children_in m)
 
 -- something of each of some trees

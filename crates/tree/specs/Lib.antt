@@ -1,7 +1,7 @@
 pub mod NodeKind
 pub mod Tree
 pub mod Node
-pub mod Maybe
+pub mod Choice
 pub mod Decode
 pub mod Store
 pub mod Written

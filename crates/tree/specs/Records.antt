@@ -1,9 +1,9 @@
 -- The records of a tree whose kinds are below 256 decode to it, and what decodes to a tree is its records; the number of records is that of the nodes.
 -- Assumes nothing.
-use Rattle.std.specs.Prelude.{◌≡◌, refl, List, [], ◌∷◌, ◌++◌, ℕ, zero, suc, ◌+◌, ◌*◌, ◌/◌, ◌%◌, ◌≤◌, ◌<◌, length}
+use Rattle.std.specs.Prelude.{◌≡◌, refl, List, [], ◌∷◌, ◌++◌, ℕ, zero, suc, ◌+◌, ◌*◌, ◌/◌, ◌%◌, ◌≤◌, ◌<◌, length, Option, Some, None, option_and_then}
 use Rattle.std.proofs.Common.{sym, ap, ◌∙◌, append_assoc, append-nil, arith, length-append}
+use Rattle.std.proofs.lemmas.Option.{none-some, same_Some}
 use Rattle.tree.specs.Tree.{Tree, Forest, node, none, more, count, records, all_records}
-use Rattle.tree.specs.Maybe.{Maybe, nothing, just, bindM}
 use Rattle.tree.specs.Decode.{gather, stacked, alone, decode}
 
 -- every kind fits its byte, so that a record's first word says kind and count
@@ -76,7 +76,7 @@ mutual
   stacked_forest none = λ h r s. refl
   stacked_forest (more t f) = λ h r s. rw append_assoc (stacked_tree t h.0 (all_records f ++ r) s ∙ stacked_forest f h.1 r (t ∷ s))
 
-pub decode_records : {t : Tree} → Small t → decode (records t) ≡ just t
+pub decode_records : {t : Tree} → Small t → decode (records t) ≡ Some t
 unfolding decode stacked
 decode_records {t} h = rw (← append-nil (records t), stacked_tree t h [] [])
 
@@ -92,14 +92,6 @@ unfoldable pub StackSmall : List Tree → Type 0
 StackSmall [] = Unit {0}
 StackSmall (t ∷ s) = Small t × StackSmall s
 
-pub nothing_just : {A P : Type 0} {a : A} → nothing ≡ just a → P
-nothing_just e =
-    let z : ◌≡◌ {A = ℕ} 0 1 = cc in
-    absurd (omega arith)
-
-pub just_same : {A : Type 0} {a b : A} → just a ≡ just b → a ≡ b
-just_same e = cc
-
 -- the records of a stack are no other stack's
 stacked_stack : (s : List Tree) → StackSmall s → (r : List ℕ) → stacked (stack_records s ++ r) [] ≡ stacked r s
 unfolding stack_records StackSmall
@@ -108,29 +100,29 @@ stacked_stack (t ∷ s) h r = rw append_assoc (stacked_stack s h.1 (records t ++
 
 pub stack_same : {s u : List Tree} → StackSmall s → StackSmall u → stack_records s ≡ stack_records u → s ≡ u
 unfolding stacked
-stack_same {s} {u} a b e = just_same (sym (stacked_stack s a []) ∙ rw e (stacked_stack u b []))
+stack_same {s} {u} a b e = same_Some _ _ (sym (stacked_stack s a []) ∙ rw e (stacked_stack u b []))
 
 -- of a chain that gave something, what its first part gave
-pub bound : {A B : Type 0} {k : A → Maybe B} {b : B} (m : Maybe A) → bindM m k ≡ just b → (a : A) × (m ≡ just a) × (k a ≡ just b)
-bound nothing e = nothing_just e
-bound (just a) e = (a, refl, e)
+pub bound : {A B : Type 0} {k : A → Option B} {b : B} (m : Option A) → option_and_then k m ≡ Some b → (a : A) × (m ≡ Some a) × (k a ≡ Some b)
+bound None e = absurd (none-some _ e)
+bound (Some a) e = (a, refl, e)
 
-gather_text : (n k v : ℕ) (f : Forest) (s : List Tree) {u : List Tree} → k < 256 → Smalls f → StackSmall s → gather n k v f s ≡ just u
+gather_text : (n k v : ℕ) (f : Forest) (s : List Tree) {u : List Tree} → k < 256 → Smalls f → StackSmall s → gather n k v f s ≡ Some u
     → (stack_records u ≡ stack_records s ++ (all_records f ++ (k + 256 * (n + count f)) ∷ v ∷ [])) × StackSmall u
 unfolding gather count records Small stack_records StackSmall
 gather_text zero k v f s h a b e =
     let z : 0 + count f ≡ count f = omega arith in
-    rw (← just_same e, z) (refl, ((h, a), b))
-gather_text (suc n) k v f [] h a b e = nothing_just e
+    rw (← same_Some _ _ e, z) (refl, ((h, a), b))
+gather_text (suc n) k v f [] h a b e = absurd (none-some _ e)
 gather_text (suc n) k v f (t ∷ s) h a b e =
     let g = gather_text n k v (more t f) s h (b.0, a) b.1 e in
     let z : n + suc (count f) ≡ suc n + count f = omega arith in
     (g.0 ∙ rw z (simp append_assoc), g.1)
 
-stacked_text : (ws : List ℕ) (s : List Tree) {u : List Tree} → StackSmall s → stacked ws s ≡ just u → (stack_records u ≡ stack_records s ++ ws) × StackSmall u
+stacked_text : (ws : List ℕ) (s : List Tree) {u : List Tree} → StackSmall s → stacked ws s ≡ Some u → (stack_records u ≡ stack_records s ++ ws) × StackSmall u
 unfolding stacked records count Small
-stacked_text [] s h e = rw (← just_same e) (sym (append-nil _), h)
-stacked_text (w ∷ []) s h e = nothing_just e
+stacked_text [] s h e = rw (← same_Some _ _ e) (sym (append-nil _), h)
+stacked_text (w ∷ []) s h e = absurd (none-some _ e)
 stacked_text (w ∷ v ∷ r) s h e =
     let b = bound (gather (w / 256) (w % 256) v none s) e in
     let g = gather_text (w / 256) (w % 256) v none s (omega arith) tt h b.1 in
@@ -138,14 +130,14 @@ stacked_text (w ∷ v ∷ r) s h e =
     let z : w % 256 + 256 * (w / 256 + 0) ≡ w = omega arith in
     (x.0 ∙ rw (g.0, z, append_assoc), x.1)
 
-alone_is : (s : List Tree) {t : Tree} → alone s ≡ just t → s ≡ t ∷ []
-alone_is [] e = nothing_just e
-alone_is (t ∷ []) e = ap (λ x. x ∷ []) (just_same e)
-alone_is (t ∷ u ∷ s) e = nothing_just e
+alone_is : (s : List Tree) {t : Tree} → alone s ≡ Some t → s ≡ t ∷ []
+alone_is [] e = absurd (none-some _ e)
+alone_is (t ∷ []) e = ap (λ x. x ∷ []) (same_Some _ _ e)
+alone_is (t ∷ u ∷ s) e = absurd (none-some _ e)
 
-pub decode_text : {ws : List ℕ} {t : Tree} → decode ws ≡ just t → (records t ≡ ws) × Small t
+pub decode_text : {ws : List ℕ} {t : Tree} → decode ws ≡ Some t → (records t ≡ ws) × Small t
 unfolding decode stack_records StackSmall
 decode_text {ws} e =
     let b = bound (stacked ws []) e in
-    let x = stacked_text ws [] tt (b.1 ∙ ap just (alone_is b.0 b.2)) in
+    let x = stacked_text ws [] tt (b.1 ∙ ap Some (alone_is b.0 b.2)) in
     (x.0, x.1.0)

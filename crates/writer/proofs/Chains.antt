@@ -6,29 +6,30 @@ use Prim.Native.Nat.{ℕ, ◌≤◌}
 use native.Mathlib.Omega.{arith}
 use lib.Dec.{eqb, ltb}
 use borrow.Author.Tests.{eq-eqb, ne_eqb}
+use Rattle.std.specs.Prelude.{Option, Some, None}
+use Rattle.std.specs.Option.{option_map_or}
 use Rattle.tree.specs.NodeKind
 use Rattle.tree.specs.Tree.{Tree, Forest, node, none, more}
-use Rattle.tree.specs.Maybe.{Maybe, nothing, just}
 use Rattle.tables.specs.Kinds.{passes}
-use Rattle.writer.specs.Stack.{SpotAs, Spot, Somewhere, Says, LastOf, KidOf, kid_in, maybe}
+use Rattle.writer.specs.Stack.{SpotAs, Spot, Somewhere, Says, LastOf, KidOf, kid_in}
 use Rattle.tables.specs.Children.{kind_in, count_in, value_in, last_tree, last_in}
 use Rattle.tables.specs.Check.{begins_labelled, first_labelled, ends_single, last_single}
 use Rattle.writer.proofs.Laws.{at_many}
 
 -- what is to be said at p is what is to be said at q
-pub record Down (L : List ℕ) (p q : ℕ) (what : Maybe Tree → Bool) : Type 0 where
-  pub how : (m : Maybe Tree) (s : List Tree) → Spot L p m s → (n : Maybe Tree) × (u : List Tree) × Spot L q n u × (what m ≡ what n)
+pub record Down (L : List ℕ) (p q : ℕ) (what : Option Tree → Bool) : Type 0 where
+  pub how : (m : Option Tree) (s : List Tree) → Spot L p m s → (n : Option Tree) × (u : List Tree) × Spot L q n u × (what m ≡ what n)
 
-module _ {L : List ℕ} {p q : ℕ} {what : Maybe Tree → Bool} (w : Down L p q what) where
+module _ {L : List ℕ} {p q : ℕ} {what : Option Tree → Bool} (w : Down L p q what) where
   pub down_place : Somewhere L p → Somewhere L q
   down_place y =
       let x = w.how y.tree y.rest y.spot in
       record { tree = x.0; rest = x.1; spot = x.2 }
 
-  pub down_kid : {j r : ℕ} → KidOf L q j r → ((n : Maybe Tree) (u : List Tree) → Spot L q n u → what n ≡ what (kid_in j n)) → Down L p r what
+  pub down_kid : {j r : ℕ} → KidOf L q j r → ((n : Option Tree) (u : List Tree) → Spot L q n u → what n ≡ what (kid_in j n)) → Down L p r what
   down_kid {j} l e = record { how = λ m s h. let x = w.how m s h in (kid_in j x.0, _, l.how x.0 x.1 x.2, x.3 ∙ e x.0 x.1 x.2) }
 
-  pub down_last : {r : ℕ} → LastOf L q r → ((n : Maybe Tree) (u : List Tree) → Spot L q n u → what n ≡ what (last_in n)) → Down L p r what
+  pub down_last : {r : ℕ} → LastOf L q r → ((n : Option Tree) (u : List Tree) → Spot L q n u → what n ≡ what (last_in n)) → Down L p r what
   down_last l e = record { how = λ m s h. let x = w.how m s h in let y = l.how x.0 x.1 x.2 in (last_in x.0, y.0, y.1, x.3 ∙ e x.0 x.1 x.2) }
 
   pub down_end : {r : Bool} → Says L q what r → Says L p what r
@@ -38,9 +39,9 @@ module _ {L : List ℕ} {p q : ℕ} {what : Maybe Tree → Bool} (w : Down L p q
 pub some_words : {L : List ℕ} {q x : ℕ} → Somewhere L q → Says L q kind_in x → (x ≡ 0 → ⊥) → 2 ≤ q
 some_words {L} {q} {x} y k n = go y.tree (k.how y.tree y.rest y.spot) y.spot.how
   where
-    go : (m : Maybe Tree) → x ≡ kind_in m → SpotAs L q m y.rest → 2 ≤ q
-    go nothing e a = absurd (n e)
-    go (just t) e a = omega (arith, at_many a)
+    go : (m : Option Tree) → x ≡ kind_in m → SpotAs L q m y.rest → 2 ≤ q
+    go None e a = absurd (n e)
+    go (Some t) e a = omega (arith, at_many a)
 
 -- ---------------------------------------------------------------- how a tree begins
 pub passes_some : {x : ℕ} → passes x ≡ true → x ≡ 0 → ⊥
@@ -54,30 +55,30 @@ pub labelled_first : (k v : ℕ) (f : Forest) → passes k ≡ true → begins_l
 unfolding begins_labelled
 labelled_first k v f p = rw p
 
-pub labelled_down : (m : Maybe Tree) → passes (kind_in m) ≡ true → maybe false begins_labelled m ≡ maybe false begins_labelled (kid_in 1 m)
+pub labelled_down : (m : Option Tree) → passes (kind_in m) ≡ true → option_map_or begins_labelled m false ≡ option_map_or begins_labelled (kid_in 1 m) false
 unfolding begins_labelled
-labelled_down nothing p = refl
-labelled_down (just (node k v none)) p = rw p
-labelled_down (just (node k v (more t f))) p = rw p
+labelled_down None p = refl
+labelled_down (Some (node k v none)) p = rw p
+labelled_down (Some (node k v (more t f))) p = rw p
 
-pub labelled_here : (m : Maybe Tree) → passes (kind_in m) ≡ false → maybe false begins_labelled m ≡ eqb (kind_in m) NodeKind.Block && ltb 0 (value_in m)
+pub labelled_here : (m : Option Tree) → passes (kind_in m) ≡ false → option_map_or begins_labelled m false ≡ eqb (kind_in m) NodeKind.Block && ltb 0 (value_in m)
 unfolding begins_labelled
-labelled_here nothing p = refl
-labelled_here (just (node k v f)) p = rw p
+labelled_here None p = refl
+labelled_here (Some (node k v f)) p = rw p
 
 -- ---------------------------------------------------------------- how it ends
-last_is : (f : Forest) → last_single f ≡ maybe false ends_single (last_tree f)
+last_is : (f : Forest) → last_single f ≡ option_map_or ends_single (last_tree f) false
 unfolding ends_single last_tree
 last_is none = refl
 last_is (more t none) = refl
 last_is (more t (more u f)) = last_is (more u f)
 
-pub single_down : (m : Maybe Tree) → kind_in m ≡ NodeKind.Assignment → maybe false ends_single m ≡ maybe false ends_single (last_in m)
+pub single_down : (m : Option Tree) → kind_in m ≡ NodeKind.Assignment → option_map_or ends_single m false ≡ option_map_or ends_single (last_in m) false
 unfolding ends_single last_tree
-single_down nothing e = refl
-single_down (just (node k v f)) e = rw (eq-eqb k NodeKind.Assignment e) (last_is f)
+single_down None e = refl
+single_down (Some (node k v f)) e = rw (eq-eqb k NodeKind.Assignment e) (last_is f)
 
-pub single_here : (m : Maybe Tree) → (kind_in m ≡ NodeKind.Assignment → ⊥) → maybe false ends_single m ≡ eqb (kind_in m) NodeKind.Tuple && eqb (count_in (last_in m)) 1
+pub single_here : (m : Option Tree) → (kind_in m ≡ NodeKind.Assignment → ⊥) → option_map_or ends_single m false ≡ eqb (kind_in m) NodeKind.Tuple && eqb (count_in (last_in m)) 1
 unfolding ends_single
-single_here nothing n = refl
-single_here (just (node k v f)) n = rw (ne_eqb k NodeKind.Assignment n)
+single_here None n = refl
+single_here (Some (node k v f)) n = rw (ne_eqb k NodeKind.Assignment n)

@@ -5,8 +5,8 @@ use mathlib.Core.List.{List, [], ◌∷◌}
 use Prim.Native.Nat.{ℕ, ◌*◌}
 use native.Mathlib.Omega.{arith}
 use lib.ListN.{length, length-append}
+use Rattle.std.specs.Prelude.{Some, None}
 use Rattle.tree.specs.Tree.{Tree, records}
-use Rattle.tree.specs.Maybe.{nothing, just}
 use Rattle.tree.specs.Decode.{decode}
 use Rattle.tree.specs.Records.{Small, StackSmall, size, records_length, stack_records}
 use Rattle.grammar.specs.Reading.Limit.{no_statement}
@@ -33,11 +33,11 @@ unfolding stack_records
 whole_even w = (size w.top, omega (arith, at_length w.here, length-append [] (records w.top), records_length w.top))
 
 -- ---------------------------------------------------------------- the three ways of the entry
-pub no_tree : (L : List ℕ) (m : ℕ) → decode L ≡ nothing → write_stmt L m ≡ bare m (Refused no_statement)
+pub no_tree : (L : List ℕ) (m : ℕ) → decode L ≡ None → write_stmt L m ≡ bare m (Refused no_statement)
 unfolding write_stmt
 no_tree L m e = rw e
 
-module _ {L : List ℕ} {t : Tree} (d : decode L ≡ just t) (a : At L (length L) (t ∷ [])) (m : ℕ) where
+module _ {L : List ℕ} {t : Tree} (d : decode L ≡ Some t) (a : At L (length L) (t ∷ [])) (m : ℕ) where
   pub illegal : legal_tree t ≡ false → write_stmt L m ≡ bare m (Refused no_statement)
   unfolding write_stmt
   illegal e = rw d (illegal_tree t (at_small a) e m)

@@ -7,9 +7,9 @@ use native.Mathlib.Omega.{arith}
 use native.Mathlib.Decide.{ℕ_discrete}
 use lib.Dec.{eqb}
 use borrow.Author.Tests.{eq-eqb, ne_eqb}
+use Rattle.std.specs.Prelude.{Some}
 use Rattle.tree.specs.NodeKind
 use Rattle.tree.specs.Tree.{Tree, node, none, more}
-use Rattle.tree.specs.Maybe.{just}
 use Rattle.grammar.specs.Canonical.Write.{target_items, target_path, is_target, has_function}
 use Rattle.tables.specs.Choice.{where_zero}
 use Rattle.tables.specs.Class as Class
@@ -20,23 +20,23 @@ use Rattle.writer.specs.Standing.{serves_as, serves}
 use Rattle.writer.proofs.Targets.{has_is}
 
 -- ---------------------------------------------------------------- the class of a list's last member
-pub inner_list : (t : Tree) → kind_in (just t) ≡ NodeKind.List → inner_class (just t) ≡ Class.Nothing
+pub inner_list : (t : Tree) → kind_in (Some t) ≡ NodeKind.List → inner_class (Some t) ≡ Class.Nothing
 unfolding class inner_mode
 inner_list (node k v f) e = rw e
 
-pub inner_other : (t : Tree) → (kind_in (just t) ≡ NodeKind.List → ⊥) → class_of t ≡ inner_class (just t)
+pub inner_other : (t : Tree) → (kind_in (Some t) ≡ NodeKind.List → ⊥) → class_of t ≡ inner_class (Some t)
 unfolding mode_of
 inner_other (node k v f) n = rw (ne_eqb k NodeKind.List n)
 
 -- ---------------------------------------------------------------- a function behind its target
 abbrev name_of : Tree → ℕ
-name_of t = value_in (first_tree (children_in (just t)))
+name_of t = value_in (first_tree (children_in (Some t)))
 
-class_named : (t : Tree) → kind_in (just t) ≡ NodeKind.FunctionDef → class_of t ≡ where_zero (name_of t) Class.Tight Class.Named
+class_named : (t : Tree) → kind_in (Some t) ≡ NodeKind.FunctionDef → class_of t ≡ where_zero (name_of t) Class.Tight Class.Named
 unfolding class mode_of inner_mode
 class_named (node k v f) e = rw e
 
-module _ (t : Tree) (e : kind_in (just t) ≡ NodeKind.FunctionDef) {c : ℕ} (ce : c ≡ class_of t) where
+module _ (t : Tree) (e : kind_in (Some t) ≡ NodeKind.FunctionDef) {c : ℕ} (ce : c ≡ class_of t) where
   pub some_name : c ≡ Class.Named → eqb (name_of t) 0 ≡ false
   unfolding where_zero
   some_name n = go (ℕ_discrete (name_of t) 0) (sym n ∙ ce ∙ class_named t e)
@@ -55,16 +55,16 @@ module _ (t : Tree) (e : kind_in (just t) ≡ NodeKind.FunctionDef) {c : ℕ} (c
       go (yes z) = eq-eqb (name_of t) 0 z
       go (no z) = absurd (n (ce ∙ class_named t e ∙ rw (ne_eqb (name_of t) 0 z)))
 
-has_serves : (a b : Tree) (s : List Tree) → kind_in (just b) ≡ NodeKind.FunctionDef → has_function (more a (more b none)) ≡ serves b (a ∷ s) && is_target a
+has_serves : (a b : Tree) (s : List Tree) → kind_in (Some b) ≡ NodeKind.FunctionDef → has_function (more a (more b none)) ≡ serves b (a ∷ s) && is_target a
 unfolding serves_as
 has_serves a (node k v none) s e = rw e (and-false (is_target a))
 has_serves a (node k v (more t g)) s e = has_is (more a (more (node k v (more t g)) none)) e (λ z. let y : ◌≡◌ {A = ℕ} 0 1 = cc in omega arith) ∙ rw e
 
 -- by whether the function serves, whether the target can be one, and whether there is a name
-pub form_is : (a b : Tree) (s : List Tree) {x y z : Bool} → kind_in (just b) ≡ NodeKind.FunctionDef → x ≡ serves b (a ∷ s) → y ≡ is_target a → eqb (name_of b) 0 ≡ z → cond (x && y) (cond z 1 2) 0 ≡ function_form (more a (more b none))
+pub form_is : (a b : Tree) (s : List Tree) {x y z : Bool} → kind_in (Some b) ≡ NodeKind.FunctionDef → x ≡ serves b (a ∷ s) → y ≡ is_target a → eqb (name_of b) 0 ≡ z → cond (x && y) (cond z 1 2) 0 ≡ function_form (more a (more b none))
 unfolding function_form
 form_is a b s e xe ye ze = rw (has_serves a b s e, xe, ye, ze)
 
 -- ---------------------------------------------------------------- targets
-pub path_is : (t : Tree) → target_path (more t none) ≡ target_items (children_in (just t))
+pub path_is : (t : Tree) → target_path (more t none) ≡ target_items (children_in (Some t))
 path_is (node k v f) = refl

@@ -10,12 +10,9 @@ use borrow.Author.Tests.{eq-eqb, ne_eqb, eqb-true, ltb-false, leb-false}
 use lib.ListN.{length, get_or, set, take, length-append, length-set}
 use mir.Val.{bool_byte}
 use lib.Seq.{take-take, take-append_seam, get_or-set_same, get_or-set_other}
-use Rattle.std.specs.Prelude.{IfSome, MatchOption}
-use Rattle.std.specs.declared.option.Option.{Option}
-use Rattle.std.specs.declared.option.Option.TheVariants.{Some, None}
+use Rattle.std.specs.Prelude.{IfSome, MatchOption, Option, Some, None}
 use Rattle.tree.specs.NodeKind
 use Rattle.tree.specs.Tree.{Tree, Forest, node, none, more, count, records}
-use Rattle.tree.specs.Maybe.{Maybe, nothing, just}
 use Rattle.tree.specs.Records.{stack_records, StackSmall, back, stack_same}
 use Rattle.grammar.proofs.Laws.Facts.{clash}
 use Rattle.tables.specs.Kinds.{gives_name}
@@ -45,12 +42,12 @@ module _ {L : List ℕ} {q : ℕ} {t : Tree} {s : List Tree} (a : At L q (t ∷ 
   pub tells_one : {A : Type 0} {what : Tree → List Tree → A} {r : A} → r ≡ what t s → Tells L q what r
   tells_one {what = what} {r = r} e = record { how = at_each (λ t s. r ≡ what t s) e }
 
-  pub says_one : {A : Type 0} {what : Maybe Tree → A} {r : A} → r ≡ what (just t) → Says L q what r
+  pub says_one : {A : Type 0} {what : Option Tree → A} {r : A} → r ≡ what (Some t) → Says L q what r
   says_one {A} {what} {r} e = record { how = λ m s' h. go m s' h.how }
     where
-      go : (m : Maybe Tree) (s' : List Tree) → SpotAs L q m s' → r ≡ what m
-      go nothing s' z = absurd (omega (arith, at_many a))
-      go (just t') s' b = let x = at_one b a in cc
+      go : (m : Option Tree) (s' : List Tree) → SpotAs L q m s' → r ≡ what m
+      go None s' z = absurd (omega (arith, at_many a))
+      go (Some t') s' b = let x = at_one b a in cc
 
   pub skipped_one : {r : ℕ} → At L r s → Skipped L q r
   skipped_one {r} b = record { how = at_each (λ t s. At L r s) b }
@@ -126,7 +123,7 @@ module _ {L F : List ℕ} {base i q : ℕ} (y : On L F base i q) where
   on_here = record { top = y.top; rest = y.rest; here = y.here }
 
   pub on_place : Somewhere L q
-  on_place = record { tree = just y.top; rest = y.rest; spot = stands y.here }
+  on_place = record { tree = Some y.top; rest = y.rest; spot = stands y.here }
 
 -- ---------------------------------------------------------------- a word more
 kept_set : (F : List ℕ) (base i w : ℕ) (s : List Tree) → length s ≤ i + base → Kept F base s → Kept (set F i w) base s
@@ -152,11 +149,11 @@ kept_back F base none s k = k
 kept_back F base (more t f) s k = (kept_back F base f (t ∷ s) k).1
 
 -- ---------------------------------------------------------------- a node's last child, and both of two
-pub last_on : {L F : List ℕ} {base h p : ℕ} (y : AtNode L F base h p) → (count y.kids ≡ 0 → ⊥) → (o : On L F base (h - 1) (p - 2)) × (last_tree y.kids ≡ just o.top)
+pub last_on : {L F : List ℕ} {base h p : ℕ} (y : AtNode L F base h p) → (count y.kids ≡ 0 → ⊥) → (o : On L F base (h - 1) (p - 2)) × (last_tree y.kids ≡ Some o.top)
 unfolding count
 last_on {L} {F} {base} {h} {p} y n = go y.kids n (pop y.here).under y.kept y.many y.room
   where
-    go : (f : Forest) → (count f ≡ 0 → ⊥) → At L (p - 2) (back f y.rest) → Kept F base (back f y.rest) → count f + length y.rest ≡ h → h ≤ base + length F → (o : On L F base (h - 1) (p - 2)) × (last_tree f ≡ just o.top)
+    go : (f : Forest) → (count f ≡ 0 → ⊥) → At L (p - 2) (back f y.rest) → Kept F base (back f y.rest) → count f + length y.rest ≡ h → h ≤ base + length F → (o : On L F base (h - 1) (p - 2)) × (last_tree f ≡ Some o.top)
     go none n a k m r = absurd (n refl)
     go (more t f) n a k m r =
         let x = back_last t f y.rest in
@@ -211,7 +208,7 @@ pub node_room : {L F : List ℕ} {base h p : ℕ} → AtNode L F base h p → 2 
 node_room y = omega (arith, at_many y.here)
 
 pub node_place : {L F : List ℕ} {base h p : ℕ} → AtNode L F base h p → Somewhere L p
-node_place y = record { tree = just (node y.kind y.value y.kids); rest = y.rest; spot = stands y.here }
+node_place y = record { tree = Some (node y.kind y.value y.kids); rest = y.rest; spot = stands y.here }
 
 pub node_here : {L F : List ℕ} {base h p : ℕ} → AtNode L F base h p → Here L p
 node_here y = record { top = node y.kind y.value y.kids; rest = y.rest; here = y.here }
@@ -232,34 +229,34 @@ arity_at y w kind e z =
     says_one y.here (sym (sound_arity y.kind y.value (count y.kids) (w.how _ _ y.here) (λ x. z (sym k ∙ x)) ∙ ap arity k))
 
 -- the only child is the first and the last
-pub the_only : {L F : List ℕ} {base h p : ℕ} (y : AtNode L F base h p) → Says L p count_in 1 → (o : On L F base (h - 1) (p - 2)) × (first_tree y.kids ≡ just o.top) × (1 ≤ h)
+pub the_only : {L F : List ℕ} {base h p : ℕ} (y : AtNode L F base h p) → Says L p count_in 1 → (o : On L F base (h - 1) (p - 2)) × (first_tree y.kids ≡ Some o.top) × (1 ≤ h)
 the_only y c =
     let n = c.how _ _ (stands y.here) in
     let x = last_on y (λ e. omega arith) in
     (x.0, first_is_last y.kids (sym n) ∙ x.1, omega (arith, y.many))
 
 -- ---------------------------------------------------------------- whether a tree serves a `fun` with a target
-serves_is : (t : Tree) (s : List Tree) → serves t s ≡ serves_as (kind_in (just t)) (children_in (just t)) s
+serves_is : (t : Tree) (s : List Tree) → serves t s ≡ serves_as (kind_in (Some t)) (children_in (Some t)) s
 serves_is (node k v f) s = refl
 
 module _ {L : List ℕ} {p k n : ℕ} {r : Bool} (kind : Says L p kind_in k) (e : k ≡ n) where
-  pub serves_arm : Tells L p (λ t s. serves_as n (children_in (just t)) s) r → Tells L p serves r
-  serves_arm x = record { how = λ t s a. x.how t s a ∙ ap (λ (z : ℕ). serves_as z (children_in (just t)) s) (sym e ∙ kind.how (just t) s (stands a)) ∙ sym (serves_is t s) }
+  pub serves_arm : Tells L p (λ t s. serves_as n (children_in (Some t)) s) r → Tells L p serves r
+  serves_arm x = record { how = λ t s a. x.how t s a ∙ ap (λ (z : ℕ). serves_as z (children_in (Some t)) s) (sym e ∙ kind.how (Some t) s (stands a)) ∙ sym (serves_is t s) }
 
-  pub serves_known : Tells L p serves r → Tells L p (λ t s. serves_as n (children_in (just t)) s) r
-  serves_known x = record { how = λ t s a. x.how t s a ∙ serves_is t s ∙ ap (λ (z : ℕ). serves_as z (children_in (just t)) s) (sym (kind.how (just t) s (stands a)) ∙ e) }
+  pub serves_known : Tells L p serves r → Tells L p (λ t s. serves_as n (children_in (Some t)) s) r
+  serves_known x = record { how = λ t s a. x.how t s a ∙ serves_is t s ∙ ap (λ (z : ℕ). serves_as z (children_in (Some t)) s) (sym (kind.how (Some t) s (stands a)) ∙ e) }
 
 -- what is said at a place is told of its tree
-pub says_tells : {A : Type 0} {L : List ℕ} {p : ℕ} {what : Maybe Tree → A} {r : A} → Says L p what r → Tells L p (λ t s. what (just t)) r
-says_tells x = record { how = λ t s a. x.how (just t) s (stands a) }
+pub says_tells : {A : Type 0} {L : List ℕ} {p : ℕ} {what : Option Tree → A} {r : A} → Says L p what r → Tells L p (λ t s. what (Some t)) r
+says_tells x = record { how = λ t s a. x.how (Some t) s (stands a) }
 
-pub no_name : (f : Forest) (m : Maybe Tree) → first_tree f ≡ nothing → name_serves f m ≡ false
+pub no_name : (f : Forest) (m : Option Tree) → first_tree f ≡ None → name_serves f m ≡ false
 no_name none m e = refl
 no_name (more t f) m e =
     let z : ◌≡◌ {A = ℕ} 0 1 = cc in
     absurd (omega arith)
 
-pub a_name : (f : Forest) (m : Maybe Tree) {n : ℕ} → (first_tree f ≡ nothing → ⊥) → n ≡ value_in (first_tree f) → gives_name (kind_in m) (value_in m) n ≡ name_serves f m
+pub a_name : (f : Forest) (m : Option Tree) {n : ℕ} → (first_tree f ≡ None → ⊥) → n ≡ value_in (first_tree f) → gives_name (kind_in m) (value_in m) n ≡ name_serves f m
 a_name none m z e = absurd (z refl)
 a_name (more t f) m z e = rw e
 

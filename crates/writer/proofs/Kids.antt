@@ -5,8 +5,8 @@ use mathlib.Core.List.{List, [], ◌∷◌, ◌++◌}
 use Prim.Native.Nat.{ℕ, zero, suc, ◌-◌, ◌≤◌, ◌<◌}
 use native.Mathlib.Omega.{arith}
 use lib.ListN.{length, length-append}
+use Rattle.std.specs.Prelude.{Option, Some, None}
 use Rattle.tree.specs.Tree.{Tree, Forest, node, none, more, count, records}
-use Rattle.tree.specs.Maybe.{Maybe, nothing, just}
 use Rattle.tree.specs.Records.{stack_records, back}
 use Rattle.writer.specs.Stack.{At, Here, Skipped, SpotAs, Spot, Somewhere, Says, KidOf, nth_tree, kid_in, push}
 use Rattle.tables.specs.Children.{count_in, children_in}
@@ -26,7 +26,7 @@ skipped_below {t = t} {s = s} k a = omega (arith, at_length a, at_length (k.how 
 -- the child that has n before it, on top of them
 record Top (n : ℕ) (f : Forest) (s : List Tree) : Type 0 where
   pub top : Tree
-  pub is : nth_tree n f ≡ just top
+  pub is : nth_tree n f ≡ Some top
   pub on : push (suc n) f s ≡ top ∷ push n f s
 
 a_top : (n : ℕ) (f : Forest) (s : List Tree) → n < count f → Top n f s
@@ -38,36 +38,36 @@ a_top (suc n) (more t f) s h =
     let w = a_top n f (t ∷ s) (omega arith) in
     record { top = w.top; is = w.is; on = w.on }
 
-no_nth : (n : ℕ) (f : Forest) → count f ≤ n → nth_tree n f ≡ nothing
+no_nth : (n : ℕ) (f : Forest) → count f ≤ n → nth_tree n f ≡ None
 unfolding count
 no_nth zero none h = refl
 no_nth zero (more t f) h = absurd (omega arith)
 no_nth (suc n) none h = no_nth n none (omega arith)
 no_nth (suc n) (more t f) h = no_nth n f (omega arith)
 
-pub no_kid : {L : List ℕ} (j : ℕ) (m : Maybe Tree) (s : List Tree) → count_in m < j → Spot L 0 (kid_in j m) s
+pub no_kid : {L : List ℕ} (j : ℕ) (m : Option Tree) (s : List Tree) → count_in m < j → Spot L 0 (kid_in j m) s
 unfolding count
 no_kid {L} j m s h = rw (no_nth (j - 1) (children_in m) (few m h)) (record { how = refl })
   where
-    few : (m : Maybe Tree) → count_in m < j → count (children_in m) ≤ j - 1
-    few nothing h = omega arith
-    few (just (node k v f)) h = omega arith
+    few : (m : Option Tree) → count_in m < j → count (children_in m) ≤ j - 1
+    few None h = omega arith
+    few (Some (node k v f)) h = omega arith
 
 -- the tree at p has i children at least, and the child number i ends at q
 pub record Kids (L : List ℕ) (p q i : ℕ) : Type 0 where
-  pub how : (m : Maybe Tree) (s : List Tree) → Spot L p m s → (i ≤ count (children_in m)) × At L q (push i (children_in m) s)
+  pub how : (m : Option Tree) (s : List Tree) → Spot L p m s → (i ≤ count (children_in m)) × At L q (push i (children_in m) s)
   pub below : q ≤ p - 2
 
 pub kids_start : {L : List ℕ} {p n : ℕ} → 0 < n → Says L p count_in n → Kids L p (p - 2) n
 kids_start {L} {p} {n} z e = record { how = λ m s h. go m s h.how (e.how m s h); below = omega arith }
   where
-    go : (m : Maybe Tree) (s : List Tree) → SpotAs L p m s → n ≡ count_in m → (n ≤ count (children_in m)) × At L (p - 2) (push n (children_in m) s)
-    go nothing s a e = absurd (omega arith)
-    go (just (node k v f)) s a e = (omega arith, rw (e, push_all f s) (pop a).under)
+    go : (m : Option Tree) (s : List Tree) → SpotAs L p m s → n ≡ count_in m → (n ≤ count (children_in m)) × At L (p - 2) (push n (children_in m) s)
+    go None s a e = absurd (omega arith)
+    go (Some (node k v f)) s a e = (omega arith, rw (e, push_all f s) (pop a).under)
 
 module _ {L : List ℕ} {p q i : ℕ} (w : Kids L p q i) (i_some : 0 < i) where
   -- the child number i as a tree, over those before it
-  child : (m : Maybe Tree) (s : List Tree) → Spot L p m s → (t : Tree) × (kid_in i m ≡ just t) × At L q (t ∷ push (i - 1) (children_in m) s)
+  child : (m : Option Tree) (s : List Tree) → Spot L p m s → (t : Tree) × (kid_in i m ≡ Some t) × At L q (t ∷ push (i - 1) (children_in m) s)
   child m s h =
       let x = w.how m s h in
       let n : suc (i - 1) ≡ i = omega arith in
@@ -115,7 +115,7 @@ pub record Part (L : List ℕ) (q j : ℕ) (s : List Tree) (g : ℕ → Tree →
   pub many : length kids ≡ j
   pub same : b ≡ from_last g kids
 
-pub part_start : {L : List ℕ} {p n : ℕ} {s : List Tree} {g : ℕ → Tree → Bool} {b : Bool} (t : Tree) → At L p (t ∷ s) → n ≡ count_in (just t) → b ≡ from_first g 1 (children_in (just t)) → Part L (p - 2) n s g b
+pub part_start : {L : List ℕ} {p n : ℕ} {s : List Tree} {g : ℕ → Tree → Bool} {b : Bool} (t : Tree) → At L p (t ∷ s) → n ≡ count_in (Some t) → b ≡ from_first g 1 (children_in (Some t)) → Part L (p - 2) n s g b
 unfolding from_last
 part_start {L} {p} {n} {s} {g} (node k v f) a c e =
     let m = length_back f [] in

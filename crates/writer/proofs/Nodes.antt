@@ -7,8 +7,8 @@ use native.Mathlib.Omega.{arith}
 use lib.Dec.{leb}
 use lib.ListN.{length, get_or}
 use borrow.Author.Tests.{le-leb, lt-leb}
+use Rattle.std.specs.Prelude.{Some}
 use Rattle.tree.specs.Tree.{Tree, Forest, node, none, more, count}
-use Rattle.tree.specs.Maybe.{just}
 use Rattle.tree.specs.Records.{back}
 use Rattle.tables.specs.Form.{place_of, base, deeper}
 use Rattle.tables.specs.Layout.{form_of, text, texts, within, withins, emit, opened, closed}
@@ -88,7 +88,7 @@ base_deep {L} {p} {b} {d} place (node k v f) s at e h =
 -- the form that was found, by the number that the tables have for it
 pub form_says : {L : List ℕ} {p : ℕ} {place : Place} {form : Form} {t : Tree} {s : List Tree} → FormAt L p place form → At L p (t ∷ s)
     → Says L p (λ x. form_of (kind_in x) (value_in x) (children_in x) (place_number place)) (form_number (get_or L (p - 2) 0 % 256) form)
-form_says {L} {p} {form = form} {t = node k v f} {s} x a = says_one a (ap (λ (n : ℕ). form_number n form) (pop a).kind ∙ x.how (just (node k v f)) s (stands a))
+form_says {L} {p} {form = form} {t = node k v f} {s} x a = says_one a (ap (λ (n : ℕ). form_number n form) (pop a).kind ∙ x.how (Some (node k v f)) s (stands a))
 
 -- all children are left
 pub left_start : {L : List ℕ} {p b d m a : ℕ} {O : List ℕ} (place : ℕ) (t : Tree) (s : List Tree) (X : List ℕ) → At L p (t ∷ s) → b ≡ base (get_or L (p - 2) 0 % 256) → b ≤ d
@@ -96,7 +96,7 @@ pub left_start : {L : List ℕ} {p b d m a : ℕ} {O : List ℕ} (place : ℕ) (
     → Left L s (text t place X) (within t place d) d (get_or L (p - 2) 0 % 256) (get_or L (p - 1) 0) m (get_or L (p - 2) 0 / 256) p O (get_or L (p - 2) 0 / 256) (p - 2) a
 left_start {L} {p} {b} {d} {m} {a} {O} place (node k v f) s X at e h says g =
     let x = pop at in
-    let form : m ≡ form_of k v f place = says.how (just (node k v f)) s (record { how = at }) in
+    let form : m ≡ form_of k v f place = says.how (Some (node k v f)) s (record { how = at }) in
     let n = length_back f [] in
     let many = x.kids in
     let two = x.two in

@@ -9,16 +9,16 @@ use lib.Dec.{eqb}
 use borrow.Author.Tests.{ne_eqb}
 use lib.ListN.{length, take, drop, get_or, length-drop}
 use lib.Seq.{drop-cons, take-suc, drop-length}
+use Rattle.std.specs.Prelude.{Some, None, option_and_then}
 use Rattle.tree.specs.Tree.{Tree, Forest, node, none, more, count, records, all_records}
 use Rattle.tree.specs.Records.{Small, Smalls, stack_records, StackSmall}
-use Rattle.tree.specs.Maybe.{nothing, just, bindM}
 use Rattle.tree.specs.Decode.{gather, stacked, decode}
 use Rattle.writer.specs.Stack.{At, Shape}
 
 pub record Gathered (n k v : ℕ) (f : Forest) (s : List Tree) : Type 0 where
   pub kids : Forest
   pub rest : List Tree
-  pub same : gather n k v f s ≡ just (node k v kids ∷ rest)
+  pub same : gather n k v f s ≡ Some (node k v kids ∷ rest)
   pub many : length rest + n ≡ length s
   pub counted : count kids ≡ count f + n
   pub text : stack_records rest ++ all_records kids ≡ stack_records s ++ all_records f
@@ -35,7 +35,7 @@ gather_ok (suc n) k v f (t ∷ s) h a b =
     let c : count w.kids ≡ suc (count f) + n = w.counted in
     record { kids = w.kids; rest = w.rest; same = w.same; many = omega arith; counted = omega arith; text = w.text ∙ sym (append_assoc (stack_records s) (records t) (all_records f)); small_kids = w.small_kids; small_rest = w.small_rest }
 
-pub gather_bad : (n k v : ℕ) (f : Forest) (s : List Tree) → length s < n → gather n k v f s ≡ nothing
+pub gather_bad : (n k v : ℕ) (f : Forest) (s : List Tree) → length s < n → gather n k v f s ≡ None
 unfolding gather
 gather_bad zero k v f s h = absurd (omega arith)
 gather_bad (suc n) k v f [] h = refl
@@ -65,7 +65,7 @@ unfolding stack_records StackSmall
 shaping_start L = record { stack = []; run = refl; many = refl; at = record { text = refl; inside = omega arith; small = tt } }
 
 module _ {L : List ℕ} {i h : ℕ} (w : Shaping L i h) (two : i + 2 ≤ length L) where
-  step : stacked L [] ≡ bindM (gather (get_or L i 0 / 256) (get_or L i 0 % 256) (get_or L (i + 1) 0) none w.stack) (λ u. stacked (drop (i + 2) L) u)
+  step : stacked L [] ≡ option_and_then (λ u. stacked (drop (i + 2) L) u) (gather (get_or L i 0 / 256) (get_or L i 0 % 256) (get_or L (i + 1) 0) none w.stack)
   unfolding stacked
   step = w.run ∙ rw (drop_two L i two)
 
@@ -73,7 +73,7 @@ module _ {L : List ℕ} {i h : ℕ} (w : Shaping L i h) (two : i + 2 ≤ length 
   unfolding decode
   shaping_bad g =
       let m = w.many in
-      let e : stacked L [] ≡ nothing = step ∙ rw (gather_bad (get_or L i 0 / 256) (get_or L i 0 % 256) (get_or L (i + 1) 0) none w.stack (omega arith)) in
+      let e : stacked L [] ≡ None = step ∙ rw (gather_bad (get_or L i 0 / 256) (get_or L i 0 % 256) (get_or L (i + 1) 0) none w.stack (omega arith)) in
       record { how = rw e }
 
   pub shaping_next : get_or L i 0 / 256 ≤ h → Shaping L (i + 2) (h - get_or L i 0 / 256 + 1)
@@ -95,7 +95,7 @@ module _ {L : List ℕ} {i h : ℕ} (w : Shaping L i h) (two : i + 2 ≤ length 
         };
       }
 
-stacked_short : (l : List ℕ) (s : List Tree) → length l < 2 → 0 < length l → stacked l s ≡ nothing
+stacked_short : (l : List ℕ) (s : List Tree) → length l < 2 → 0 < length l → stacked l s ≡ None
 unfolding stacked
 stacked_short [] s h g = absurd (omega arith)
 stacked_short (w ∷ []) s h g = refl
@@ -105,7 +105,7 @@ pub shaping_odd : {L : List ℕ} {i h : ℕ} → Shaping L i h → i < length L 
 unfolding decode
 shaping_odd {L} {i} w a b =
     let n = length-drop i L in
-    let e : stacked L [] ≡ nothing = w.run ∙ stacked_short (drop i L) w.stack (omega arith) (omega arith) in
+    let e : stacked L [] ≡ None = w.run ∙ stacked_short (drop i L) w.stack (omega arith) (omega arith) in
     record { how = rw e }
 
 pub shaping_end : {L : List ℕ} {i h : ℕ} → Shaping L i h → length L ≤ i → Shape L (eqb h 1)
@@ -113,10 +113,10 @@ unfolding decode stacked
 shaping_end {L} {i} {h} w a =
     let b = w.at.inside in
     let e : i ≡ length L = omega arith in
-    let r : stacked L [] ≡ just w.stack = w.run ∙ rw (e, drop-length L) in
+    let r : stacked L [] ≡ Some w.stack = w.run ∙ rw (e, drop-length L) in
     subst (λ (n : ℕ). Shape L (eqb n 1)) w.many (go w.stack r (subst (λ (n : ℕ). At L n w.stack) e w.at))
   where
-    go : (s : List Tree) → stacked L [] ≡ just s → At L (length L) s → Shape L (eqb (length s) 1)
+    go : (s : List Tree) → stacked L [] ≡ Some s → At L (length L) s → Shape L (eqb (length s) 1)
     go [] r at = record { how = rw r }
     go (t ∷ []) r at = record { how = (t, rw r, at) }
     go (t ∷ (u ∷ s)) r at = rw (ne_eqb (suc (suc (length s))) 1 (omega arith)) (record { how = rw r })

@@ -7,15 +7,14 @@ use native.Mathlib.Omega.{arith}
 use native.Mathlib.Decide.{ℕ_discrete}
 use lib.Dec.{eqb}
 use borrow.Author.Tests.{eq-eqb, ne_eqb}
+use Rattle.std.specs.Prelude.{Option, Some, None}
+use Rattle.std.specs.Option.{option_map_or}
 use Rattle.tree.specs.NodeKind
 use Rattle.tree.specs.Tree.{Tree, Forest, node, none, more, kind_of, head_kind}
-use Rattle.tree.specs.Maybe.{Maybe, nothing, just}
 use Rattle.grammar.specs.Canonical.Write.{tail_of, target_atom, target_items, target_path, target_receiver, is_target, has_function}
 use Rattle.grammar.specs.Reading.Function.{target_name}
 use Rattle.tables.specs.Kinds.{target_item, name_is, gives_name}
-use Rattle.std.specs.declared.option.Option.{Option}
-use Rattle.std.specs.declared.option.Option.TheVariants.{Some}
-use Rattle.writer.specs.Stack.{Skipped, SpotAs, Spot, Somewhere, Says, KidOf, nth_tree, kid_in, push, maybe}
+use Rattle.writer.specs.Stack.{Skipped, SpotAs, Spot, Somewhere, Says, KidOf, nth_tree, kid_in, push}
 use Rattle.tables.specs.Children.{kind_in, value_in, children_in, first_tree}
 use Rattle.tables.specs.Check.{name_given, function_form}
 use Rattle.writer.specs.Verdict.{Fit}
@@ -26,9 +25,9 @@ use Rattle.writer.proofs.Fitted.{fit_at}
 
 -- the items of a path, one by one
 abbrev pub item : ℕ → Tree → Bool
-item j t = target_item (kind_in (just t))
+item j t = target_item (kind_in (Some t))
 
-item_is : (t : Tree) → eqb (kind_of t) NodeKind.Attribute || eqb (kind_of t) NodeKind.Index ≡ target_item (kind_in (just t))
+item_is : (t : Tree) → eqb (kind_of t) NodeKind.Attribute || eqb (kind_of t) NodeKind.Index ≡ target_item (kind_in (Some t))
 unfolding target_item
 item_is (node k v f) = go (eqb k NodeKind.Attribute) (eqb k NodeKind.Index)
   where
@@ -48,16 +47,16 @@ head_is none = refl
 head_is (more (node k v f) g) = refl
 
 -- a path that is not there
-pub no_path : (f : Forest) → first_tree f ≡ nothing → target_path f ≡ false
+pub no_path : (f : Forest) → first_tree f ≡ None → target_path f ≡ false
 no_path none e = refl
 no_path (more (node k v f) g) e =
     let z : ◌≡◌ {A = ℕ} 0 1 = cc in
     absurd (omega arith)
 
 -- the receiver's path ends at q, and its items were tested one by one
-module _ {L : List ℕ} {p q : ℕ} (path : KidOf L p 2 q) (some : q ≡ 0 → ⊥) {r : Option ℕ} (w : Fit L q (λ t. target_items (children_in (just t))) r) where
+module _ {L : List ℕ} {p q : ℕ} (path : KidOf L p 2 q) (some : q ≡ 0 → ⊥) {r : Option ℕ} (w : Fit L q (λ t. target_items (children_in (Some t))) r) where
   -- the atom ends where the path begins
-  pub good_path : {b : ℕ} → r ≡ Some b → (m : Maybe Tree) (s : List Tree) → Spot L p m s → (target_path (tail_of (children_in m)) ≡ true) × Spot L b (kid_in 1 m) s
+  pub good_path : {b : ℕ} → r ≡ Some b → (m : Option Tree) (s : List Tree) → Spot L p m s → (target_path (tail_of (children_in m)) ≡ true) × Spot L b (kid_in 1 m) s
   good_path {b} e m s h = go (children_in m) (path.how m s h).how
     where
       go : (f : Forest) → SpotAs L q (nth_tree 1 f) (push 1 f s) → (target_path (tail_of f) ≡ true) × Spot L b (first_tree f) s
@@ -69,9 +68,9 @@ pub receiver_is : (f : Forest) → target_receiver f ≡ target_atom (head_kind 
 receiver_is none = refl
 receiver_is (more (node k v f) g) = refl
 
-pub target_is : (m : Maybe Tree) → maybe false is_target m ≡ eqb (kind_in m) NodeKind.IdentifierPattern || ((eqb (kind_in m) NodeKind.AttributePattern || eqb (kind_in m) NodeKind.IndexPattern) && target_receiver (children_in m))
-target_is nothing = refl
-target_is (just (node k v f)) = refl
+pub target_is : (m : Option Tree) → option_map_or is_target m false ≡ eqb (kind_in m) NodeKind.IdentifierPattern || ((eqb (kind_in m) NodeKind.AttributePattern || eqb (kind_in m) NodeKind.IndexPattern) && target_receiver (children_in m))
+target_is None = refl
+target_is (Some (node k v f)) = refl
 
 -- ---------------------------------------------------------------- the function behind its target
 pub no_function : (f : Forest) → (kind_in (first_tree (tail_of f)) ≡ NodeKind.FunctionDef → ⊥) → has_function f ≡ false
@@ -79,7 +78,7 @@ no_function none n = refl
 no_function (more p none) n = refl
 no_function (more p (more (node k v g) f)) n = rw (ne_eqb k NodeKind.FunctionDef n) (and-false (is_target p))
 
-pub no_signature : (f : Forest) → first_tree (children_in (first_tree (tail_of f))) ≡ nothing → has_function f ≡ false
+pub no_signature : (f : Forest) → first_tree (children_in (first_tree (tail_of f))) ≡ None → has_function f ≡ false
 no_signature none n = refl
 no_signature (more p none) n = refl
 no_signature (more p (more (node k v none) f)) n = ap (λ b. is_target p && b) (and-false (eqb k NodeKind.FunctionDef)) ∙ and-false (is_target p)
@@ -101,8 +100,8 @@ name_same k v n = go (eqb k NodeKind.IdentifierPattern)
     go true = named (ℕ_discrete n 0) (ℕ_discrete (n - 1) v)
     go false = refl
 
-pub has_is : (f : Forest) → kind_in (first_tree (tail_of f)) ≡ NodeKind.FunctionDef → (first_tree (children_in (first_tree (tail_of f))) ≡ nothing → ⊥)
-    → has_function f ≡ gives_name (kind_in (first_tree f)) (value_in (first_tree f)) (name_given f) && maybe false is_target (first_tree f)
+pub has_is : (f : Forest) → kind_in (first_tree (tail_of f)) ≡ NodeKind.FunctionDef → (first_tree (children_in (first_tree (tail_of f))) ≡ None → ⊥)
+    → has_function f ≡ gives_name (kind_in (first_tree f)) (value_in (first_tree f)) (name_given f) && option_map_or is_target (first_tree f) false
 has_is none e n = absurd (n refl)
 has_is (more p none) e n = absurd (n refl)
 has_is (more p (more (node k v none) f)) e n = absurd (n refl)
@@ -111,9 +110,9 @@ has_is (more (node k v h) (more (node j w (more (node a b c) d)) f)) e n = ap (�
 -- ---------------------------------------------------------------- the same of places: p is an assignment's, b its target's
 -- the assignment's second child is a function whose signature has the name n, and its first child ends at b
 pub record Behind (L : List ℕ) (p b n : ℕ) : Type 0 where
-  pub target : (m : Maybe Tree) (s : List Tree) → Spot L p m s → Spot L b (kid_in 1 m) s
+  pub target : (m : Option Tree) (s : List Tree) → Spot L p m s → Spot L b (kid_in 1 m) s
   pub name : Says L p (λ m. value_in (kid_in 1 (kid_in 2 m))) n
-  pub form : (m : Maybe Tree) (s : List Tree) → Spot L p m s → has_function (children_in m) ≡ gives_name (kind_in (kid_in 1 m)) (value_in (kid_in 1 m)) n && maybe false is_target (kid_in 1 m)
+  pub form : (m : Option Tree) (s : List Tree) → Spot L p m s → has_function (children_in m) ≡ gives_name (kind_in (kid_in 1 m)) (value_in (kid_in 1 m)) n && option_map_or is_target (kid_in 1 m) false
 
 -- the target's records end where those of the function begin, which begin with its signature's
 pub behind : {L : List ℕ} {p q z b k n : ℕ} → KidOf L p 2 q → KidOf L q 1 z → Says L q kind_in k → k ≡ NodeKind.FunctionDef → (z ≡ 0 → ⊥) → Skipped L z b → Says L z value_in n → Behind L p b n
@@ -128,12 +127,12 @@ behind {L} {p} {q} {z} {b} {k} {n} function signature ke function_kind some skip
     name : Says L p (λ m. value_in (kid_in 1 (kid_in 2 m))) n
     name = of_kid function (of_kid signature ne)
 
-    go : (s : List Tree) (m : Maybe Tree) → SpotAs L z (kid_in 1 (kid_in 2 m)) (push 1 (children_in m) s) → Spot L b (kid_in 1 m) s
-    go s nothing e = absurd (some e)
-    go s (just (node k v none)) e = absurd (some e)
-    go s (just (node k v (more t none))) e = absurd (some e)
-    go s (just (node k v (more t (more (node j w none) f)))) e = absurd (some e)
-    go s (just (node k v (more t (more (node j w (more y g)) f)))) a = record { how = skipped.how y (t ∷ s) a }
+    go : (s : List Tree) (m : Option Tree) → SpotAs L z (kid_in 1 (kid_in 2 m)) (push 1 (children_in m) s) → Spot L b (kid_in 1 m) s
+    go s None e = absurd (some e)
+    go s (Some (node k v none)) e = absurd (some e)
+    go s (Some (node k v (more t none))) e = absurd (some e)
+    go s (Some (node k v (more t (more (node j w none) f)))) e = absurd (some e)
+    go s (Some (node k v (more t (more (node j w (more y g)) f)))) a = record { how = skipped.how y (t ∷ s) a }
 
 module _ {L : List ℕ} {p b n : ℕ} (w : Behind L p b n) where
   pub target_place : Somewhere L p → Somewhere L b
@@ -146,7 +145,7 @@ module _ {L : List ℕ} {p b n : ℕ} (w : Behind L p b n) where
     unnamed e = record { how = λ m s h. rw (w.form m s h, ← ge.how _ _ (w.target m s h), e) }
 
     -- it is: then by whether the target can be one, and by whether there is a name
-    pub named : {r a z : Bool} → g ≡ true → Says L b (maybe false is_target) r → a ≡ r → z ≡ eqb n 0 → Says L p (λ m. function_form (children_in m)) (cond a (cond z 1 2) 0)
+    pub named : {r a z : Bool} → g ≡ true → Says L b (λ m. option_map_or is_target m false) r → a ≡ r → z ≡ eqb n 0 → Says L p (λ m. function_form (children_in m)) (cond a (cond z 1 2) 0)
     unfolding function_form
     named e t ae ze =
         record {

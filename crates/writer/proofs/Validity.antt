@@ -6,14 +6,15 @@ use Prim.Native.Nat.{ℕ, zero, suc, ◌+◌, ◌-◌, ◌≤◌, ◌<◌}
 use native.Mathlib.Omega.{arith}
 use lib.Dec.{eqb}
 use lib.ListN.{length}
+use Rattle.std.specs.Prelude.{Some}
+use Rattle.std.specs.Option.{option_map_or}
 use Rattle.tree.specs.Tree.{Tree, Forest, node, none, more}
-use Rattle.tree.specs.Maybe.{just}
 use Rattle.tree.specs.Records.{stack_records, back}
 use Rattle.tables.specs.Demand.{demand, fits}
 use Rattle.tables.specs.Kinds.{unlabelled, closed}
 use Rattle.tables.specs.Sound.{sound}
 use Rattle.tables.specs.Class as Class
-use Rattle.writer.specs.Stack.{At, maybe}
+use Rattle.writer.specs.Stack.{At}
 use Rattle.tables.specs.Children.{kind_in, count_in, value_in, children_in}
 use Rattle.tables.specs.Check.{class_of, mode_of, begins_labelled, ends_single, banned, kids_fit, node_fits, all_fit, all_fits, legal_tree}
 use Rattle.writer.proofs.Laws.{pop, at_many, at_length}
@@ -26,7 +27,7 @@ not_or false b = refl
 
 -- by what was asked in turn: the class, how it begins, how it ends
 pub kid_is : (t : Tree) (asked k v : ℕ) {c : ℕ} {g a b : Bool} → c ≡ class_of t → g ≡ fits asked c → a ≡ unlabelled k v && begins_labelled t
-    → b ≡ not (closed k) && maybe false ends_single (just t) → g && (not a && not b) ≡ fits asked (class_of t) && not (banned k v t)
+    → b ≡ not (closed k) && option_map_or ends_single (Some t) false → g && (not a && not b) ≡ fits asked (class_of t) && not (banned k v t)
 kid_is t asked k v {a = a} {b = b} ce ge ae be = rw (← not_or a b, ge, ae, be, ce)
 
 -- ---------------------------------------------------------------- one node
@@ -38,17 +39,17 @@ unfolding kids_fit from_first
 kids_all k v m none j = refl
 kids_all k v m (more t f) j = ap (λ b. kid_test k v m j t && b) (kids_all k v m f (suc j))
 
-module _ (t : Tree) {k v n : ℕ} (ke : k ≡ kind_in (just t)) (ve : v ≡ value_in (just t)) (ne : n ≡ count_in (just t)) where
+module _ (t : Tree) {k v n : ℕ} (ke : k ≡ kind_in (Some t)) (ve : v ≡ value_in (Some t)) (ne : n ≡ count_in (Some t)) where
   pub node_unsound : sound k v n ≡ false → node_fits t ≡ false
   node_unsound e = go t ke ve ne
     where
-      go : (t : Tree) → k ≡ kind_in (just t) → v ≡ value_in (just t) → n ≡ count_in (just t) → node_fits t ≡ false
+      go : (t : Tree) → k ≡ kind_in (Some t) → v ≡ value_in (Some t) → n ≡ count_in (Some t) → node_fits t ≡ false
       go (node k' v' f) ke ve ne = rw (← ke, ← ve, ← ne, e)
 
-  pub node_sound : {m : ℕ} → sound k v n ≡ true → m ≡ mode_of (kind_in (just t)) (children_in (just t)) → node_fits t ≡ kids_fit (kind_in (just t)) (value_in (just t)) m 1 (children_in (just t))
+  pub node_sound : {m : ℕ} → sound k v n ≡ true → m ≡ mode_of (kind_in (Some t)) (children_in (Some t)) → node_fits t ≡ kids_fit (kind_in (Some t)) (value_in (Some t)) m 1 (children_in (Some t))
   node_sound {m} e = go t ke ve ne
     where
-      go : (t : Tree) → k ≡ kind_in (just t) → v ≡ value_in (just t) → n ≡ count_in (just t) → m ≡ mode_of (kind_in (just t)) (children_in (just t)) → node_fits t ≡ kids_fit (kind_in (just t)) (value_in (just t)) m 1 (children_in (just t))
+      go : (t : Tree) → k ≡ kind_in (Some t) → v ≡ value_in (Some t) → n ≡ count_in (Some t) → m ≡ mode_of (kind_in (Some t)) (children_in (Some t)) → node_fits t ≡ kids_fit (kind_in (Some t)) (value_in (Some t)) m 1 (children_in (Some t))
       go (node k' v' f) ke ve ne me = rw (← me, ← ke, ← ve, ← ne, e)
 
 -- ---------------------------------------------------------------- all nodes, from the first: the stacks on the way to the root

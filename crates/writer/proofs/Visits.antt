@@ -8,15 +8,12 @@ use lib.Dec.{eqb, leb}
 use borrow.Author.Tests.{leb-false}
 use lib.ListN.{length}
 use Rattle.tree.specs.Tree.{Tree, node, count}
-use Rattle.tree.specs.Maybe.{just}
 use Rattle.tree.specs.Records.{stack_records, back}
 use Rattle.tables.specs.Class as Class
 use Rattle.tables.specs.Class.{class}
 use Rattle.tables.specs.Children.{kind_in, value_in, children_in}
 use Rattle.tables.specs.Check.{class_of, mode_of, begins_labelled, legal_tree}
-use Rattle.std.specs.Prelude.{IfSome}
-use Rattle.std.specs.declared.option.Option.{Option}
-use Rattle.std.specs.declared.option.Option.TheVariants.{Some, None}
+use Rattle.std.specs.Prelude.{IfSome, Option, Some, None}
 use Rattle.writer.specs.declared.legal.Kids.{Kids}
 use Rattle.writer.specs.Stack.{At, Skipped}
 use Rattle.writer.specs.Standing.{serves, far, word, entry, Entry, Kept, AtNode, Keeps, Tells}
@@ -39,7 +36,7 @@ module _ {L : List ℕ} {p m : ℕ} {r : Option Kids} (w : KidsFit L p m r) wher
     fit_items = record { how = λ t s a. (kids_at fit t s a).3 }
 
 -- ---------------------------------------------------------------- what is to be kept of a node
-pub class_found : (t : Tree) {k v m c : ℕ} → k ≡ kind_in (just t) → v ≡ value_in (just t) → m ≡ mode_of (kind_in (just t)) (children_in (just t)) → c ≡ class k v m → c ≡ class_of t
+pub class_found : (t : Tree) {k v m c : ℕ} → k ≡ kind_in (Some t) → v ≡ value_in (Some t) → m ≡ mode_of (kind_in (Some t)) (children_in (Some t)) → c ≡ class k v m → c ≡ class_of t
 class_found t ke ve me ce = ce ∙ rw (ke, ve, me) (class_same t)
 
 pub entry_made : (t : Tree) (s : List Tree) {c b : ℕ} {l x : Bool} {w : Option ℕ} → c ≡ class_of t → l ≡ begins_labelled t → x ≡ serves t s → b ≡ length (stack_records s) → w ≡ word c l x b → IfSome w (λ w. Entry w t s)

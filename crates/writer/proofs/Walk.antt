@@ -5,16 +5,14 @@ use mathlib.Core.List.{List, [], ◌∷◌, ◌++◌}
 use Prim.Native.Nat.{ℕ, suc, ◌+◌, ◌-◌, ◌≤◌, ◌<◌}
 use native.Mathlib.Omega.{arith}
 use lib.ListN.{length, length-append}
+use Rattle.std.specs.Prelude.{Option, Some, None}
 use Rattle.tree.specs.Tree.{Tree, Forest, none, more, count}
-use Rattle.tree.specs.Maybe.{Maybe, nothing, just}
 use Rattle.tree.specs.Records.{back}
 use Rattle.grammar.specs.Canonical.Write.{target_items}
 use Rattle.tables.specs.Children.{kind_in, first_tree}
 use Rattle.tables.specs.Kinds.{target_item}
 use Rattle.tables.specs.Demand.{demand}
 use Rattle.tables.specs.Check.{kids_fit}
-use Rattle.std.specs.declared.option.Option.{Option}
-use Rattle.std.specs.declared.option.Option.TheVariants.{Some, None}
 use Rattle.writer.specs.declared.legal.Kids.{Kids}
 use Rattle.writer.specs.Stack.{At, Skipped}
 use Rattle.writer.specs.Standing.{Kept, On, AtNode, Tells}
@@ -30,9 +28,9 @@ kids_one : {L : List ℕ} {p m : ℕ} {t : Tree} {s : List Tree} {r : Option Kid
 kids_one {L} {m = m} {r = r} a w = record { how = at_each a (λ t s. KidsFitAs L m t s r) w }
 
 -- ---------------------------------------------------------------- the tree at the bottom
-unfoldable pub bottom : List Tree → Maybe Tree
-bottom [] = nothing
-bottom (t ∷ []) = just t
+unfoldable pub bottom : List Tree → Option Tree
+bottom [] = None
+bottom (t ∷ []) = Some t
 bottom (t ∷ (u ∷ s)) = bottom (u ∷ s)
 
 bottom_back : (f : Forest) (t : Tree) (u : List Tree) → bottom (back f (t ∷ u)) ≡ bottom (t ∷ u)
@@ -135,7 +133,7 @@ module _ {L F : List ℕ} {base h p m k v j i q first : ℕ} {items : Bool} (w :
     pub walk_bad : r ≡ false → KidsFit L p m None
     walk_bad e = kids_one w.node_at.here (rw (← w.kind, ← w.value, w.same, tested, e))
 
-    pub walk_next : {q' : ℕ} {items' : Bool} → r ≡ true → Skipped L q q' → Tells L q (λ t s. items && target_item (kind_in (just t))) items' → Walk L F base h p m k v (j - 1) (i - 1) q' q items'
+    pub walk_next : {q' : ℕ} {items' : Bool} → r ≡ true → Skipped L q q' → Tells L q (λ t s. items && target_item (kind_in (Some t))) items' → Walk L F base h p m k v (j - 1) (i - 1) q' q items'
     unfolding from_last bottom Kept
     walk_next {q'} {items'} e skipped told =
         let many = top_many z in
@@ -152,7 +150,7 @@ module _ {L F : List ℕ} {base h p m k v j i q first : ℕ} {items : Bool} (w :
           inside = omega arith;
           kept = (top_kept z).1;
           same = w.same ∙ tested ∙ rw e;
-          all_items = w.all_items ∙ ap (λ (u : List Tree). items && from_last item u) (looks z).is ∙ rw (told.how _ _ (top_at z)) (sym (and_assoc items (target_item (kind_in (just (looks z).top))) (from_last item (looks z).more)));
+          all_items = w.all_items ∙ ap (λ (u : List Tree). items && from_last item u) (looks z).is ∙ rw (told.how _ _ (top_at z)) (sym (and_assoc items (target_item (kind_in (Some (looks z).top))) (from_last item (looks z).more)));
           under = λ g. lower (looks z).more (λ x. g (omega (arith, ap length x))) (top_bottom z);
           ended = λ g. last_one (looks z).more (omega arith) (top_bottom z) (top_at z);
         }
@@ -165,7 +163,7 @@ module _ {L F : List ℕ} {base h p m k v j i q first : ℕ} {items : Bool} (w :
         last_one (t ∷ u) g x a = absurd (omega arith)
         last_one [] g x a = the_first w.node_at.kids x
           where
-            the_first : (f : Forest) → just (looks z).top ≡ first_tree f → FirstAs L q f w.node_at.rest
+            the_first : (f : Forest) → Some (looks z).top ≡ first_tree f → FirstAs L q f w.node_at.rest
             the_first none y = tt
             the_first (more t f) y = let e : (looks z).top ≡ t = cc in subst (λ (b : Tree). At L q (b ∷ w.node_at.rest)) e a
 

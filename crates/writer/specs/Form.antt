@@ -1,5 +1,5 @@
 -- The numbers that the tables have for places and forms. Definitions; they assume nothing.
-use Rattle.std.specs.Prelude.{◌≡◌, Bool, not, ◌&&◌, List, ℕ, eqb}
+use Rattle.std.specs.Prelude.{◌≡◌, Bool, not, ◌&&◌, List, ℕ, eqb, Option}
 use Rattle.tree.specs.NodeKind
 use Rattle.tables.specs.Choice.{when◌then◌else◌}
 use Rattle.tables.specs.Form as Number
@@ -8,7 +8,6 @@ use Rattle.tables.specs.Check.{function_form}
 use Rattle.tables.specs.Children.{kind_in, value_in, children_in}
 use Rattle.tables.specs.Layout.{form_of}
 use Rattle.tree.specs.Tree.{Tree, Forest}
-use Rattle.tree.specs.Maybe.{Maybe}
 use Rattle.writer.specs.Stack.{Spot}
 use Rattle.writer.specs.declared.form.Form.{Form}
 use Rattle.writer.specs.declared.form.Head.{Head}
@@ -49,4 +48,4 @@ form_of_head head = form_number head.kind head.form
 
 -- the form of the node at p at a place
 pub record FormAt (L : List ℕ) (p : ℕ) (place : Place) (form : Form) : Type 0 where
-  pub how : (m : Maybe Tree) (s : List Tree) → Spot L p m s → form_number (kind_in m) form ≡ form_of (kind_in m) (value_in m) (children_in m) (place_number place)
+  pub how : (m : Option Tree) (s : List Tree) → Spot L p m s → form_number (kind_in m) form ≡ form_of (kind_in m) (value_in m) (children_in m) (place_number place)

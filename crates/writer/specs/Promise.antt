@@ -4,7 +4,7 @@
 -- 62, exactly if one does, and reading that statement's run at the depth limit stops with 62;
 -- 66, exactly if one does, its run is not that deep, and the output has less than two words for each of its tokens, the `Semicolon` included;
 -- else the number of its tokens. Then the output is the statement's canonical tokens, then zeros; with any other answer it is zeros.
-use Rattle.std.specs.Prelude.{◌≡◌, ◌↔◌, Bool, true, false, List, [], ◌∷◌, ◌++◌, leb, ltb, length, replicate}
+use Rattle.std.specs.Prelude.{◌≡◌, ◌↔◌, Bool, true, false, List, [], ◌∷◌, ◌++◌, leb, ltb, length, replicate, Option, Some, None}
 use Rattle.std.proofs.Math.Path.{refl}
 use Rattle.std.proofs.Common.{sym, ap, ◌∙◌, subst, true≢false}
 use Prim.Native.Nat.{ℕ, suc, ◌*◌, ◌-◌, ◌/◌, ◌≤◌, ◌<◌}
@@ -12,7 +12,6 @@ use native.Mathlib.Omega.{arith}
 use borrow.Author.Tests.{ltb-true, ltb-false, lt-ltb, le-ltb, leb-true, leb-false}
 use Rattle.token.specs.Kind
 use Rattle.tree.specs.Tree.{Tree, none, one}
-use Rattle.tree.specs.Maybe.{Maybe, nothing, just}
 use Rattle.tree.specs.Decode.{decode}
 use Rattle.tree.specs.Records.{decode_text}
 use Rattle.grammar.specs.Reading.Next.{next}
@@ -66,10 +65,10 @@ too_deep_is {t} h = go (leb (need t own) depth_limit) refl
 pub readable_given : {words : List ℕ} (g : Given words) → readable g.tree ≡ true
 readable_given g = (readable_valid g.tree (valid_small (given_valid g))).1 (given_valid g)
 
-pub given_decoded : {words : List ℕ} (g : Given words) → decode words ≡ just g.tree
+pub given_decoded : {words : List ℕ} (g : Given words) → decode words ≡ Some g.tree
 given_decoded g = sym (ap decode g.text) ∙ decoded (given_valid g)
 
-pub decoded_given : {words : List ℕ} {t : Tree} → decode words ≡ just t → readable t ≡ true → Given words
+pub decoded_given : {words : List ℕ} {t : Tree} → decode words ≡ Some t → readable t ≡ true → Given words
 decoded_given {t = t} d r = record { tree = t; text = (decode_text d).0; by = (valid_given t).0 ((readable_valid t (decode_text d).1).0 r) }
 
 shallow_is : {words : List ℕ} (g : Given words) → (TooDeep g.tree → ⊥) → exceeds_depth g.tree ≡ false
@@ -81,9 +80,9 @@ module _ (words : List ℕ) (m : ℕ) where
   unfolding write_stmt ifb
   sole (not_given n) = go (decode words) refl
     where
-      go : (d : Maybe Tree) → decode words ≡ d → write_stmt words m ≡ bare m (Refused no_statement)
-      go nothing d = rw d
-      go (just t) d = rw (d, not_true (readable t) (λ r. n (decoded_given d r)))
+      go : (d : Option Tree) → decode words ≡ d → write_stmt words m ≡ bare m (Refused no_statement)
+      go None d = rw d
+      go (Some t) d = rw (d, not_true (readable t) (λ r. n (decoded_given d r)))
   sole (deep g x) = rw (given_decoded g, readable_given g, (too_deep_is (given_valid g)).1 x)
   sole (short g n l) =
       let z = token_count g.tree in
@@ -111,9 +110,9 @@ module _ (words : List ℕ) (m : ℕ) where
       refused : write_stmt words m ≡ bare m (Refused no_statement) → Outcome words m (write_stmt words m)
       refused e = is (not_given ((refused_65 words m).0 (ap (λ w. w.answer) e)))
 
-      go : (d : Maybe Tree) → decode words ≡ d → Outcome words m (write_stmt words m)
-      go nothing d = refused (rw d)
-      go (just t) d = by_test (readable t) (λ r. given_outcome (decoded_given d r)) λ r. refused (rw (d, r))
+      go : (d : Option Tree) → decode words ≡ d → Outcome words m (write_stmt words m)
+      go None d = refused (rw d)
+      go (Some t) d = by_test (readable t) (λ r. given_outcome (decoded_given d r)) λ r. refused (rw (d, r))
 
 -- ---------------------------------------------------------------- each number exactly in its case
 -- a statement that is too deep; one that is not, and has no room; one that is not, and has room

@@ -1,10 +1,7 @@
 -- The trees that stand: finished, and their parents not yet visited. What their parents ask of them, and what is kept of them. Definitions; they assume nothing.
-use Rattle.std.specs.Prelude.{◌≡◌, Bool, true, false, cond, ◌&&◌, List, [], ◌∷◌, ℕ, ◌+◌, ◌*◌, ◌-◌, ◌≤◌, ◌<◌, eqb, ltb, leb, length, get_or, set}
-use Rattle.std.specs.declared.option.Option.{Option}
-use Rattle.std.specs.declared.option.Option.TheVariants.{Some, None}
+use Rattle.std.specs.Prelude.{◌≡◌, Bool, true, false, cond, ◌&&◌, List, [], ◌∷◌, ℕ, ◌+◌, ◌*◌, ◌-◌, ◌≤◌, ◌<◌, eqb, ltb, leb, length, get_or, set, Option, Some, None}
 use Rattle.tree.specs.NodeKind
 use Rattle.tree.specs.Tree.{Tree, Forest, node, none, more, count, head_kind}
-use Rattle.tree.specs.Maybe.{Maybe, nothing, just}
 use Rattle.tree.specs.Records.{stack_records, back}
 use Rattle.grammar.specs.Canonical.Write.{tail_of, target_atom, target_items, target_path, target_receiver}
 use Rattle.tables.specs.Choice.{when◌then◌else◌}
@@ -16,14 +13,14 @@ use Rattle.writer.specs.declared.standing.Standing.{Standing}
 use Rattle.writer.specs.Stack.{At}
 
 -- the tree on top of a stack, if there is one
-abbrev pub first_of : List Tree → Maybe Tree
-first_of [] = nothing
-first_of (t ∷ s) = just t
+abbrev pub first_of : List Tree → Option Tree
+first_of [] = None
+first_of (t ∷ s) = Some t
 
 -- whether the signature of a function with these children, which is the first of them, has the name that a tree gives as a target
-abbrev pub name_serves : Forest → Maybe Tree → Bool
+abbrev pub name_serves : Forest → Option Tree → Bool
 name_serves none m = false
-name_serves (more t f) m = gives_name (kind_in m) (value_in m) (value_in (just t))
+name_serves (more t f) m = gives_name (kind_in m) (value_in m) (value_in (Some t))
 
 -- whether a tree over the stack s serves a `fun` with a target: a path, a primary or a pattern as the target or a part of it; a function by its signature's name, which
 -- is the one that the tree before it gives
@@ -94,7 +91,7 @@ NodeAt s h p = AtNode s.records.now s.kept.now s.base h p
 
 -- the record of the node at p is sound, so that it has the children of its kind
 pub record SoundAt (L : List ℕ) (p : ℕ) : Type 0 where
-  pub how : (t : Tree) (s : List Tree) → At L p (t ∷ s) → sound (kind_in (just t)) (value_in (just t)) (count_in (just t)) ≡ true
+  pub how : (t : Tree) (s : List Tree) → At L p (t ∷ s) → sound (kind_in (Some t)) (value_in (Some t)) (count_in (Some t)) ≡ true
 
 -- from which number on trees are kept with the last one, the number i, where there is room for n
 unfoldable pub first_kept : ℕ → ℕ → ℕ → ℕ

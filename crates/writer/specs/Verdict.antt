@@ -1,10 +1,7 @@
 -- What is said of a tree with all its children, and what the pass over the nodes says of a child, of a node and of the whole. Definitions; they assume nothing.
-use Rattle.std.specs.Prelude.{◌≡◌, Bool, true, false, not, ◌&&◌, List, [], ◌∷◌, ℕ, length, IfSome}
+use Rattle.std.specs.Prelude.{◌≡◌, Bool, true, false, not, ◌&&◌, List, [], ◌∷◌, ℕ, length, IfSome, Option, Some, None}
 use Rattle.tree.specs.Tree.{Tree, Forest, none, more}
-use Rattle.tree.specs.Maybe.{just}
 use Rattle.grammar.specs.Canonical.Write.{target_items}
-use Rattle.std.specs.declared.option.Option.{Option}
-use Rattle.std.specs.declared.option.Option.TheVariants.{Some, None}
 use Rattle.writer.specs.declared.legal.Kids.{Kids}
 use Rattle.tables.specs.Children.{kind_in, value_in, children_in}
 use Rattle.tables.specs.Demand.{fits}
@@ -30,16 +27,16 @@ FirstAs L e none s = Unit {0}
 FirstAs L e (more t f) s = At L e (t ∷ s)
 
 pub record First (L : List ℕ) (p e : ℕ) : Type 0 where
-  pub how : (t : Tree) (s : List Tree) → At L p (t ∷ s) → FirstAs L e (children_in (just t)) s
+  pub how : (t : Tree) (s : List Tree) → At L p (t ∷ s) → FirstAs L e (children_in (Some t)) s
 
 -- all children are members and indexes
 pub record Items (L : List ℕ) (p : ℕ) (r : Bool) : Type 0 where
-  pub how : (t : Tree) (s : List Tree) → At L p (t ∷ s) → r ≡ target_items (children_in (just t))
+  pub how : (t : Tree) (s : List Tree) → At L p (t ∷ s) → r ≡ target_items (children_in (Some t))
 
 -- the children of the node at p, which has the mode m, fit
 abbrev pub KidsFitAs : List ℕ → ℕ → Tree → List Tree → Option Kids → Type 0
-KidsFitAs L m t s (Some k) = (kids_fit (kind_in (just t)) (value_in (just t)) m 1 (children_in (just t)) ≡ true) × At L k.begin s × FirstAs L k.first (children_in (just t)) s × (k.items ≡ target_items (children_in (just t)))
-KidsFitAs L m t s None = kids_fit (kind_in (just t)) (value_in (just t)) m 1 (children_in (just t)) ≡ false
+KidsFitAs L m t s (Some k) = (kids_fit (kind_in (Some t)) (value_in (Some t)) m 1 (children_in (Some t)) ≡ true) × At L k.begin s × FirstAs L k.first (children_in (Some t)) s × (k.items ≡ target_items (children_in (Some t)))
+KidsFitAs L m t s None = kids_fit (kind_in (Some t)) (value_in (Some t)) m 1 (children_in (Some t)) ≡ false
 
 pub record KidsFit (L : List ℕ) (p m : ℕ) (r : Option Kids) : Type 0 where
   pub how : (t : Tree) (s : List Tree) → At L p (t ∷ s) → KidsFitAs L m t s r

@@ -1,7 +1,6 @@
 // What is found of a node by its own children, the last of the h trees that stand before it (standing.rt): its mode (mode.rt), whether it begins
 // with a label, and whether it serves a `fun` with a target. Where the children are kept no records are passed over.
 ghost use Rattle.std.specs.Prelude.{◌&&◌};
-ghost use Rattle.tree.specs.Maybe.{just};
 ghost use Rattle.tree.specs.Tree.{head_kind};
 ghost use Rattle.grammar.specs.Canonical.Write.{tail_of, target_atom as target_atom_def, target_path, is_target as is_target_def};
 ghost use Rattle.tables.specs.Children.{kind_in, count_in, value_in, children_in, last_in};
@@ -116,7 +115,7 @@ impl Standing<'_> {
     // Whether the tree number i, which ends at q, can begin a target: an atom that is no group, and a path without calls.
     fn receiver_by(&self, i: usize, q: usize) -> bool
         requires { TreeAt self.now i q }
-        ensures { Tells self.now.records.now q (λ t s. target_atom_def (head_kind (children_in (just t))) && target_path (tail_of (children_in (just t)))) result }
+        ensures { Tells self.now.records.now q (λ t s. target_atom_def (head_kind (children_in (Some t))) && target_path (tail_of (children_in (Some t)))) result }
     {
         if kind_at(self.records, q) == node::PRIMARY {
             return self.serves_of(i, q);
@@ -127,7 +126,7 @@ impl Standing<'_> {
     // The same of the primary that ends at p.
     fn primary_by(&self, h: usize, p: usize) -> bool
         requires { NodeAt self.now h p × Says self.now.records.now p count_in 2 }
-        ensures { Tells self.now.records.now p (λ t s. target_atom_def (head_kind (children_in (just t))) && target_path (tail_of (children_in (just t)))) result }
+        ensures { Tells self.now.records.now p (λ t s. target_atom_def (head_kind (children_in (Some t))) && target_path (tail_of (children_in (Some t)))) result }
     {
         let path = p - 2;
         if kind_at(self.records, path) != node::LIST {

@@ -1,6 +1,7 @@
 // How trees begin and end: with a label, in a tuple of one member.
 ghost use Rattle.std.specs.Prelude.{false, not, ◌&&◌};
-ghost use Rattle.writer.specs.Stack.{Somewhere, Says, maybe};
+ghost use Rattle.std.specs.Option.{option_map_or};
+ghost use Rattle.writer.specs.Stack.{Somewhere, Says};
 ghost use Rattle.tables.specs.Kinds.{closed as closed_def};
 ghost use Rattle.tables.specs.Check.{begins_labelled as begins_labelled_def, ends_single as ends_single_def};
 
@@ -11,7 +12,7 @@ use tree::node;
 // Whether the tree that ends at p begins with a label: down the first children to a labelled block.
 pub fn begins_labelled(records: &[u64], p: usize) -> bool
     requires { Somewhere records.now p }
-    ensures { Says records.now p (maybe false begins_labelled_def) result }
+    ensures { Says records.now p (λ m. option_map_or begins_labelled_def m false) result }
 {
     let mut q = p;
     while passes(kind_at(records, q)) {
@@ -26,7 +27,7 @@ pub fn begins_labelled(records: &[u64], p: usize) -> bool
 // Whether the tree that ends at p ends in a tuple of one member: down the right sides of assignments.
 fn ends_single(records: &[u64], p: usize) -> bool
     requires { Somewhere records.now p }
-    ensures { Says records.now p (maybe false ends_single_def) result }
+    ensures { Says records.now p (λ m. option_map_or ends_single_def m false) result }
 {
     let mut q = p;
     while kind_at(records, q) == node::ASSIGNMENT {
@@ -41,7 +42,7 @@ fn ends_single(records: &[u64], p: usize) -> bool
 // Whether the tree that ends at q may not stand as a child of a node by how it ends.
 pub fn ends_wrong(records: &[u64], kind: u64, q: usize) -> bool
     requires { Somewhere records.now q }
-    ensures { Says records.now q (λ m. not (closed_def kind) && maybe false ends_single_def m) result }
+    ensures { Says records.now q (λ m. not (closed_def kind) && option_map_or ends_single_def m false) result }
 {
     if closed(kind) {
         return false;

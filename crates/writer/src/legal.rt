@@ -1,7 +1,6 @@
 // Whether words are the records of a tree that a clean reading, limits aside, can give. No recursion: the nodes are visited from the
 // first record to the last, and each is held against its children's classes.
 ghost use Rattle.std.specs.Prelude.{◌&&◌};
-ghost use Rattle.tree.specs.Maybe.{just};
 ghost use Rattle.tables.specs.Children.{kind_in};
 ghost use Rattle.tables.specs.Kinds.{target_item as target_item_def, unlabelled as unlabelled_def};
 ghost use Rattle.tables.specs.Check.{begins_labelled};
@@ -29,7 +28,7 @@ pub struct Kids {
 // Whether the tree that ends at q is a member or an index of a path, and those behind it are.
 fn item_too(records: &[u64], q: usize, items: bool) -> bool
     requires { Here records.now q }
-    ensures { Tells records.now q (λ t s. items && target_item_def (kind_in (just t))) result }
+    ensures { Tells records.now q (λ t s. items && target_item_def (kind_in (Some t))) result }
 {
     items && target_item(kind_at(records, q))
 }

@@ -1,9 +1,9 @@
 // `fun` with a target: whether it can give an assignment, and which trees serve it.
 ghost use Rattle.std.specs.Prelude.{false, ◌&&◌};
+ghost use Rattle.std.specs.Option.{option_map_or};
 ghost use Rattle.tree.specs.Tree.{head_kind};
-ghost use Rattle.tree.specs.Maybe.{just};
 ghost use Rattle.grammar.specs.Canonical.Write.{tail_of, target_atom as target_atom_def, target_items as target_items_def, target_path, is_target as is_target_def};
-ghost use Rattle.writer.specs.Stack.{Here, Somewhere, Says, Skipped, kid_in, maybe};
+ghost use Rattle.writer.specs.Stack.{Here, Somewhere, Says, Skipped, kid_in};
 ghost use Rattle.writer.specs.Standing.{Tells, first_of, name_serves, serves as serves_def};
 ghost use Rattle.tables.specs.Children.{kind_in, value_in, children_in};
 ghost use Rattle.tables.specs.Kinds.{gives_name as gives_name_def};
@@ -24,7 +24,7 @@ pub const NAMED: u64 = 2;
 // Whether the items of a path, the children of the list that ends at p, are members and indexes; and where the path begins.
 fn target_items(records: &[u64], p: usize) -> Option<usize>
     requires { Here records.now p }
-    ensures { Fit records.now p (λ t. target_items_def (children_in (just t))) result }
+    ensures { Fit records.now p (λ t. target_items_def (children_in (Some t))) result }
 {
     let mut q = p - 2;
     for _ in 0..count_at(records, p) {
@@ -55,7 +55,7 @@ pub fn target_receiver(records: &[u64], p: usize) -> bool
 // Whether the pattern that ends at p can be a target.
 fn is_target(records: &[u64], p: usize) -> bool
     requires { Somewhere records.now p }
-    ensures { Says records.now p (maybe false is_target_def) result }
+    ensures { Says records.now p (λ m. option_map_or is_target_def m false) result }
 {
     let receiver = kid_of(records, p, 1);
     match kind_at(records, p) {
@@ -105,7 +105,7 @@ pub fn function_form(records: &[u64], p: usize) -> u64
 // Whether the function that ends at p, whose signature has the name and which begins at b, has the name that the tree before it gives as a target.
 pub fn function_serves(records: &[u64], p: usize, name: u64, b: usize) -> bool
     requires { Here records.now p × Says records.now p (λ m. value_in (kid_in 1 m)) name × Skipped records.now p b }
-    ensures { Tells records.now p (λ t s. name_serves (children_in (just t)) (first_of s)) result }
+    ensures { Tells records.now p (λ t s. name_serves (children_in (Some t)) (first_of s)) result }
 {
     if count_at(records, p) == 0 {
         return false;
@@ -116,7 +116,7 @@ pub fn function_serves(records: &[u64], p: usize, name: u64, b: usize) -> bool
 // Whether the items of the path that ends at p are members and indexes.
 fn path_serves(records: &[u64], p: usize) -> bool
     requires { Here records.now p }
-    ensures { Tells records.now p (λ t s. target_items_def (children_in (just t))) result }
+    ensures { Tells records.now p (λ t s. target_items_def (children_in (Some t))) result }
 {
     target_items(records, p).is_some()
 }

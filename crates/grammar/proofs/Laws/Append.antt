@@ -1,7 +1,7 @@
 -- What a tree writes does not depend on the words that follow it. Assumes nothing.
 use Rattle.std.specs.Prelude.{◌≡◌, refl, Bool, true, false, List, [], ◌∷◌, ◌++◌, ℕ, zero, suc, ◌%◌}
 use Rattle.tree.specs.Tree.{Tree, Forest, node, none, more}
-use Rattle.tree.specs.Maybe.{pick}
+use Rattle.tree.specs.Choice.{pick}
 use Rattle.grammar.specs.Canonical.Write.{Place, own, modified, targeted, commas, members, suite, branches, row, W, Words, token, label, modifier, keyword, tokens_if, first, rest, after_commas, as_suite, after_elif, as_row, list, assignment_keyword, fun_keyword, layout, write, writes}
 
 -- words that come behind all may as well come behind what follows

@@ -1,10 +1,9 @@
 -- Every statement of a clean reading is valid. Assumes nothing.
-use Rattle.std.specs.Prelude.{◌≡◌, refl, Bool, true, false, cond, List, [], ◌∷◌, ℕ, zero, suc, ◌%◌, ◌≤◌, eqb, length}
+use Rattle.std.specs.Prelude.{◌≡◌, refl, Bool, true, false, cond, List, [], ◌∷◌, ℕ, zero, suc, ◌%◌, ◌≤◌, eqb, length, Option, Some, None, option_and_then}
 use Rattle.std.proofs.Common.{ap, ◌∙◌, subst, arith, eqb-true}
 use Rattle.token.specs.Kind
 use Rattle.token.specs.declared.Token.{Token}
 use Rattle.tree.specs.Tree.{Tree, Forest, none, more}
-use Rattle.tree.specs.Maybe.{Maybe, nothing, just, bindM}
 use Rattle.grammar.specs.Reading.Result.{Error, Res, ok, bad, fail, stop, either, ifb, unclean}
 use Rattle.grammar.specs.Reading.Depth.{at_depth}
 use Rattle.grammar.specs.Reading.Next.{start, next}
@@ -107,32 +106,32 @@ record CleanOk (ts : List ℕ) (f : Forest) : Type 0 where
   first : NotClose ts
 
 -- the statement before a clean reading
-joined : {ts r : List ℕ} {t : Tree} (m : Maybe Forest) (f : Forest) → (NotClose r → Valid stmt t) → NotClose ts → ((g : Forest) → m ≡ just g → CleanOk r g) → bindM m (λ g. just (more t g)) ≡ just f → CleanOk ts f
-joined nothing f h c ih e = absurd (let z : ◌≡◌ {A = ℕ} 0 1 = cc in omega arith)
-joined {ts = ts} {t = t} (just g) f h c ih e =
+joined : {ts r : List ℕ} {t : Tree} (m : Option Forest) (f : Forest) → (NotClose r → Valid stmt t) → NotClose ts → ((g : Forest) → m ≡ Some g → CleanOk r g) → option_and_then (λ g. Some (more t g)) m ≡ Some f → CleanOk ts f
+joined None f h c ih e = absurd (let z : ◌≡◌ {A = ℕ} 0 1 = cc in omega arith)
+joined {ts = ts} {t = t} (Some g) f h c ih e =
     let x = ih g refl in
     let y : more t g ≡ f = cc in
     subst (CleanOk ts) y (record { valid = v_more (h x.first) x.valid; first = c })
 
-at_end : {ts : List ℕ} (b : Bool) (f : Forest) → (b ≡ true → NotClose ts) → cond b (just none) nothing ≡ just f → CleanOk ts f
+at_end : {ts : List ℕ} (b : Bool) (f : Forest) → (b ≡ true → NotClose ts) → cond b (Some none) None ≡ Some f → CleanOk ts f
 at_end {ts} true f h e = let y : none ≡ f = cc in subst (CleanOk ts) y (record { valid = v_none; first = h refl })
 at_end false f h e = absurd (let z : ◌≡◌ {A = ℕ} 0 1 = cc in omega arith)
 
-clean_from_sound : (d n : ℕ) (ts : List ℕ) (f : Forest) → clean_from d n ts ≡ just f → CleanOk ts f
+clean_from_sound : (d n : ℕ) (ts : List ℕ) (f : Forest) → clean_from d n ts ≡ Some f → CleanOk ts f
 unfolding clean_from
 clean_from_sound d zero ts f e = absurd (let z : ◌≡◌ {A = ℕ} 0 1 = cc in omega arith)
 clean_from_sound d (suc n) ts f e = go (clean_from_sound d n) (next d [] ts) (next_ok d ts) e
   where
-    go : ((r : List ℕ) (g : Forest) → clean_from d n r ≡ just g → CleanOk r g) → (x : Res Tree) → NextOk ts x → clean_then x (λ r. clean_from d n r) ≡ just f → CleanOk ts f
+    go : ((r : List ℕ) (g : Forest) → clean_from d n r ≡ Some g → CleanOk r g) → (x : Res Tree) → NextOk ts x → clean_then x (λ r. clean_from d n r) ≡ Some f → CleanOk ts f
     go ih (ok t r) (a_stmt h c) e = joined (clean_from d n r) f h c (ih r) e
     go ih (bad t q r) with_errors e = absurd (let z : ◌≡◌ {A = ℕ} 0 1 = cc in omega arith)
     go ih (fail m q r) (no_stmt h) e = at_end (eqb m 0) f (λ z. h (eqb-true m 0 z)) e
     go ih (stop m) stopped e = absurd (let z : ◌≡◌ {A = ℕ} 0 1 = cc in omega arith)
 
-pub clean_sound : (d : ℕ) (ts : List ℕ) (f : Forest) → clean_reading d ts ≡ just f → Valids stmt f
+pub clean_sound : (d : ℕ) (ts : List ℕ) (f : Forest) → clean_reading d ts ≡ Some f → Valids stmt f
 unfolding clean_reading ifb
 clean_sound d ts f e = go (eqb (length ts % 2) 0) e
   where
-    go : (b : Bool) → ifb b (λ _. clean_from d (suc (length ts)) ts) (λ _. nothing) ≡ just f → Valids stmt f
+    go : (b : Bool) → ifb b (λ _. clean_from d (suc (length ts)) ts) (λ _. None) ≡ Some f → Valids stmt f
     go true e = (clean_from_sound d (suc (length ts)) ts f e).valid
     go false e = absurd (let z : ◌≡◌ {A = ℕ} 0 1 = cc in omega arith)

@@ -1,19 +1,19 @@
 -- What the parts of an expression convert to is a pattern, and so what the whole does. Assumes nothing.
-use Rattle.std.specs.Prelude.{◌≡◌, refl, true, ℕ, suc, ◌<◌}
+use Rattle.std.specs.Prelude.{◌≡◌, refl, true, ℕ, suc, ◌<◌, Option, Some, None, option_and_then}
 use Rattle.std.proofs.Common.{sym, subst}
 use Rattle.tree.specs.Tree.{Tree, Forest, none, more, snoc}
 use Rattle.tree.specs.Node
-use Rattle.tree.specs.Maybe.{Maybe, nothing, just, bindM, both}
+use Rattle.tree.specs.Choice.{both}
 use Rattle.grammar.specs.Reading.Pattern.{pattern, maybe, conv, all_conv, to_pattern, grouped, over, listed, by_item, last_of, front_of}
 use Rattle.grammar.specs.Canonical.Valid.{IsName, Role, atom, prim, item, Valid, Valids, Pattern, Patterns, v_nil, v_empty_tuple, v_identifier, v_true, v_false, v_integer, v_float, v_string, v_group, v_modified, v_atom, v_primary, v_attribute, v_index, v_invoke, v_invoke_table, v_none, v_more, p_identifier, p_attribute, p_index, p_tuple, p_pack, p_ellipsis, p_modifier, p_none, p_more}
 
-pub data PatternOk : Maybe Tree → Type 0 where
-  no_pattern : PatternOk nothing
-  a_pattern : {p : Tree} → Pattern p → PatternOk (just p)
+pub data PatternOk : Option Tree → Type 0 where
+  no_pattern : PatternOk None
+  a_pattern : {p : Tree} → Pattern p → PatternOk (Some p)
 
-data PatternsOk : Maybe Forest → Type 0 where
-  no_patterns : PatternsOk nothing
-  some_patterns : {f : Forest} → Patterns f → PatternsOk (just f)
+data PatternsOk : Option Forest → Type 0 where
+  no_patterns : PatternsOk None
+  some_patterns : {f : Forest} → Patterns f → PatternsOk (Some f)
 
 -- a tree converts to a pattern or to none
 pub record Converts (t : Tree) : Type 0 where
@@ -29,7 +29,7 @@ unfolding snoc
 convert_snoc c_none x = c_more x c_none
 convert_snoc (c_more y c) x = c_more y (convert_snoc c x)
 
-more_ok : {m : Maybe Tree} {n : Maybe Forest} → PatternOk m → PatternsOk n → PatternsOk (both more m n)
+more_ok : {m : Option Tree} {n : Option Forest} → PatternOk m → PatternsOk n → PatternsOk (both more m n)
 more_ok no_pattern y = no_patterns
 more_ok (a_pattern p) no_patterns = no_patterns
 more_ok (a_pattern p) (some_patterns f) = some_patterns (p_more p f)
@@ -40,19 +40,19 @@ all_ok c_none = some_patterns p_none
 all_ok (c_more x c) = more_ok x.as_is (all_ok c)
 
 -- a group without a modifier vanishes
-group_ok : {m : Maybe Tree} → PatternOk m → PatternOk (bindM (both more m (just none)) (grouped 0))
+group_ok : {m : Option Tree} → PatternOk m → PatternOk (option_and_then (grouped 0) (both more m (Some none)))
 group_ok no_pattern = no_pattern
 group_ok (a_pattern p) = a_pattern p
 
-modified_ok : {a : ℕ} {m : Maybe Tree} → a < 4 → PatternOk m → PatternOk (bindM (both more m (just none)) (grouped (suc a)))
+modified_ok : {a : ℕ} {m : Option Tree} → a < 4 → PatternOk m → PatternOk (option_and_then (grouped (suc a)) (both more m (Some none)))
 modified_ok h no_pattern = no_pattern
 modified_ok h (a_pattern p) = a_pattern (p_modifier h p)
 
-pack_ok : {m : Maybe Tree} → PatternOk m → PatternOk (bindM (both more m (just none)) (over 45))
+pack_ok : {m : Option Tree} → PatternOk m → PatternOk (option_and_then (over 45) (both more m (Some none)))
 pack_ok no_pattern = no_pattern
 pack_ok (a_pattern p) = a_pattern (p_pack p)
 
-tuple_ok : {m : Maybe Tree} {n : Maybe Forest} → PatternOk m → PatternsOk n → PatternOk (bindM (both more (bindM (both more m n) (listed 0)) (just none)) (over 44))
+tuple_ok : {m : Option Tree} {n : Option Forest} → PatternOk m → PatternsOk n → PatternOk (option_and_then (over 44) (both more (option_and_then (listed 0) (both more m n)) (Some none)))
 tuple_ok no_pattern y = no_pattern
 tuple_ok (a_pattern p) no_patterns = no_pattern
 tuple_ok (a_pattern p) (some_patterns f) = a_pattern (p_tuple p f)
@@ -90,12 +90,12 @@ there (v_atom (v_modified a e)) = refl
 there (v_primary a i f) = refl
 
 -- a kind that is no pattern's
-pub none_sound : {t : Tree} → to_pattern t ≡ nothing → Converts t
+pub none_sound : {t : Tree} → to_pattern t ≡ None → Converts t
 none_sound e = record { as_is = subst PatternOk (sym e) no_pattern }
 
 pub unpack_sound : {t : Tree} → Valid prim t → Converts t → Converts (Node.unpack t)
 unfolding conv
-unpack_sound h x = record { as_is = subst (λ m. PatternOk (bindM (both more m (just none)) (over 45))) (sym (there h)) (pack_ok x.as_is) }
+unpack_sound h x = record { as_is = subst (λ m. PatternOk (option_and_then (over 45) (both more m (Some none)))) (sym (there h)) (pack_ok x.as_is) }
 
 pub tuple_sound : {t : Tree} {f : Forest} → Convert (more t f) → Converts (Node.tuple (more t f))
 unfolding conv

@@ -1,6 +1,6 @@
 -- Only errors that can be met wait or are on their way, never more of them than the queue takes and never fewer than waited before, and only numbers of stops stop: a lemma
 -- for each nonterminal, and `depth_numbers`, `stmt_numbers`, `failed_nums`. 24 and 28 cannot (Laws/NeverMet.antt); 32 can where the list of parameters has it (`list`). Assumes nothing.
-use Rattle.std.specs.Prelude.{◌≡◌, refl, Bool, eqb, length}
+use Rattle.std.specs.Prelude.{◌≡◌, refl, Bool, eqb, length, Option, Some, None}
 use Rattle.std.proofs.Math.Bool.{true, false}
 use mathlib.Core.List.{List, [], ◌∷◌}
 use Prim.Native.Nat.{ℕ, zero, suc}
@@ -11,7 +11,6 @@ use Rattle.std.proofs.Common.{Result, Ok, Err}
 use Rattle.token.specs.declared.Unread.{Unread}
 use Rattle.token.specs.declared.Unread.TheVariants.{LexerError, Nothing, Bad}
 use Rattle.tree.specs.Tree.{Tree, Forest, empty}
-use Rattle.tree.specs.Maybe.{Maybe, nothing, just}
 use Rattle.grammar.specs.Reading.Limit.{malformed, too_deep}
 use Rattle.grammar.specs.Reading.Result.{Error, Res, ok, bad, fail, stop, either, then, ifb, push, pop}
 use Rattle.grammar.specs.Reading.Look.{looked, look, expect, expect_pattern, try_label, try_assign_keyword}
@@ -56,10 +55,10 @@ module _ {J : Error → Type 0} (others : (e : Error) → ErrorBut three_never e
   unfolding expect
   expect_nums k e j = search (nums, look_nums)
 
-  pattern_nums : (e : Error) (m : Maybe Tree) → J e → Numbered J (expect_pattern e m)
+  pattern_nums : (e : Error) (m : Option Tree) → J e → Numbered J (expect_pattern e m)
   unfolding expect_pattern
-  pattern_nums e nothing j m q ts w = n_fail j w
-  pattern_nums e (just p) j m q ts w = n_ok
+  pattern_nums e None j m q ts w = n_fail j w
+  pattern_nums e (Some p) j m q ts w = n_ok
 
   try_label_nums : Numbered J try_label
   unfolding try_label

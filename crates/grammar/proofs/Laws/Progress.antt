@@ -1,6 +1,6 @@
 -- What a reading leaves. Whatever holds behind the first token, and goes on holding as tokens are taken, holds of the words that are left after a success
 -- and after a failure: a lemma for each nonterminal, `depth_keeps` and `next_keeps`. Assumes nothing.
-use Rattle.std.specs.Prelude.{Bool}
+use Rattle.std.specs.Prelude.{Bool, Option, Some, None}
 use mathlib.Core.List.{List, [], ◌∷◌}
 use Prim.Native.Nat.{ℕ, zero, suc}
 use Rattle.token.specs.declared.Token.{Token}
@@ -8,7 +8,6 @@ use Rattle.std.proofs.Common.{Result, Ok, Err}
 use Rattle.token.specs.declared.Unread.{Unread}
 use Rattle.token.specs.declared.Unread.TheVariants.{LexerError, Nothing, Bad}
 use Rattle.tree.specs.Tree.{Tree, Forest}
-use Rattle.tree.specs.Maybe.{Maybe, nothing, just}
 use Rattle.grammar.specs.Reading.Result.{Error, Res}
 use Rattle.grammar.specs.Reading.Look.{looked, look, expect, expect_pattern, try_label, try_assign_keyword}
 use Rattle.grammar.specs.Reading.Expr.{Depth, operators, binop_expr, members, tuple_expr, expr}
@@ -39,10 +38,10 @@ module _ (I : List ℕ → Type 0) (step : Kept I) where
   unfolding expect
   expect_keeps k e = search (keeps, look_keeps)
 
-  pattern_keeps : (e : Error) (m : Maybe Tree) → Behind I (expect_pattern e m)
+  pattern_keeps : (e : Error) (m : Option Tree) → Behind I (expect_pattern e m)
   unfolding expect_pattern
-  pattern_keeps e nothing q ts i = k_fail i
-  pattern_keeps e (just p) q ts i = k_ok i
+  pattern_keeps e None q ts i = k_fail i
+  pattern_keeps e (Some p) q ts i = k_ok i
 
   try_label_keeps : Behind I try_label
   unfolding try_label

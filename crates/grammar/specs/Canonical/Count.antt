@@ -2,7 +2,7 @@
 use Rattle.std.specs.Prelude.{Bool, cond, not, ◌&&◌, ◌||◌, List, [], ◌∷◌, ℕ, zero, suc, pred, ◌+◌, ◌%◌, min, eqb, length}
 use Rattle.tree.specs.NodeKind
 use Rattle.tree.specs.Tree.{Tree, Forest, node, none, more, head_kind}
-use Rattle.tree.specs.Maybe.{pick}
+use Rattle.tree.specs.Choice.{pick}
 use Rattle.grammar.specs.Canonical.Write.{Place, own, modified, targeted, commas, members, suite, branches, row, tail_of, head_empty, has_function, fun_gives, group_place}
 
 -- the number of tokens that a node writes at each place

@@ -3,7 +3,7 @@
 use Rattle.std.specs.Prelude.{Bool, cond, ◌&&◌, ◌||◌, List, [], ◌∷◌, ℕ, suc, max, eqb}
 use Rattle.tree.specs.NodeKind
 use Rattle.tree.specs.Tree.{Tree, Forest, node, none, more, head_kind}
-use Rattle.tree.specs.Maybe.{pick}
+use Rattle.tree.specs.Choice.{pick}
 use Rattle.grammar.specs.Canonical.Write.{Place, own, target_atom, fun_gives, has_function, group_place}
 
 -- what a node needs at each place

@@ -7,7 +7,7 @@ use Rattle.operator.specs.Operator.{op_token, assign_token, unary_token}
 use Rattle.tree.specs.NodeKind
 use Rattle.tree.specs.Node
 use Rattle.tree.specs.Tree.{Tree, Forest, node, none, more, kind_of, head_kind, empty}
-use Rattle.tree.specs.Maybe.{pick}
+use Rattle.tree.specs.Choice.{pick}
 use Rattle.grammar.specs.Reading.Function.{target_name}
 
 -- where a node stands. own: by itself. modified: under a group's modifier, which is an assignment's action. targeted: a function behind its target.

@@ -1,8 +1,7 @@
 -- What a clean reading is, and the writer's call as a whole: of a statement's records and an output of m words, the answer and every word of the output.
 -- Definitions; they assume nothing.
-use Rattle.std.specs.Prelude.{Bool, true, false, cond, ◌&&◌, List, [], ◌∷◌, ◌++◌, ℕ, zero, suc, ◌-◌, ◌/◌, ◌%◌, eqb, ltb, length, replicate}
+use Rattle.std.specs.Prelude.{Bool, true, false, cond, ◌&&◌, List, [], ◌∷◌, ◌++◌, ℕ, zero, suc, ◌-◌, ◌/◌, ◌%◌, eqb, ltb, length, replicate, Option, Some, None, option_and_then}
 use Rattle.tree.specs.Tree.{Tree, Forest, none, more, one, records}
-use Rattle.tree.specs.Maybe.{Maybe, nothing, just, bindM}
 use Rattle.tree.specs.Decode.{decode}
 use Rattle.grammar.specs.Reading.Limit.{depth_limit, too_deep, no_statement, short_output}
 use Rattle.grammar.specs.Reading.Number
@@ -14,20 +13,20 @@ use Rattle.grammar.specs.declared.Written.{Written}
 use Rattle.grammar.specs.declared.Written.TheVariants.{Tokens, Stopped, Refused}
 
 -- one statement of a clean reading, and those behind it
-abbrev pub clean_then : Res Tree → (List ℕ → Maybe Forest) → Maybe Forest
-clean_then (ok t r) others = bindM (others r) λ f. just (more t f)
-clean_then (bad t q r) others = nothing
-clean_then (fail e q r) others = cond (eqb e Number.end) (just none) nothing
-clean_then (stop k) others = nothing
+abbrev pub clean_then : Res Tree → (List ℕ → Option Forest) → Option Forest
+clean_then (ok t r) others = option_and_then (λ f. Some (more t f)) (others r)
+clean_then (bad t q r) others = None
+clean_then (fail e q r) others = cond (eqb e Number.end) (Some none) None
+clean_then (stop k) others = None
 
 -- the statements of a reading to its end at the depth d, where it meets no error, no stop and no bad record; n bounds their number
-unfoldable pub clean_from : ℕ → ℕ → List ℕ → Maybe Forest
-clean_from d zero ts = nothing
+unfoldable pub clean_from : ℕ → ℕ → List ℕ → Option Forest
+clean_from d zero ts = None
 clean_from d (suc n) ts = clean_then (next d [] ts) λ r. clean_from d n r
 
 -- the same of a sheet: an even number of words
-unfoldable pub clean_reading : ℕ → List ℕ → Maybe Forest
-clean_reading d ts = ifb (eqb (length ts % 2) 0) (λ _. clean_from d (suc (length ts)) ts) (λ _. nothing)
+unfoldable pub clean_reading : ℕ → List ℕ → Option Forest
+clean_reading d ts = ifb (eqb (length ts % 2) 0) (λ _. clean_from d (suc (length ts)) ts) (λ _. None)
 
 -- a statement's tokens
 abbrev pub statement_words : Tree → List ℕ
@@ -40,11 +39,11 @@ same_words (v ∷ vs) [] = false
 same_words (v ∷ vs) (w ∷ ws) = eqb v w && same_words vs ws
 
 -- a clean reading gave this statement and nothing else
-abbrev pub gives : Tree → Maybe Forest → Bool
-gives t nothing = false
-gives t (just none) = false
-gives t (just (more u none)) = same_words (records t) (records u)
-gives t (just (more u (more v f))) = false
+abbrev pub gives : Tree → Option Forest → Bool
+gives t None = false
+gives t (Some none) = false
+gives t (Some (more u none)) = same_words (records t) (records u)
+gives t (Some (more u (more v f))) = false
 
 -- a clean reading, limits aside, gives this tree: that of its own canonical run does, at the depth that it needs
 unfoldable pub readable : Tree → Bool
@@ -75,9 +74,9 @@ pub record Wrote : Type 0 where
 abbrev pub bare : ℕ → Written → Wrote
 bare m a = record { answer = a; output = replicate m 0 }
 
-abbrev pub written : Maybe Tree → ℕ → Wrote
-written nothing m = bare m (Refused no_statement)
-written (just t) m =
+abbrev pub written : Option Tree → ℕ → Wrote
+written None m = bare m (Refused no_statement)
+written (Some t) m =
     ifb (readable t)
     (λ _. ifb (exceeds_depth t) (λ _. bare m (Stopped too_deep)) λ _.
     ifb (ltb m (length (statement_words t))) (λ _. bare m (Refused short_output)) λ _.

@@ -1,6 +1,5 @@
 -- The calls on a sheet as an editor keeps them, and what is left of them where the sheet is edited. Definitions; they assume nothing.
-use Rattle.std.specs.Prelude.{◌≡◌, Bool, true, false, List, [], ◌∷◌, ◌++◌, ℕ, ◌*◌, ◌/◌, ◌%◌, ◌≤◌, leb, length}
-use Rattle.tree.specs.Maybe.{Maybe, nothing, just}
+use Rattle.std.specs.Prelude.{◌≡◌, Bool, true, false, List, [], ◌∷◌, ◌++◌, ℕ, ◌*◌, ◌/◌, ◌%◌, ◌≤◌, leb, length, Option, Some, None}
 use Rattle.grammar.specs.Reading.Limit.{length_limit, store_share}
 use Rattle.grammar.specs.Reading.Result.{ifb}
 use Rattle.grammar.specs.Reading.Next.{Called, next_stmt}
@@ -37,9 +36,9 @@ stay a [] = []
 stay a (k ∷ ks) = ifb (leb k.looked a) (λ _. k ∷ stay a ks) (λ _. [])
 
 -- the position that this one started at, if there is one
-unfoldable pub restart : ℕ → List KeptCall → Maybe ℕ
-restart a [] = nothing
-restart a (k ∷ ks) = ifb (leb k.looked a) (λ _. restart a ks) (λ _. just k.start)
+unfoldable pub restart : ℕ → List KeptCall → Option ℕ
+restart a [] = None
+restart a (k ∷ ks) = ifb (leb k.looked a) (λ _. restart a ks) (λ _. Some k.start)
 
 -- the edited sheet: the old one's first a tokens h, and then the words X. It is of whole tokens and within the length limit, and a store of m words is long enough for it
 pub record Changed (a : ℕ) (h X : List ℕ) (m : ℕ) : Type 0 where

@@ -1,5 +1,5 @@
 -- Looking at a token, which is a reading too: `advance` goes on with the words behind it, `peek` with the old ones. Definitions; they assume nothing.
-use Rattle.std.specs.Prelude.{cond, List, [], ◌∷◌, ℕ, zero, suc, eqb, Result, Ok, Err}
+use Rattle.std.specs.Prelude.{cond, List, [], ◌∷◌, ℕ, zero, suc, eqb, Result, Ok, Err, Option, Some, None}
 use Rattle.token.specs.Kind
 use Rattle.token.specs.Look.{seen_word}
 use Rattle.token.specs.declared.Token.{Token}
@@ -7,7 +7,6 @@ use Rattle.token.specs.declared.Unread.{Unread}
 use Rattle.token.specs.declared.Unread.TheVariants.{LexerError, Nothing, Bad}
 use Rattle.tree.specs.Tree.{Tree}
 use Rattle.tree.specs.Node
-use Rattle.tree.specs.Maybe.{Maybe, nothing, just}
 use Rattle.grammar.specs.Reading.Limit.{malformed}
 use Rattle.grammar.specs.Reading.Number
 use Rattle.grammar.specs.Reading.Result.{Error, Res, ok, fail, stop, then, ifb}
@@ -32,9 +31,9 @@ expect k e q ts =
     ifb (eqb tok.kind k) (λ _. ok tok rest) (λ _. fail e q rest)
 
 -- what an expression is as a pattern; else the error e
-unfoldable pub expect_pattern : Error → Maybe Tree → List Error → List ℕ → Res Tree
-expect_pattern e nothing q ts = fail e q ts
-expect_pattern e (just p) q ts = ok p ts
+unfoldable pub expect_pattern : Error → Option Tree → List Error → List ℕ → Res Tree
+expect_pattern e None q ts = fail e q ts
+expect_pattern e (Some p) q ts = ok p ts
 
 -- `try_parse_label`: 0, or 1 + the label's name
 unfoldable pub try_label : List Error → List ℕ → Res ℕ

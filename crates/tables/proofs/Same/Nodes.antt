@@ -1,11 +1,10 @@
 -- Nodes that stand by themselves, of which the tables and grammar say the same once they say the same of the children at their places:
 -- statements, parts of blocks, functions and tables, access items, patterns. Assumes nothing.
-use Rattle.std.specs.Prelude.{◌≡◌, refl, false, not, ℕ, eqb}
+use Rattle.std.specs.Prelude.{◌≡◌, refl, false, not, ℕ, eqb, Some}
 use Rattle.std.proofs.Math.Bool.{and-true, and-false}
 use Rattle.std.proofs.Common.{arith}
 use Rattle.tree.specs.NodeKind
 use Rattle.tree.specs.Tree.{Tree, Forest, node, none, more, one, two, three, kind_of}
-use Rattle.tree.specs.Maybe.{just}
 use Rattle.tree.specs.Node
 use Rattle.grammar.specs.Canonical.Write.{own, commas, members, suite, head_empty}
 use Rattle.grammar.proofs.Laws.Facts.{by_test}
@@ -61,7 +60,7 @@ unfolding tables
 stmt_list_same h g = record { words = λ r. rw (h.words, g.words); depth = omega arith }
 
 -- a node whose last child may be absent
-pub kind_is : (t : Tree) → kind_in (just t) ≡ kind_of t
+pub kind_is : (t : Tree) → kind_in (Some t) ≡ kind_of t
 kind_is (node k v f) = refl
 
 pub expr_block_same : {b e : Tree} → Same own b → Same own e → Same own (Node.expr_block b e)
@@ -120,7 +119,7 @@ pub required_signature : {l : Tree} (n : ℕ) → Same commas l → Same own (no
 unfolding tables signature_mode
 required_signature {l} n h = record { words = λ r. rw (and-false (not (head_empty (three l (Node.list none) Node.absent))), h.words); depth = omega arith }
 
-pub default_signature : {l d : Tree} (n : ℕ) → Leads l → count_in (just d) ≡ 1 → head_empty (one d) ≡ false → Same commas d → Same own (node NodeKind.SignatureDef n (three l d Node.absent))
+pub default_signature : {l d : Tree} (n : ℕ) → Leads l → count_in (Some d) ≡ 1 → head_empty (one d) ≡ false → Same commas d → Same own (node NodeKind.SignatureDef n (three l d Node.absent))
 unfolding tables signature_mode
 default_signature {l} {d} n h c e g = record { words = λ r. rw (c, head_alike d (one Node.absent), e, and-true (not (head_empty (three l d Node.absent))), head_alike l (two d Node.absent), h.words, g.words); depth = rw c (omega arith) }
 

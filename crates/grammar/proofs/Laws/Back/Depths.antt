@@ -1,11 +1,10 @@
 -- The canonical tokens of every valid tree read back to it at a depth of its `need` or more, and at less stop with `too_deep`. Assumes nothing.
-use Rattle.std.specs.Prelude.{◌≡◌, Bool, true, false, List, [], ◌∷◌, ℕ, zero, suc, ◌%◌, ◌≤◌, ◌<◌, leb, ltb, length}
+use Rattle.std.specs.Prelude.{◌≡◌, Bool, true, false, List, [], ◌∷◌, ℕ, zero, suc, ◌%◌, ◌≤◌, ◌<◌, leb, ltb, length, Some}
 use Rattle.std.proofs.Math.Path.{refl}
 use Rattle.std.proofs.Common.{ap, ◌∙◌, sym, true≢false, le_refl, lt_of_not-le, arith, le-leb, leb-true}
 use Rattle.token.specs.Kind
 use Rattle.tree.specs.Tree.{Tree, Forest, none, more, count}
 use Rattle.tree.specs.Node
-use Rattle.tree.specs.Maybe.{just}
 use Rattle.grammar.specs.Reading.Result.{ok, then, either, ifb}
 use Rattle.grammar.specs.Reading.Look.{looked, look}
 use Rattle.grammar.specs.Reading.Stmt as Stmt
@@ -68,7 +67,7 @@ pub next_back : {t : Tree} → Valid stmt t → (d : ℕ) (q r : List ℕ) → n
 next_back h d q r = (next_reads h d q r here).is
 
 -- runs
-clean_leads : {f : Forest} {x : List ℕ} → Valids stmt f → (d n : ℕ) → most (needs f) ≤ d → count f < n → Leads (run f) x → clean_from d n x ≡ just f
+clean_leads : {f : Forest} {x : List ℕ} → Valids stmt f → (d n : ℕ) → most (needs f) ≤ d → count f < n → Leads (run f) x → clean_from d n x ≡ Some f
 unfolding clean_from run count need
 clean_leads h d zero l c g = absurd (omega arith)
 clean_leads v_none d (suc n) l c here = unfold next start look looked either then ifb in refl
@@ -77,7 +76,7 @@ clean_leads (v_more {t = t} {f = f} h hs) d (suc n) l c g =
     let e = most_more t f in
     rw (enough (next_reads h d [] (run f) g) (omega arith), clean_leads {f = f} hs d n (omega arith) (omega arith) behind)
 
-pub run_back : {f : Forest} → Valids stmt f → (d n : ℕ) → need (Node.list f) own ≤ d → count f < n → clean_from d n (run f) ≡ just f
+pub run_back : {f : Forest} → Valids stmt f → (d n : ℕ) → need (Node.list f) own ≤ d → count f < n → clean_from d n (run f) ≡ Some f
 unfolding need
 run_back h d n l c = clean_leads h d n l c here
 
@@ -90,7 +89,7 @@ run_length (more t f) =
     let w = tokens_length t own (Kind.Semicolon ∷ 0 ∷ run f) in
     (omega (arith, e.0), omega (arith, e.1))
 
-pub reading_back : {f : Forest} → Valids stmt f → (d : ℕ) → need (Node.list f) own ≤ d → clean_reading d (run f) ≡ just f
+pub reading_back : {f : Forest} → Valids stmt f → (d : ℕ) → need (Node.list f) own ≤ d → clean_reading d (run f) ≡ Some f
 unfolding clean_reading ifb
 reading_back {f} h d l = let e = run_length f in rw e.0 (run_back h d _ l (omega (arith, e.1)))
 

@@ -1,5 +1,5 @@
 -- The words of functions and their targets read back, over operands and statement lists that read back at the depth d. Assumes nothing.
-use Rattle.std.specs.Prelude.{◌≡◌, Bool, cond, eqb, length}
+use Rattle.std.specs.Prelude.{◌≡◌, Bool, cond, eqb, length, Some}
 use Rattle.std.proofs.Math.Path.{refl}
 use Rattle.std.proofs.Common.{ap, ◌∙◌, sym, le_refl, arith}
 use Rattle.std.proofs.Math.Bool.{true, false}
@@ -9,7 +9,6 @@ use Prim.Native.Nat.{ℕ, zero, suc, ◌≤◌, max}
 use Rattle.token.specs.Kind
 use Rattle.tree.specs.Tree.{Tree, Forest, none, more, one, snoc, kind_of}
 use Rattle.tree.specs.Node
-use Rattle.tree.specs.Maybe.{just}
 use Rattle.grammar.specs.Reading.Result.{ok, ifb}
 use Rattle.grammar.specs.Reading.Pattern.{pattern, conv, receiver, by_item}
 use Rattle.grammar.specs.Reading.Primary.{with_path}
@@ -243,7 +242,7 @@ module _ (d : ℕ) (R : Reads d) where
       weigh (inside (function_with n _ g q r (both x.2 (variadic_end i x.0 _ q s x.1)))) (omega (arith, params_need (v_more h hs)))
 
   -- a path of members and indexes from an atom, as a target
-  path_target : {a i : Tree} {f : Forest} → Valid Valid.atom a → Valids (item false) f → Valid (item false) i → (p : Tree) → by_item (receiver 0 a 0 f) i ≡ just p → (q s : List ℕ)
+  path_target : {a i : Tree} {f : Forest} → Valid Valid.atom a → Valids (item false) f → Valid (item false) i → (p : Tree) → by_item (receiver 0 a 0 f) i ≡ Some p → (q s : List ℕ)
       → Needs (max (need a own) (max (most (needs f)) (need i own))) (suc d) (function_assignment_target (at_depth d) q (write a own (as_row (writes f) (write i own (Kind.OpenParen ∷ 0 ∷ s))))) (ok p (Kind.OpenParen ∷ 0 ∷ s))
   unfolding function_assignment_target join conv
   path_target {a} {i} {f} h g j p e q s =

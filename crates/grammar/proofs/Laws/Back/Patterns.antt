@@ -1,5 +1,5 @@
 -- A pattern's words are those of an operand, which converts back to the pattern and needs the same depth. Assumes nothing.
-use Rattle.std.specs.Prelude.{◌≡◌, refl, Bool, true, false, List, ◌∷◌, ℕ, suc, ◌<◌, max, eqb}
+use Rattle.std.specs.Prelude.{◌≡◌, refl, Bool, true, false, List, ◌∷◌, ℕ, suc, ◌<◌, max, eqb, Some}
 use Rattle.std.proofs.Common.{ap, ◌∙◌, sym, true≢false, arith}
 use Rattle.std.proofs.Math.Path.{fun_ext}
 use Rattle.token.specs.Kind
@@ -7,7 +7,6 @@ use Rattle.operator.specs.Operator.{level_count}
 use Rattle.tree.specs.NodeKind
 use Rattle.tree.specs.Tree.{Tree, Forest, none, more, snoc, kind_of}
 use Rattle.tree.specs.Node
-use Rattle.tree.specs.Maybe.{just}
 use Rattle.grammar.specs.Reading.Pattern.{pattern, maybe, conv, all_conv, last_of, front_of, receiver, by_item, by_last}
 use Rattle.grammar.specs.Canonical.Write.{own, modified, keyword_of, as_row, write, writes}
 use Rattle.grammar.specs.Canonical.Need.{Depths, most, need, needs}
@@ -21,8 +20,8 @@ pub record AsExpr (p : Tree) : Type 0 where
   pub expr : Tree
   pub words : write expr ≡ write p
   pub depth : need expr ≡ need p
-  pub back : conv expr pattern ≡ just p
-  back_packed : conv expr maybe ≡ just p
+  pub back : conv expr pattern ≡ Some p
+  back_packed : conv expr maybe ≡ Some p
   pub valid : (b : Bool) → Valid (tight b) expr
   alone : eqb (kind_of p) NodeKind.Pack ≡ false → Valid prim expr
   other : eqb (kind_of expr) NodeKind.Assignment ≡ false
@@ -33,7 +32,7 @@ record AsExprs (f : Forest) : Type 0 where
   exprs : Forest
   words : writes exprs ≡ writes f
   depth : needs exprs ≡ needs f
-  back : all_conv exprs pattern ≡ just f
+  back : all_conv exprs pattern ≡ Some f
   valid : Valids (binop true level_count) exprs
 
 -- a path's last item taken off
@@ -58,7 +57,7 @@ primary_valid h v_none i = v_primary h i v_none
 primary_valid h (v_more g gs) i = v_primary h g (valids_snoc gs i)
 
 -- the pattern that a path is by its last item
-path_as : {a i p : Tree} {f : Forest} → Valid atom a → Valids (item true) f → Valid (item true) i → by_item (Node.primary a f) i ≡ just p
+path_as : {a i p : Tree} {f : Forest} → Valid atom a → Valids (item true) f → Valid (item true) i → by_item (Node.primary a f) i ≡ Some p
     → write p ≡ (λ l r. write a own (as_row (writes f) (write i own r))) → need p ≡ (λ l. max (need a own) (max (most (needs f)) (need i own))) → AsExpr p
 unfolding write need conv
 path_as {a} {i} {f = f} h g j e w n = record {

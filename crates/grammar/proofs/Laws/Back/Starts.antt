@@ -9,7 +9,7 @@ use Rattle.operator.specs.Below.{equal_below}
 use Rattle.tree.specs.NodeKind
 use Rattle.tree.specs.Tree.{Tree, node, two, kind_of}
 use Rattle.tree.specs.Node
-use Rattle.tree.specs.Maybe.{pick}
+use Rattle.tree.specs.Choice.{pick}
 use Rattle.grammar.specs.Reading.Result.{Error, Res, ok, then, ifb}
 use Rattle.grammar.specs.Reading.Look.{looked, look, try_assign_keyword}
 use Rattle.grammar.specs.Canonical.Write.{Place, own, modified, targeted, label, keyword, keyword_of, has_function, fun_gives, write}

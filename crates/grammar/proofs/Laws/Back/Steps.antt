@@ -1,12 +1,11 @@
 -- What a reading comes to at a depth, and the equations of one step of a reading, each with what goes on as its last argument. Assumes nothing.
-use Rattle.std.specs.Prelude.{◌≡◌, refl, Bool, true, false, cond, ◌&&◌, ◌||◌, List, ◌∷◌, ℕ, suc, ◌/◌, ◌%◌, ◌≤◌, ◌<◌, max, eqb, leb, ltb}
+use Rattle.std.specs.Prelude.{◌≡◌, refl, Bool, true, false, cond, ◌&&◌, ◌||◌, List, ◌∷◌, ℕ, suc, ◌/◌, ◌%◌, ◌≤◌, ◌<◌, max, eqb, leb, ltb, Option, Some}
 use Rattle.std.proofs.Common.{ap, ◌∙◌, le_refl, arith, ne_eqb, eq-eqb, le-leb, leb-true}
 use Rattle.std.proofs.Math.Dec.{leb-zero, leb-suc-suc}
 use Rattle.token.specs.Kind
 use Rattle.token.specs.Look.{value_fits}
 use Rattle.token.specs.declared.Token.{Token}
 use Rattle.tree.specs.Tree.{Tree}
-use Rattle.tree.specs.Maybe.{Maybe, just}
 use Rattle.grammar.specs.Reading.Limit.{too_deep}
 use Rattle.grammar.specs.Reading.Result.{Error, Res, ok, stop, either, then, ifb}
 use Rattle.grammar.specs.Reading.Look.{looked, look, expect, expect_pattern}
@@ -135,11 +134,11 @@ unfolding expect
 expects q s e go {k = k} h g = then_ok q go (enough (sees q s _ h (if_yes _ _ (eq-eqb k k refl) done)) (le_refl 0)) g
 
 -- an expression that is a pattern
-pub converted : (q ts : List ℕ) (e : Error) {m : Maybe Tree} {p : Tree} → m ≡ just p → expect_pattern e m q ts ≡ ok p ts
+pub converted : (q ts : List ℕ) (e : Error) {m : Option Tree} {p : Tree} → m ≡ Some p → expect_pattern e m q ts ≡ ok p ts
 unfolding expect_pattern
 converted q ts e h = rw h
 
-pub converts : {A : Type 0} (q ts : List ℕ) (e : Error) (go : Tree → List Error → List ℕ → Res A) {m : Maybe Tree} {p : Tree} {n d : ℕ} {y : Res A} → m ≡ just p → Needs n d (go p q ts) y → Needs n d (then q (expect_pattern e m q ts) go) y
+pub converts : {A : Type 0} (q ts : List ℕ) (e : Error) (go : Tree → List Error → List ℕ → Res A) {m : Option Tree} {p : Tree} {n d : ℕ} {y : Res A} → m ≡ Some p → Needs n d (go p q ts) y → Needs n d (then q (expect_pattern e m q ts) go) y
 converts q ts e go h g = then_ok q go (converted q ts e h) g
 
 -- what a step is given, in another form

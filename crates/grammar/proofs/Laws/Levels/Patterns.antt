@@ -1,8 +1,8 @@
 -- What a leveled expression converts to is leveled. Assumes nothing.
-use Rattle.std.specs.Prelude.{◌≡◌, Bool, true, false, List, ℕ, zero, suc, eqb, ltb}
+use Rattle.std.specs.Prelude.{◌≡◌, Bool, true, false, List, ℕ, zero, suc, eqb, ltb, Option, Some, None, option_and_then}
 use Rattle.tree.specs.NodeKind
 use Rattle.tree.specs.Tree.{Tree, Forest, node, none, more}
-use Rattle.tree.specs.Maybe.{Maybe, nothing, just, bindM, both, pick}
+use Rattle.tree.specs.Choice.{both, pick}
 use Rattle.grammar.specs.Reading.Result.{Error}
 use Rattle.grammar.specs.Reading.Look.{expect_pattern}
 use Rattle.grammar.specs.Reading.Pattern.{Role, pattern, members, maybe, conv, all_conv, made, as_pattern, to_pattern, modified, grouped, over, listed, leaf, access, by_last, by_item, by_attribute, by_index, last_of, front_of}
@@ -12,20 +12,20 @@ use Rattle.grammar.proofs.Laws.Levels.Leveled.{Leveled, AllLeveled, leveling, p_
 use Rattle.grammar.proofs.Laws.Levels.Always.{Always}
 
 -- P holds of what an expression converts to, if it converts
-data Holds? {A : Type 0} (P : A → Type 0) : Maybe A → Type 0 where
-  none_held : Holds? P nothing
-  held : {a : A} → P a → Holds? P (just a)
+data Holds? {A : Type 0} (P : A → Type 0) : Option A → Type 0 where
+  none_held : Holds? P None
+  held : {a : A} → P a → Holds? P (Some a)
 
-both_held : {t : Maybe Tree} {f : Maybe Forest} → Holds? Leveled t → Holds? AllLeveled f → Holds? AllLeveled (both more t f)
+both_held : {t : Option Tree} {f : Option Forest} → Holds? Leveled t → Holds? AllLeveled f → Holds? AllLeveled (both more t f)
 both_held none_held g = none_held
 both_held (held h) none_held = none_held
 both_held (held h) (held g) = held (p_more h g)
 
-bind_held : {m : Maybe Forest} {k : Forest → Maybe Tree} → Holds? AllLeveled m → ((f : Forest) → AllLeveled f → Holds? Leveled (k f)) → Holds? Leveled (bindM m k)
+bind_held : {m : Option Forest} {k : Forest → Option Tree} → Holds? AllLeveled m → ((f : Forest) → AllLeveled f → Holds? Leveled (k f)) → Holds? Leveled (option_and_then k m)
 bind_held none_held f = none_held
 bind_held (held h) f = f _ h
 
-pick_held : (b : Bool) {x y : Unit {0} → Maybe Tree} → ((u : Unit {0}) → Holds? Leveled (x u)) → ((u : Unit {0}) → Holds? Leveled (y u)) → Holds? Leveled (pick b x y)
+pick_held : (b : Bool) {x y : Unit {0} → Option Tree} → ((u : Unit {0}) → Holds? Leveled (x u)) → ((u : Unit {0}) → Holds? Leveled (y u)) → Holds? Leveled (pick b x y)
 pick_held true h g = h tt
 pick_held false h g = g tt
 
@@ -93,10 +93,10 @@ access_leveled v (more a (more l (more t f))) g = none_held
 
 -- a node, given what its children are
 
-pattern_node_leveled : (k v : ℕ) (f : Forest) (kids : Role → Maybe Forest) → AllLeveled f → ((o : Role) → Holds? AllLeveled (kids o)) → Holds? Leveled (as_pattern k v f kids)
+pattern_node_leveled : (k v : ℕ) (f : Forest) (kids : Role → Option Forest) → AllLeveled f → ((o : Role) → Holds? AllLeveled (kids o)) → Holds? Leveled (as_pattern k v f kids)
 pattern_node_leveled k v f kids g h = search (none_held, pick_held, bind_held, h, leaf_leveled, grouped_leveled, over_leveled, access_leveled) depth 9
 
-made_leveled : (o : Role) (k v : ℕ) (f : Forest) (kids : Role → Maybe Forest) → AllLeveled f → ((o : Role) → Holds? AllLeveled (kids o)) → Holds? Leveled (made o k v f kids)
+made_leveled : (o : Role) (k v : ℕ) (f : Forest) (kids : Role → Option Forest) → AllLeveled f → ((o : Role) → Holds? AllLeveled (kids o)) → Holds? Leveled (made o k v f kids)
 made_leveled pattern k v f kids g h = pattern_node_leveled k v f kids g h
 made_leveled members k v f kids g h = search (none_held, pick_held, bind_held, h, listed_leveled)
 made_leveled maybe k v f kids g h = search (pick_held, leaf_leveled, pattern_node_leveled k v f kids g h)
@@ -115,6 +115,6 @@ pub pattern_leveled : (e : Error) {t : Tree} → Leveled t → Always Leveled (e
 unfolding expect_pattern
 pattern_leveled e {t} h q ts = go (to_pattern t) (convert_leveled t pattern h)
   where
-    go : (m : Maybe Tree) → Holds? Leveled m → Holds Leveled (expect_pattern e m q ts)
-    go nothing none_held = k_failed
-    go (just p) (held x) = k_ok x
+    go : (m : Option Tree) → Holds? Leveled m → Holds Leveled (expect_pattern e m q ts)
+    go None none_held = k_failed
+    go (Some p) (held x) = k_ok x

@@ -1,8 +1,7 @@
 -- The calls on an edited sheet. Those that looked at no token from the edit on stay; the first other one started where nothing waited, not behind the edit, and the edited
 -- sheet is read again from there: `stays`. So the calls that stay and those that are read again are the calls of the edited sheet. Assumes nothing.
-use Rattle.std.specs.Prelude.{◌≡◌, refl, true, false, List, [], ◌∷◌, ◌++◌, ℕ, ◌≤◌, ◌<◌, leb, length, replicate}
+use Rattle.std.specs.Prelude.{◌≡◌, refl, true, false, List, [], ◌∷◌, ◌++◌, ℕ, ◌≤◌, ◌<◌, leb, length, replicate, Option, Some, None}
 use Rattle.std.proofs.Common.{ap, sym, ◌∙◌, subst, arith, leb-true, leb-false}
-use Rattle.tree.specs.Maybe.{Maybe, nothing, just}
 use Rattle.grammar.specs.Reading.Limit.{queue_limit}
 use Rattle.grammar.specs.Reading.Result.{ifb}
 use Rattle.grammar.specs.Reading.Next.{pad, reader_at, fresh, Accepted, Called, next_stmt}
@@ -55,13 +54,13 @@ next_placed {a} {T} {R} m P l g =
     }
 
 -- the calls on the edited sheet T that stay, and where it is read again
-pub data Stays (T : List ℕ) (m a : ℕ) : Reader → List KeptCall → Maybe ℕ → Type 0 where
-  again : {R : Reader} → OnlyPosition R → R.position ≤ a → Stays T m a R [] (just R.position)
-  all_stay : {R : Reader} → goes_on (next_stmt R T m).step.answer ≡ false → Stays T m a R (keep T m R ∷ []) nothing
-  one_stays : {R : Reader} {ks : List KeptCall} {p : Maybe ℕ} → goes_on (next_stmt R T m).step.answer ≡ true → Stays T m a (next_stmt R T m).step.reader ks p → Stays T m a R (keep T m R ∷ ks) p
+pub data Stays (T : List ℕ) (m a : ℕ) : Reader → List KeptCall → Option ℕ → Type 0 where
+  again : {R : Reader} → OnlyPosition R → R.position ≤ a → Stays T m a R [] (Some R.position)
+  all_stay : {R : Reader} → goes_on (next_stmt R T m).step.answer ≡ false → Stays T m a R (keep T m R ∷ []) None
+  one_stays : {R : Reader} {ks : List KeptCall} {p : Option ℕ} → goes_on (next_stmt R T m).step.answer ≡ true → Stays T m a (next_stmt R T m).step.reader ks p → Stays T m a R (keep T m R ∷ ks) p
 
 module _ {a m : ℕ} {h X : List ℕ} (Z : List ℕ) (c : Changed a h X m) where
-  restarts : {R : Reader} → Placed a (h ++ Z) R → leb (call_looks R (h ++ Z) m) a ≡ false → Stays (h ++ X) m a R [] (just R.position)
+  restarts : {R : Reader} → Placed a (h ++ Z) R → leb (call_looks R (h ++ Z) m) a ≡ false → Stays (h ++ X) m a R [] (Some R.position)
   restarts P t = again (looking_only m P (omega (arith, leb-false))) P.before
 
   same_call : {R : Reader} → Placed a (h ++ Z) R → leb (call_looks R (h ++ Z) m) a ≡ true → (next_stmt R (h ++ Z) m ≡ next_stmt R (h ++ X) m) × (keep (h ++ Z) m R ≡ keep (h ++ X) m R)
@@ -84,19 +83,19 @@ module _ {a m : ℕ} {h X : List ℕ} (Z : List ℕ) (c : Changed a h X m) where
 -- what follows for the calls on the edited sheet
 
 module _ {T : List ℕ} {m a : ℕ} where
-  pub read_again : {R : Reader} {ks fs : List KeptCall} {p : ℕ} → Stays T m a R ks (just p) → Calls T m (reader_at p []) fs → Calls T m R (ks ++ fs)
+  pub read_again : {R : Reader} {ks fs : List KeptCall} {p : ℕ} → Stays T m a R ks (Some p) → Calls T m (reader_at p []) fs → Calls T m R (ks ++ fs)
   read_again {fs = fs} (again e l) r = subst (λ R. Calls T m R fs) (sym e) r
   read_again (one_stays g s) r = then_call g (read_again s r)
 
-  pub none_again : {R : Reader} {ks : List KeptCall} → Stays T m a R ks nothing → Calls T m R ks
+  pub none_again : {R : Reader} {ks : List KeptCall} → Stays T m a R ks None → Calls T m R ks
   none_again (all_stay g) = last_call g
   none_again (one_stays g s) = then_call g (none_again s)
 
-  pub again_before : {R : Reader} {ks : List KeptCall} {p : ℕ} → Stays T m a R ks (just p) → p ≤ a
+  pub again_before : {R : Reader} {ks : List KeptCall} {p : ℕ} → Stays T m a R ks (Some p) → p ≤ a
   again_before (again e l) = l
   again_before (one_stays g s) = again_before s
 
-  pub begins_with : {R : Reader} {ks js : List KeptCall} {p : Maybe ℕ} → Stays T m a R ks p → Calls T m R js → (fs : List KeptCall) × (js ≡ ks ++ fs)
+  pub begins_with : {R : Reader} {ks js : List KeptCall} {p : Option ℕ} → Stays T m a R ks p → Calls T m R js → (fs : List KeptCall) × (js ≡ ks ++ fs)
   begins_with {js = js} (again e l) r = (js, refl)
   begins_with (all_stay g) (last_call k) = ([], refl)
   begins_with (all_stay g) (then_call k r) = clash k g
@@ -104,10 +103,10 @@ module _ {T : List ℕ} {m a : ℕ} where
   begins_with {R = R} (one_stays g s) (then_call k r) = let (fs, e) = begins_with s r in (fs, ap (λ ks. keep T m R ∷ ks) e)
 
 -- where none looked at the edit or past it, all stay
-pub stay_all : (a : ℕ) (ks : List KeptCall) → restart a ks ≡ nothing → stay a ks ≡ ks
+pub stay_all : (a : ℕ) (ks : List KeptCall) → restart a ks ≡ None → stay a ks ≡ ks
 unfolding stay restart ifb
 stay_all a [] n = refl
 stay_all a (k ∷ ks) n =
     by_test (leb k.looked a)
     (λ t. rw t (ap (λ ks. k ∷ ks) (stay_all a ks (rw t at n))))
-    (λ t. let x : just k.start ≡ nothing = rw t at n in absurd (let z : ◌≡◌ {A = ℕ} 0 1 = cc in omega arith))
+    (λ t. let x : Some k.start ≡ None = rw t at n in absurd (let z : ◌≡◌ {A = ℕ} 0 1 = cc in omega arith))

@@ -1,11 +1,10 @@
 -- Every nonterminal is local, up to `next`: a lemma for each, and `depth_local`, `next_local`. A loop is local at equal counts by induction, and any count that is large
 -- enough gives the same (Laws/Count.antt); so the lemmas over loops are over a depth's readings and not over any. Assumes nothing.
-use Rattle.std.specs.Prelude.{Bool, List, length}
+use Rattle.std.specs.Prelude.{Bool, List, length, Option, Some, None}
 use Rattle.std.proofs.Math.Bool.{true, false}
 use Prim.Native.Nat.{ℕ, zero, suc}
 use Rattle.token.specs.declared.Token.{Token}
 use Rattle.tree.specs.Tree.{Tree, Forest}
-use Rattle.tree.specs.Maybe.{Maybe, nothing, just}
 use Rattle.grammar.specs.Reading.Result.{Error, Res, ok, fail, then, ifb}
 use Rattle.grammar.specs.Reading.Look.{expect, expect_pattern, try_label, try_assign_keyword}
 use Rattle.grammar.specs.Reading.Expr.{Depth, operators, binop_expr, members, tuple_expr, expr}
@@ -24,10 +23,10 @@ module _ (b : BadRecord) (X : List ℕ) where
   unfolding expect
   expect_local k e = search local
 
-  pattern_local : (e : Error) (m : Maybe Tree) → Locally b X (expect_pattern e m)
+  pattern_local : (e : Error) (m : Option Tree) → Locally b X (expect_pattern e m)
   unfolding expect_pattern
-  pattern_local e nothing f q ts us t = at_fail t
-  pattern_local e (just p) f q ts us t = at_ok t
+  pattern_local e None f q ts us t = at_fail t
+  pattern_local e (Some p) f q ts us t = at_ok t
 
   try_label_local : Locally b X try_label
   unfolding try_label

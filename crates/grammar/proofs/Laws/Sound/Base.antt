@@ -1,5 +1,5 @@
 -- What is shown of a clean reading's success: the tokens that were taken, and in which roles a tree is valid, by what stands before and behind it. Assumes nothing.
-use Rattle.std.specs.Prelude.{◌≡◌, refl, Bool, true, false, cond, ◌&&◌, List, ℕ, zero, suc, pred, ◌+◌, ◌*◌, ◌<◌, eqb}
+use Rattle.std.specs.Prelude.{◌≡◌, refl, Bool, true, false, cond, ◌&&◌, List, ℕ, zero, suc, pred, ◌+◌, ◌*◌, ◌<◌, eqb, Option, Some, None}
 use Rattle.std.proofs.Common.{sym, subst, arith, eqb-true}
 use Rattle.token.specs.Kind
 use Rattle.token.specs.Look.{value_fits}
@@ -8,7 +8,6 @@ use Rattle.operator.specs.Operator.{assign_code, level_count}
 use Rattle.tree.specs.NodeKind
 use Rattle.tree.specs.Tree.{Tree, Forest, node, more, one, two, snoc}
 use Rattle.tree.specs.Node
-use Rattle.tree.specs.Maybe.{Maybe, nothing, just}
 use Rattle.grammar.specs.Reading.Result.{Error, Res}
 use Rattle.grammar.specs.Reading.Look.{expect, expect_pattern, keyword, try_assign_keyword, action}
 use Rattle.grammar.specs.Reading.Pattern.{conv, to_pattern}
@@ -152,9 +151,9 @@ pub pattern_sound : (e : Error) (q : List Error) (ts : List ℕ) {t : Tree} → 
 unfolding expect_pattern
 pattern_sound e q ts {t} x = go (to_pattern t) x.as_is
   where
-    go : (m : Maybe Tree) → PatternOk m → Post (λ p r. Pattern p × (r ≡ ts)) (expect_pattern e m q ts)
-    go nothing no_pattern = p_fail
-    go (just p) (a_pattern h) = p_ok (h, refl)
+    go : (m : Option Tree) → PatternOk m → Post (λ p r. Pattern p × (r ≡ ts)) (expect_pattern e m q ts)
+    go None no_pattern = p_fail
+    go (Some p) (a_pattern h) = p_ok (h, refl)
 
 -- an assignment: `fun` gives it, or its own form
 data AssignOk (c : Bool) (a : ℕ) (t : Tree) : Type 0 where

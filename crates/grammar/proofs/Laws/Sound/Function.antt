@@ -1,12 +1,11 @@
 -- Functions that are read cleanly are valid: their target, their parameters, their body. Assumes nothing.
-use Rattle.std.specs.Prelude.{◌≡◌, refl, Bool, List, eqb, length}
+use Rattle.std.specs.Prelude.{◌≡◌, refl, Bool, List, eqb, length, Option, Some, None}
 use Rattle.std.proofs.Math.Bool.{true, false}
 use Prim.Native.Nat.{ℕ, zero, suc}
 use Rattle.token.specs.Kind
 use Rattle.token.specs.declared.Token.{Token}
 use Rattle.tree.specs.Tree.{Tree, Forest, none, one, snoc, kind_of}
 use Rattle.tree.specs.Node
-use Rattle.tree.specs.Maybe.{Maybe, nothing, just}
 use Rattle.grammar.specs.Reading.Number
 use Rattle.grammar.specs.Reading.Result.{Error}
 use Rattle.grammar.specs.Reading.Look.{expect_pattern}
@@ -72,18 +71,18 @@ variadic_sound : {v : ℕ} (q : List Error) (ts : List ℕ) → IsNamed v → Po
 unfolding variadic_param
 variadic_sound q ts h = post_then q (look_saw q ts) λ tok q₁ rest s. post_if (λ _ _. p_fail) (λ _ _. p_ok (is_variadic h))
 
-data TargetOk : Maybe Tree → Type 0 where
-  no_target : TargetOk nothing
-  a_target : {p : Tree} → Target p → TargetOk (just p)
+data TargetOk : Option Tree → Type 0 where
+  no_target : TargetOk None
+  a_target : {p : Tree} → Target p → TargetOk (Some p)
 
 item_target : {a i : Tree} {f : Forest} → Valid atom a → target_atom (kind_of a) ≡ true → Valids (item false) f → Valid (item false) i → TargetOk (by_item (Node.primary a f) i)
 item_target h e f (v_attribute n) = a_target (t_attribute e h f n)
 item_target h e f (v_index x) = a_target (t_index e h f x)
 
-expect_target : (e : Error) (q : List Error) (ts : List ℕ) (m : Maybe Tree) → TargetOk m → Post (λ p r. Target p) (expect_pattern e m q ts)
+expect_target : (e : Error) (q : List Error) (ts : List ℕ) (m : Option Tree) → TargetOk m → Post (λ p r. Target p) (expect_pattern e m q ts)
 unfolding expect_pattern
-expect_target e q ts nothing no_target = p_fail
-expect_target e q ts (just p) (a_target h) = p_ok h
+expect_target e q ts None no_target = p_fail
+expect_target e q ts (Some p) (a_target h) = p_ok h
 
 literal_target : (tok : Token) (q : List Error) (rest : List ℕ) → Post (λ a r. target_atom (kind_of a) ≡ true) (literal tok q rest)
 unfolding literal

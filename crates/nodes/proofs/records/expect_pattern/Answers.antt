@@ -5,8 +5,8 @@ use mathlib.Core.List.{List}
 use Prim.Native.Nat.{ℕ}
 use native.Mathlib.Omega.{arith}
 use lib.ListN.{drop}
+use Rattle.std.specs.Prelude.{Option}
 use Rattle.tree.specs.Tree.{Tree}
-use Rattle.tree.specs.Maybe.{Maybe}
 use Rattle.grammar.specs.Reading.Pattern.{to_pattern, can_be_pattern}
 use Rattle.grammar.specs.Reading.Result.{Error}
 use Rattle.grammar.specs.Reading.Look.{expect_pattern}
@@ -15,8 +15,8 @@ use Rattle.pattern.proofs.Decided.{can, cannot}
 use Rattle.nodes.proofs.records.expect_pattern.Goals as goal
 
 -- the reading that the definition goes on with
-same : {m : Maybe Tree} (e : ℕ) (t : Tree) → to_pattern t ≡ m → (q : List Error) (x : List ℕ) → expect_pattern e (to_pattern t) q x ≡ expect_pattern e m q x
-same e t k q x = ap (λ (m : Maybe Tree). expect_pattern e m q x) k
+same : {m : Option Tree} (e : ℕ) (t : Tree) → to_pattern t ≡ m → (q : List Error) (x : List ℕ) → expect_pattern e (to_pattern t) q x ≡ expect_pattern e m q x
+same e t k q x = ap (λ (m : Option Tree). expect_pattern e m q x) k
 
 pub returns-then-not-can_be_pattern : goal.returns-then-not-can_be_pattern
 unfolding expect_pattern

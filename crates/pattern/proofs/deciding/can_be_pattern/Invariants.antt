@@ -2,15 +2,15 @@
 use mathlib.Core.List.{List}
 use Prim.Native.Nat.{ℕ, ◌≤◌}
 use lib.ListN.{length, take}
+use Rattle.std.specs.Prelude.{Option}
 use Rattle.tree.specs.Tree.{Tree}
-use Rattle.tree.specs.Maybe.{Maybe}
 use Rattle.grammar.specs.Reading.Pattern.{to_pattern}
 use Rattle.pattern.specs.Contract.{Whole}
 use Rattle.pattern.proofs.Steps.{Ahead}
 use Rattle.pattern.proofs.deciding.can_be_pattern.Given as goal
 
 -- up to i stands what is still to be decided
-pub record Seeing (m : Maybe Tree) (S : List ℕ) (from i : ℕ) : Type 0 where
+pub record Seeing (m : Option Tree) (S : List ℕ) (from i : ℕ) : Type 0 where
   pub ahead : List ℕ
   pub left : Ahead m (take from S) (take i S) ahead
 

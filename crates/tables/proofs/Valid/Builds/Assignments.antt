@@ -1,5 +1,5 @@
 -- Nodes of assignments and groups whose children meet their demands: what their class says. Assumes nothing.
-use Rattle.std.specs.Prelude.{◌≡◌, Bool, ◌&&◌, ltb}
+use Rattle.std.specs.Prelude.{◌≡◌, Bool, ◌&&◌, ltb, Some}
 use Rattle.std.proofs.Math.Path.{refl}
 use Rattle.std.proofs.Common.{sym, subst, ◌∙◌}
 use Rattle.std.proofs.Math.Bool.{true, false, and-false}
@@ -11,7 +11,6 @@ use Rattle.operator.specs.Operator.{assign_code, assign_token, which_assignment_
 use Rattle.operator.specs.Below.{equal_below}
 use Rattle.tree.specs.NodeKind
 use Rattle.tree.specs.Tree.{Tree, node, none, more, one, two, kind_of}
-use Rattle.tree.specs.Maybe.{just}
 use Rattle.grammar.specs.Reading.Function.{target_name}
 use Rattle.grammar.specs.Canonical.Write.{Place, own, modified, is_target, function_named, has_function, fun_gives}
 use Rattle.grammar.specs.Canonical.Valid.{assign, ex, given, function, Valid, Pattern, Target, v_function, v_target, v_assign, v_local, v_keyword, v_given, v_given_assign, v_given_target, v_group, v_modified}
@@ -50,7 +49,7 @@ given_valid {t} {u} v h x =
     subst (λ n. Valid (given (v % 4)) (node NodeKind.Assignment n (two t u))) e (v_given_target x.to x.of)
 
 -- the name in the signature of a function that `fun` gives to a target
-name_is : (n : ℕ) (u : Tree) → function_named n u ≡ true → value_in (first_tree (children_in (just u))) ≡ n
+name_is : (n : ℕ) (u : Tree) → function_named n u ≡ true → value_in (first_tree (children_in (Some u))) ≡ n
 name_is n (node k v none) e = clash (and_r (eqb k NodeKind.FunctionDef) false e) refl
 name_is n (node k v (more (node l w f) g)) e = eqb-true w n (and_r (eqb k NodeKind.FunctionDef) (eqb w n) e)
 
@@ -171,7 +170,7 @@ given_in : {t : Tree} (a : ℕ) → Kid (inside (suc a) (group_mode (one t))) tr
 unfolding inside group_mode last_tree
 given_in {t} a k =
     let modified : eqb (suc a) 0 ≡ false = ne_eqb (suc a) 0 λ e. omega arith in
-    by_test (eqb (kind_in (just t)) NodeKind.Assignment)
+    by_test (eqb (kind_in (Some t)) NodeKind.Assignment)
     (λ y.
     let some : eqb (1 + value_of t % 4) 0 ≡ false = ne_eqb (1 + value_of t % 4) 0 λ e. omega arith in
     by_test (eqb (1 + value_of t % 4) (suc a))

@@ -1,9 +1,8 @@
 -- What a node's class alone says of a tree whose nodes all fit, and what each kind of node has to show for it. Definitions; they assume nothing.
-use Rattle.std.specs.Prelude.{◌≡◌, Bool, true, false, not, ℕ, zero, suc, ◌+◌, ◌-◌, ◌%◌, ◌≤◌, eqb, ltb, leb}
+use Rattle.std.specs.Prelude.{◌≡◌, Bool, true, false, not, ℕ, zero, suc, ◌+◌, ◌-◌, ◌%◌, ◌≤◌, eqb, ltb, leb, Some}
 use Rattle.tree.specs.NodeKind
 use Rattle.tree.specs.Tree.{Tree, Forest, node, none, more, one, two, three, kind_of}
 use Rattle.tree.specs.Node
-use Rattle.tree.specs.Maybe.{just}
 use Rattle.grammar.specs.Reading.Block.{split, whole}
 use Rattle.grammar.specs.Reading.Stmt.{lone_ellipsis}
 use Rattle.grammar.specs.Canonical.Write.{function_named}
@@ -28,7 +27,7 @@ which true A B = A
 which false A B = B
 
 abbrev pub value_of : Tree → ℕ
-value_of t = value_in (just t)
+value_of t = value_in (Some t)
 
 -- a tree begins and ends as a place wants it
 abbrev pub Begins : Bool → Tree → Type 0

@@ -1,5 +1,5 @@
 -- Nodes of expressions, assignments aside, whose children meet their demands: what their class says. Assumes nothing.
-use Rattle.std.specs.Prelude.{◌≡◌, refl, Bool, true, false, ℕ, zero, suc, ◌+◌, ◌≤◌, ◌<◌, eqb, leb}
+use Rattle.std.specs.Prelude.{◌≡◌, refl, Bool, true, false, ℕ, zero, suc, ◌+◌, ◌≤◌, ◌<◌, eqb, leb, Some}
 use Rattle.std.proofs.Common.{subst, arith, eqb-true, ne_eqb, ltb-false, lt-ltb, le-leb}
 use Rattle.token.specs.Kind
 use Rattle.operator.specs.Operator.{which_unary_op, which_binary_op, op_level, op_token, number_level, unary_code}
@@ -8,7 +8,6 @@ use Rattle.operator.specs.Laws.{op_number_token}
 use Rattle.tree.specs.NodeKind
 use Rattle.tree.specs.Tree.{Tree, node, none, more, one, two, count}
 use Rattle.tree.specs.Node
-use Rattle.tree.specs.Maybe.{just}
 use Rattle.grammar.specs.Canonical.Valid.{atom, tight, unary, binop, plain, function, item, table_item, branch, block, Valid, v_unpack, v_table, v_function, v_if, v_block, v_labelled, v_unary_op, v_binary_op, v_single, v_tuple, v_none, v_more}
 use Rattle.grammar.proofs.Laws.Facts.{clash, by_test}
 use Rattle.tables.specs.Choice.{where_zero}
@@ -26,7 +25,7 @@ use Rattle.tables.proofs.Valid.Builds.Roles.{tight_class, prim_of}
 use Rattle.tables.proofs.Valid.Builds.Places.{label_name, same_kind, simple, unary_in, operand_in, optional, exactly, atom_in, else_in, all_valid, Row, row, items_in, table_items_in, not_absent, operands}
 
 -- primaries
-with_path : {t u : Tree} → Valid atom t → Row (item true) u → Means (where_zero (count_in (just u)) Class.Bare Class.Primary) (node NodeKind.Primary 0 (two t u))
+with_path : {t u : Tree} → Valid atom t → Row (item true) u → Means (where_zero (count_in (Some u)) Class.Bare Class.Primary) (node NodeKind.Primary 0 (two t u))
 unfolding where_zero count
 with_path a (row v_none) = receiver a v_none
 with_path a (row (v_more {f = f} i h)) = rw (ne_eqb (suc (count f)) 0 λ e. omega arith) (simple refl refl (bound (as_path a i h)))
@@ -82,7 +81,7 @@ of_binary v h t u k m = go (level v) refl
 pub of_unpack : Rule NodeKind.Unpack
 unfolding tables where_zero
 of_unpack t k =
-    optional (λ x. Means (where_zero (kind_in (just x)) Class.Lone Class.Tight) (Node.unpack x)) Demand.PrimaryOrAbsent refl (omega arith) k
+    optional (λ x. Means (where_zero (kind_in (Some x)) Class.Lone Class.Tight) (Node.unpack x)) Demand.PrimaryOrAbsent refl (omega arith) k
     (record { own = λ h. bound as_lone; lone = λ h. absurd (omega arith); under = λ y. clash y refl })
     λ low high m.
     let n = not_absent t (omega arith) in
@@ -130,7 +129,7 @@ of_block_expr (suc n) h t k = simple refl refl (bound (as_tight labelled))
     labelled false p = clash (lt-ltb 0 (suc n) (omega arith)) (p refl)
 
 -- functions: one with a name stands only where `fun` with a target gives it
-function_is : {t u : Tree} → Signature t → Valid block u → Means (where_zero (value_in (just t)) Class.Tight Class.Named) (node NodeKind.FunctionDef 0 (two t u))
+function_is : {t u : Tree} → Signature t → Valid block u → Means (where_zero (value_in (Some t)) Class.Tight Class.Named) (node NodeKind.FunctionDef 0 (two t u))
 unfolding where_zero
 function_is {t = node k v f} {u = u} s b =
     by_test (eqb v 0)

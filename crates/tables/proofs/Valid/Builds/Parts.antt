@@ -1,11 +1,10 @@
 -- Nodes of the parts of tables, functions, conditionals and blocks whose children meet their demands: what their class says. Assumes nothing.
-use Rattle.std.specs.Prelude.{◌≡◌, refl, Bool, true, false, cond, ℕ, ◌+◌, ◌/◌, ◌%◌, ◌≤◌, eqb, ltb}
+use Rattle.std.specs.Prelude.{◌≡◌, refl, Bool, true, false, cond, ℕ, ◌+◌, ◌/◌, ◌%◌, ◌≤◌, eqb, ltb, Some}
 use Rattle.std.proofs.Common.{subst, arith, eqb-true, ltb-false}
 use Rattle.std.proofs.lemmas.Bool.{eqb-false}
 use Rattle.tree.specs.NodeKind
 use Rattle.tree.specs.Tree.{Tree, node, three, count}
 use Rattle.tree.specs.Node
-use Rattle.tree.specs.Maybe.{just}
 use Rattle.grammar.specs.Canonical.Valid.{param, block, stmt, Valid, IsNamed, read_only, read_write, v_function_def, v_function_default, v_function_variadic, v_field, v_field_index, v_table_item, v_param, v_branch, v_block_plain, v_block_control, v_block_result}
 use Rattle.grammar.proofs.Laws.Facts.{clash, by_test}
 use Rattle.tables.specs.Choice.{where_zero}
@@ -47,10 +46,10 @@ alone_in {t} k = in_range Demand.BodyAlone refl k λ low high. alone low (body_c
 before_in : {t e : Tree} → Valid stmt (Node.expression e) → Kid Demand.BodyBefore false false t → Valid block (Node.expr_block t e)
 before_in {t} s k = in_range Demand.BodyBefore refl k λ low high. before high s (body_class t (class_of t) low (omega arith) k.means)
 
-result_in : {t e : Tree} → Kid (where_zero (kind_in (just e)) Demand.BodyAlone Demand.BodyBefore) false false t → Kid Demand.StatedOrAbsent false false e → Valid block (Node.expr_block t e)
+result_in : {t e : Tree} → Kid (where_zero (kind_in (Some e)) Demand.BodyAlone Demand.BodyBefore) false false t → Kid Demand.StatedOrAbsent false false e → Valid block (Node.expr_block t e)
 unfolding where_zero
 result_in {t} {e} k l =
-    optional (λ x. Kid (where_zero (kind_in (just x)) Demand.BodyAlone Demand.BodyBefore) false false t → Valid block (Node.expr_block t x)) Demand.StatedOrAbsent refl (omega arith) l
+    optional (λ x. Kid (where_zero (kind_in (Some x)) Demand.BodyAlone Demand.BodyBefore) false false t → Valid block (Node.expr_block t x)) Demand.StatedOrAbsent refl (omega arith) l
     (λ j. alone_in j)
     (λ low high m j. before_in (stated e (class_of e) low high m l.begins l.ends) (rw (not_absent e high) at j))
     k
@@ -81,7 +80,7 @@ unfolding defaults
 few true = refl
 few false = refl
 
-one_default : {u : Tree} → Only Default u → eqb (count_in (just u)) 0 ≡ false
+one_default : {u : Tree} → Only Default u → eqb (count_in (Some u)) 0 ≡ false
 unfolding count
 one_default (only d) = refl
 
@@ -91,7 +90,7 @@ Defaults t u w = Kid (defaults (signature_mode (three t u w))) true false u
 variadic_in : {t u w : Tree} {n : ℕ} → Row param t → Valid param w → Defaults t u w → Signed n t u w
 unfolding defaults signature_mode last_tree
 variadic_in {u = u} r (v_param v) k =
-    by_test (eqb (count_in (just u)) 0)
+    by_test (eqb (count_in (Some u)) 0)
     (λ y. either_class (Class.Lists + Class.Default) Class.Empty (omega arith) (rw y at k) (λ m. variadic r m (v_param v)) (λ m. clash y (one_default m)))
     (λ n. no_kid (rw n at k))
 

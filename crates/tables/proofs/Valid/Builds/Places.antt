@@ -1,11 +1,10 @@
 -- A child that meets the demand of its place is valid in the role that the place has. Assumes nothing.
-use Rattle.std.specs.Prelude.{◌≡◌, refl, Bool, true, false, ℕ, suc, ◌+◌, ◌*◌, ◌/◌, ◌%◌, ◌≤◌, eqb, ltb}
+use Rattle.std.specs.Prelude.{◌≡◌, refl, Bool, true, false, ℕ, suc, ◌+◌, ◌*◌, ◌/◌, ◌%◌, ◌≤◌, eqb, ltb, Some}
 use Rattle.std.proofs.Common.{subst, arith, eqb-true, ltb-false, le-leb, lt-ltb}
 use Rattle.std.proofs.lemmas.Bool.{eqb-false}
 use Rattle.tree.specs.NodeKind
 use Rattle.tree.specs.Tree.{Tree, Forest, node, none, more, kind_of}
 use Rattle.tree.specs.Node
-use Rattle.tree.specs.Maybe.{just}
 use Rattle.grammar.specs.Reading.Stmt.{lone_ellipsis}
 use Rattle.grammar.specs.Canonical.Valid.{Role, atom, unary, binop, plain, ex, item, table_item, param, else_clause, control, body, stmt, Valid, Valids, IsName, v_none, v_more, v_no_else, v_else, v_no_control, v_control, v_body, v_expression}
 use Rattle.grammar.proofs.Laws.Facts.{clash, by_test, not_true}
@@ -31,16 +30,16 @@ pub label_name : (n : ℕ) → ltb Sound.Label (suc n) ≡ false → IsName n
 label_name n h = name_of n (omega (arith, ltb-false Sound.Label (suc n) h))
 
 -- kinds that have one class
-pub same_kind : (t : Tree) → kind_in (just t) ≡ kind_of t
+pub same_kind : (t : Tree) → kind_in (Some t) ≡ kind_of t
 same_kind (node k v f) = refl
 
 kind_class : (k c : ℕ) → ((v : ℕ) (f : Forest) → class k v (mode_of k f) ≡ c) → (t : Tree) → eqb (kind_of t) k ≡ true → class_of t ≡ c
 kind_class k c h (node x v f) e = rw (eqb-true x k e) (h v f)
 
-pub not_absent : (t : Tree) → class_of t ≤ Class.Keyword → eqb (kind_in (just t)) NodeKind.Absent ≡ false
+pub not_absent : (t : Tree) → class_of t ≤ Class.Keyword → eqb (kind_in (Some t)) NodeKind.Absent ≡ false
 unfolding class
 not_absent t h =
-    not_true (eqb (kind_in (just t)) NodeKind.Absent) λ y. omega (arith, kind_class NodeKind.Absent Class.Absent (λ v f. refl) t (rw same_kind at y))
+    not_true (eqb (kind_in (Some t)) NodeKind.Absent) λ y. omega (arith, kind_class NodeKind.Absent Class.Absent (λ v f. refl) t (rw same_kind at y))
 
 pub no_tuple : (t : Tree) → (class_of t ≡ Class.Tuple → ⊥) → eqb (kind_of t) NodeKind.Tuple ≡ false
 unfolding class

@@ -1,10 +1,9 @@
 -- Nodes of statements, controls and statement lists whose children meet their demands: what their class says. Assumes nothing.
-use Rattle.std.specs.Prelude.{◌≡◌, refl, true, false, ℕ, zero, suc, eqb, ltb}
+use Rattle.std.specs.Prelude.{◌≡◌, refl, true, false, ℕ, zero, suc, eqb, ltb, Some}
 use Rattle.std.proofs.Common.{arith}
 use Rattle.tree.specs.NodeKind
 use Rattle.tree.specs.Tree.{Tree, Forest, node, none, more, one, two}
 use Rattle.tree.specs.Node
-use Rattle.tree.specs.Maybe.{just}
 use Rattle.grammar.specs.Reading.Result.{ifb}
 use Rattle.grammar.specs.Reading.Block.{whole, split, split_before, split_last, split_kids}
 use Rattle.grammar.specs.Canonical.Valid.{jump, control, stmt, Valid, IsLabel, no_label, a_label, v_continue, v_break, v_break_value, v_break_label, v_return, v_return_value, v_no_control, v_control, v_loop, v_while, v_for, v_assert}
@@ -44,7 +43,7 @@ unfolding tables
 of_assert t k = v_assert (expr k)
 
 -- a statement list: the class says whether it has a control, and else whether the last statement is an expression
-split_last_whole : (t : Tree) → eqb (kind_in (just t)) NodeKind.Expression ≡ false → split_last t ≡ whole (one t)
+split_last_whole : (t : Tree) → eqb (kind_in (Some t)) NodeKind.Expression ≡ false → split_last t ≡ whole (one t)
 unfolding split_last split_kids ifb
 split_last_whole (node k v none) e = refl
 split_last_whole (node k v (more t none)) e = rw e
@@ -56,7 +55,7 @@ split_whole none e = refl
 split_whole (more t none) e = split_last_whole t e
 split_whole (more t (more u f)) e = rw (split_whole (more u f) e)
 
-jump_kind : {t : Tree} → Valid jump t → eqb (kind_in (just t)) NodeKind.Absent ≡ false
+jump_kind : {t : Tree} → Valid jump t → eqb (kind_in (Some t)) NodeKind.Absent ≡ false
 jump_kind (v_continue l) = refl
 jump_kind (v_break l) = refl
 jump_kind (v_break_value e) = refl

@@ -1,5 +1,5 @@
 -- Lists whose members all meet one demand: their class, and that they fit. Assumes nothing.
-use Rattle.std.specs.Prelude.{◌≡◌, refl, Bool, true, false, not, ℕ, suc, ◌+◌, ◌-◌, ◌≤◌, ◌<◌, eqb}
+use Rattle.std.specs.Prelude.{◌≡◌, refl, Bool, true, false, not, ℕ, suc, ◌+◌, ◌-◌, ◌≤◌, ◌<◌, eqb, Some}
 use Rattle.std.proofs.Math.Bool.{and-false}
 use Rattle.std.proofs.Common.{arith, eq-eqb, ne_eqb, le-leb}
 use Rattle.std.proofs.Math.Dec.{eqb-suc-zero}
@@ -7,7 +7,6 @@ use Rattle.std.proofs.lemmas.Bool.{eqb-false, lt-leb}
 use Rattle.tree.specs.NodeKind
 use Rattle.tree.specs.Tree.{Tree, Forest, node, none, more, count, kind_of}
 use Rattle.tree.specs.Node
-use Rattle.tree.specs.Maybe.{just}
 use Rattle.grammar.specs.Canonical.Valid.{item, table_item, param, branch, stmt}
 use Rattle.grammar.proofs.Laws.Facts.{by_test}
 use Rattle.tables.specs.Class as Class
@@ -44,7 +43,7 @@ kids j w m_none = refl
 kids {d} {c} j w (m_more {t = t} h g) = rw (fits_up (d t) (of_members c) (class_of t) (w.takes t) (positive h) h.class, kids (suc j) w g)
 
 -- the class is the last one's
-inner_same : (t : Tree) → eqb (kind_of t) NodeKind.List ≡ false → inner_class (just t) ≡ class_of t
+inner_same : (t : Tree) → eqb (kind_of t) NodeKind.List ≡ false → inner_class (Some t) ≡ class_of t
 unfolding mode_of
 inner_same (node k v f) e = rw e
 

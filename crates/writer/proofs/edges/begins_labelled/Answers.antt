@@ -5,12 +5,13 @@ use mathlib.Core.List.{List}
 use native.Mathlib.Omega.{arith}
 use lib.Dec.{eqb, ltb}
 use borrow.Author.Tests.{eq-eqb, ne_eqb}
+use Rattle.std.specs.Prelude.{Option}
+use Rattle.std.specs.Option.{option_map_or}
 use Rattle.tree.specs.NodeKind
 use Rattle.tree.specs.Tree.{Tree}
-use Rattle.tree.specs.Maybe.{Maybe}
 use Rattle.tables.specs.Kinds.{passes}
 use Rattle.tables.specs.Children.{kind_in, value_in}
-use Rattle.writer.specs.Stack.{Spot, Somewhere, Says, maybe}
+use Rattle.writer.specs.Stack.{Spot, Somewhere, Says}
 use Rattle.tables.specs.Check.{begins_labelled}
 use Rattle.writer.proofs.Chains.{down_place, down_kid, down_end, some_words, passes_some, labelled_down, labelled_here}
 use Rattle.writer.proofs.edges.begins_labelled.Goals.{After-loop-q, At-loop-q, In-loop-q}
@@ -28,7 +29,7 @@ module _ (c : In-loop-q) where
 
 -- it begins by itself
 module _ (c : After-loop-q) where
-  by_itself : {b : Bool} → ((m : Maybe Tree) (s : List Tree) → Spot c.args.records.now c.loop-q.q m s → b ≡ eqb (kind_in m) NodeKind.Block && ltb 0 (value_in m)) → Says c.args.records.now c.args.p (maybe false begins_labelled) b
+  by_itself : {b : Bool} → ((m : Option Tree) (s : List Tree) → Spot c.args.records.now c.loop-q.q m s → b ≡ eqb (kind_in m) NodeKind.Block && ltb 0 (value_in m)) → Says c.args.records.now c.args.p (λ m. option_map_or begins_labelled m false) b
   by_itself f =
       let k = c.kind_at.ensures in
       down_end c.loop-q.invariant (record { how = λ m s h. f m s h ∙ sym (labelled_here m (rw (← k.how m s h) (sym c.passes.ensures ∙ c.loop-q-test.false))) })

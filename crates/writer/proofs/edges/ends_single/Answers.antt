@@ -5,11 +5,12 @@ use mathlib.Core.List.{List}
 use native.Mathlib.Omega.{arith}
 use lib.Dec.{eqb}
 use borrow.Author.Tests.{eq-eqb, ne_eqb}
+use Rattle.std.specs.Prelude.{Option}
+use Rattle.std.specs.Option.{option_map_or}
 use Rattle.tree.specs.NodeKind
 use Rattle.tree.specs.Tree.{Tree}
-use Rattle.tree.specs.Maybe.{Maybe}
 use Rattle.tables.specs.Children.{kind_in, count_in, last_in}
-use Rattle.writer.specs.Stack.{Spot, Somewhere, Says, maybe}
+use Rattle.writer.specs.Stack.{Spot, Somewhere, Says}
 use Rattle.tables.specs.Check.{ends_single}
 use Rattle.writer.proofs.Places.{of_last}
 use Rattle.writer.proofs.Chains.{down_place, down_last, down_end, some_words, single_down, single_here}
@@ -23,7 +24,7 @@ module _ (c : At-loop-q) where
 
 -- it ends by itself
 module _ (c : After-loop-q) where
-  by_itself : {b : Bool} → ((m : Maybe Tree) (s : List Tree) → Spot c.args.records.now c.loop-q.q m s → b ≡ eqb (kind_in m) NodeKind.Tuple && eqb (count_in (last_in m)) 1) → Says c.args.records.now c.args.p (maybe false ends_single) b
+  by_itself : {b : Bool} → ((m : Option Tree) (s : List Tree) → Spot c.args.records.now c.loop-q.q m s → b ≡ eqb (kind_in m) NodeKind.Tuple && eqb (count_in (last_in m)) 1) → Says c.args.records.now c.args.p (λ m. option_map_or ends_single m false) b
   by_itself f =
       let k = c.kind_at.ensures in
       down_end c.loop-q.invariant (record { how = λ m s h. f m s h ∙ sym (single_here m (λ z. c.loop-q-test.false (k.how m s h ∙ z))) })

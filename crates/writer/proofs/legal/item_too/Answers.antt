@@ -1,7 +1,7 @@
 -- `writer::legal::item_too` meets its contract. Assumes nothing.
 use mathlib.Core.Path.{◌≡◌, ◌∙◌}
 use mathlib.Core.Bool.{true}
-use Rattle.tree.specs.Maybe.{just}
+use Rattle.std.specs.Prelude.{Some}
 use Rattle.writer.proofs.Places.{stands, some_place}
 use Rattle.writer.proofs.legal.item_too.Goals as goal
 
@@ -11,4 +11,4 @@ kind_at-requires c = search some_place
 pub returns-then-items : goal.returns-then-items
 returns-then-items c = let k = c.kind_at.ensures in
     let e : c.args.items ≡ true = c.if-items.true in
-    record { how = λ t s a. c.target_item.ensures ∙ rw (e, ← k.how (just t) s (stands a)) }
+    record { how = λ t s a. c.target_item.ensures ∙ rw (e, ← k.how (Some t) s (stands a)) }

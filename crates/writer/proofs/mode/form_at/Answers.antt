@@ -6,9 +6,9 @@ use mathlib.Core.Logic.{◌⊎◌, inl, inr}
 use Prim.Native.Nat.{ℕ}
 use lib.Dec.{eqb}
 use mir.Val.{bool_byte}
+use Rattle.std.specs.Prelude.{Option}
 use Rattle.tree.specs.NodeKind
 use Rattle.tree.specs.Tree.{Tree}
-use Rattle.tree.specs.Maybe.{Maybe}
 use Rattle.tables.specs.Choice.{when◌then◌else◌}
 use Rattle.tables.specs.Form.{Fun, fun_gives}
 use Rattle.tables.specs.Check.{function_form}
@@ -25,7 +25,7 @@ use Rattle.writer.proofs.mode.form_at.Goals as goal
 -- an arm of the match
 module _ (c : After-kind_at) where
   arm : {n : ℕ} {form : Form} → c.kind_at.result ≡ n
-      → ((m : Maybe Tree) (s : List Tree) → Spot c.args.records.now c.args.p m s → form_number n form ≡ form_of n (value_in m) (children_in m) (place_number c.args.place))
+      → ((m : Option Tree) (s : List Tree) → Spot c.args.records.now c.args.p m s → form_number n form ≡ form_of n (value_in m) (children_in m) (place_number c.args.place))
       → FormAt c.args.records.now c.args.p c.args.place form
   arm {n} e x = record {
     how = λ m s h.

@@ -1,6 +1,6 @@
 -- `writer::target::serves_at` meets its contract: each arm is the definition there. Assumes nothing.
 use mathlib.Core.Path.{refl, sym, ◌∙◌}
-use Rattle.tree.specs.Maybe.{just}
+use Rattle.std.specs.Prelude.{Some}
 use Rattle.tables.specs.Children.{children_in}
 use Rattle.writer.specs.Standing.{serves_as}
 use Rattle.writer.proofs.Numbers.{tests}
@@ -34,11 +34,11 @@ returns-in-11 c = serves_arm c.kind_at.ensures c.in-11.is (says_tells c.target_r
 
 pub returns-in-42 : goal.returns-in-42
 unfolding serves_as
-returns-in-42 c = serves_arm c.kind_at.ensures c.in-42.is (record { how = λ t s a. (of_kid c.kid_of.ensures c.target_receiver-in-42.ensures).how _ s (stands a) ∙ sym (receiver_is (children_in (just t))) })
+returns-in-42 c = serves_arm c.kind_at.ensures c.in-42.is (record { how = λ t s a. (of_kid c.kid_of.ensures c.target_receiver-in-42.ensures).how _ s (stands a) ∙ sym (receiver_is (children_in (Some t))) })
 
 pub returns-in-43 : goal.returns-in-43
 unfolding serves_as
-returns-in-43 c = serves_arm c.kind_at.ensures c.in-43.is (record { how = λ t s a. (of_kid c.kid_of-in-43.ensures c.target_receiver-in-43.ensures).how _ s (stands a) ∙ sym (receiver_is (children_in (just t))) })
+returns-in-43 c = serves_arm c.kind_at.ensures c.in-43.is (record { how = λ t s a. (of_kid c.kid_of-in-43.ensures c.target_receiver-in-43.ensures).how _ s (stands a) ∙ sym (receiver_is (children_in (Some t))) })
 
 pub returns-in-20 : goal.returns-in-20
 unfolding serves_as

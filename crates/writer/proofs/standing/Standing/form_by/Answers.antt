@@ -4,9 +4,9 @@ use mathlib.Core.Bool.{Bool, true, cond}
 use mathlib.Core.List.{◌∷◌}
 use native.Mathlib.Omega.{arith}
 use lib.Dec.{eqb}
+use Rattle.std.specs.Prelude.{Some}
 use Rattle.tree.specs.NodeKind
 use Rattle.tree.specs.Tree.{none, more}
-use Rattle.tree.specs.Maybe.{just}
 use Rattle.grammar.specs.Canonical.Write.{is_target}
 use Rattle.tables.specs.Children.{kind_in, value_in, children_in, first_tree}
 use Rattle.tables.specs.Check.{function_form}
@@ -29,7 +29,7 @@ module _ (c : Else-kind_at-ne-FUNCTION_DEF) where
   abbrev both : Two c.args.self.now.records.now c.args.self.now.kept.now c.args.self.now.base c.args.h c.args.p
   both = pair (goal.at.Else-kind_at-ne-FUNCTION_DEF c).Start
 
-  function : kind_in (just both.second) ≡ NodeKind.FunctionDef
+  function : kind_in (Some both.second) ≡ NodeKind.FunctionDef
   function = sym (c.kind_at.ensures.how _ _ (stands both.last)) ∙ c.if-kind_at-ne-FUNCTION_DEF.false
 
 -- it serves
@@ -42,7 +42,7 @@ module _ (c : After-target_by) where
   aimed : {b : Bool} → c.target_by.result ≡ b → b ≡ is_target (both (goal.at.After-target_by c).Else-kind_at-ne-FUNCTION_DEF).first
   aimed e = sym e ∙ c.target_by.ensures.how _ _ (c.begin_of-target.ensures.how _ _ (both (goal.at.After-target_by c).Else-kind_at-ne-FUNCTION_DEF).last)
 
-  by_name : {b z : Bool} → c.target_by.result ≡ b → eqb (value_in (first_tree (children_in (just (both (goal.at.After-target_by c).Else-kind_at-ne-FUNCTION_DEF).second)))) 0 ≡ z → Says c.args.self.now.records.now c.args.p (λ m. function_form (children_in m)) (cond b (cond z 1 2) 0)
+  by_name : {b z : Bool} → c.target_by.result ≡ b → eqb (value_in (first_tree (children_in (Some (both (goal.at.After-target_by c).Else-kind_at-ne-FUNCTION_DEF).second)))) 0 ≡ z → Says c.args.self.now.records.now c.args.p (λ m. function_form (children_in m)) (cond b (cond z 1 2) 0)
   by_name e n = let y = both (goal.at.After-target_by c).Else-kind_at-ne-FUNCTION_DEF in says_one y.here (form_is y.first y.second y.rest (function (goal.at.After-target_by c).Else-kind_at-ne-FUNCTION_DEF) (served (goal.at.After-target_by c).Else-not-serves_of) (aimed e) n)
 
 pub overflow_sub-function : goal.overflow_sub-function

@@ -4,10 +4,10 @@ use mathlib.Core.Bool.{true, false}
 use Prim.Native.Nat.{◌-◌, ◌≤◌}
 use native.Mathlib.Omega.{arith}
 use borrow.Author.Tests.{eq-eqb, ne_eqb}
-use Rattle.tree.specs.Maybe.{just}
+use Rattle.std.specs.Prelude.{Some}
+use Rattle.std.specs.Option.{option_map_or}
 use Rattle.tables.specs.Kinds.{passes}
 use Rattle.tables.specs.Check.{begins_labelled, first_labelled}
-use Rattle.writer.specs.Stack.{maybe}
 use Rattle.writer.specs.Standing.{On}
 use Rattle.writer.proofs.Places.{stands, no_first}
 use Rattle.writer.proofs.Chains.{labelled_down, labelled_first, labelled_here}
@@ -39,7 +39,7 @@ count_at-n-requires c = node_place c.requires.0
 pub returns-then-n-eq0 : goal.returns-then-n-eq0
 returns-then-n-eq0 c = let k = c.kind_at-kind.ensures in
     let n = c.count_at-n.ensures in
-    record { how = λ t s a. sym (labelled_down (just t) (rw (← k.how _ s (stands a)) (first_begins (goal.at.returns-then-n-eq0 c).Then-passes)) ∙ ap (maybe false begins_labelled) (no_first t (sym (n.how _ s (stands a)) ∙ c.if-n-eq0.true))) }
+    record { how = λ t s a. sym (labelled_down (Some t) (rw (← k.how _ s (stands a)) (first_begins (goal.at.returns-then-n-eq0 c).Then-passes)) ∙ ap (λ m. option_map_or begins_labelled m false) (no_first t (sym (n.how _ s (stands a)) ∙ c.if-n-eq0.true))) }
 
 pub overflow_sub-h : goal.overflow_sub-h
 overflow_sub-h c = omega (arith, (first_one (goal.at.overflow_sub-h c).Else-n-eq0).2)
@@ -59,8 +59,8 @@ value_at-requires c = node_place c.requires.0
 pub returns-then-kind-eq-BLOCK : goal.returns-then-kind-eq-BLOCK
 returns-then-kind-eq-BLOCK c = let k = c.kind_at-kind.ensures in
     let v = c.value_at.ensures in
-    record { how = λ t s a. rw (labelled_here (just t) (rw (← k.how _ s (stands a)) (by_itself (goal.at.returns-then-kind-eq-BLOCK c).Else-passes)), ← k.how _ s (stands a), eq-eqb _ _ c.if-kind-eq-BLOCK.true, ← v.how _ s (stands a)) }
+    record { how = λ t s a. rw (labelled_here (Some t) (rw (← k.how _ s (stands a)) (by_itself (goal.at.returns-then-kind-eq-BLOCK c).Else-passes)), ← k.how _ s (stands a), eq-eqb _ _ c.if-kind-eq-BLOCK.true, ← v.how _ s (stands a)) }
 
 pub returns : goal.returns
 returns c = let k = c.kind_at-kind.ensures in
-    record { how = λ t s a. rw (labelled_here (just t) (rw (← k.how _ s (stands a)) (by_itself (goal.at.returns c).Else-passes)), ← k.how _ s (stands a), ne_eqb _ _ c.if-kind-eq-BLOCK.false) }
+    record { how = λ t s a. rw (labelled_here (Some t) (rw (← k.how _ s (stands a)) (by_itself (goal.at.returns c).Else-passes)), ← k.how _ s (stands a), ne_eqb _ _ c.if-kind-eq-BLOCK.false) }

@@ -2,7 +2,7 @@
 use mathlib.Core.Path.{◌≡◌, sym, ◌∙◌}
 use Prim.Native.Nat.{◌-◌, ◌≤◌}
 use native.Mathlib.Omega.{arith}
-use Rattle.tree.specs.Maybe.{just}
+use Rattle.std.specs.Prelude.{Some}
 use Rattle.tables.specs.Class.{list_class}
 use Rattle.tables.specs.Children.{last_tree}
 use Rattle.writer.specs.Standing.{On}
@@ -14,7 +14,7 @@ use Rattle.writer.proofs.standing.Standing.list_by.Goals as goal
 
 -- there is a last member
 module _ (c : Else-n-eq0) where
-  last_one : (o : On c.args.self.now.records.now c.args.self.now.kept.now c.args.self.now.base (c.args.h - 1) (c.args.p - 2)) × (last_tree c.requires.kids ≡ just o.top)
+  last_one : (o : On c.args.self.now.records.now c.args.self.now.kept.now c.args.self.now.base (c.args.h - 1) (c.args.p - 2)) × (last_tree c.requires.kids ≡ Some o.top)
   last_one = last_on c.requires (λ e. c.if-n-eq0.false (c.count_at-n.ensures.how _ _ (stands c.requires.here) ∙ e))
 
   many : 1 ≤ c.args.h

@@ -2,7 +2,7 @@
 use mathlib.Core.Path.{◌≡◌, refl, sym, ap, ◌∙◌}
 use Prim.Native.Nat.{ℕ, ◌-◌, ◌≤◌}
 use native.Mathlib.Omega.{arith}
-use Rattle.tree.specs.Maybe.{just}
+use Rattle.std.specs.Prelude.{Some}
 use Rattle.tables.specs.Children.{children_in, first_tree}
 use Rattle.tables.specs.Sound.{arity}
 use Rattle.tables.specs.Check.{inner_mode, mode_of}
@@ -15,7 +15,7 @@ use Rattle.writer.proofs.standing.Standing.serves_by.Goals as goal
 
 -- a pattern's one child, and a node's two
 module _ (c : In-42) where
-  receiver : (o : On c.args.self.now.records.now c.args.self.now.kept.now c.args.self.now.base (c.args.h - 1) (c.args.p - 2)) × (first_tree c.requires.0.kids ≡ just o.top) × (1 ≤ c.args.h)
+  receiver : (o : On c.args.self.now.records.now c.args.self.now.kept.now c.args.self.now.base (c.args.h - 1) (c.args.p - 2)) × (first_tree c.requires.0.kids ≡ Some o.top) × (1 ≤ c.args.h)
   unfolding arity
   receiver = the_only c.requires.0 (arity_at c.requires.0 c.requires.1 c.kind_at.ensures c.in-42.is (λ e. omega arith))
 

@@ -1,5 +1,5 @@
 -- `writer::standing::Standing::target_by` meets its contract. Assumes nothing.
-use Rattle.tree.specs.Maybe.{just}
+use Rattle.std.specs.Prelude.{Some}
 use Rattle.writer.specs.Standing.{serves_as}
 use Rattle.writer.proofs.Numbers.{tests}
 use Rattle.writer.proofs.Targets.{target_is}
@@ -12,20 +12,20 @@ kind_at-requires c = search on_place
 
 pub returns-in-41 : goal.returns-in-41
 returns-in-41 c = let k = c.kind_at.ensures in
-    record { how = λ t s a. rw (target_is (just t), ← k.how _ s (stands a), c.in-41.is) }
+    record { how = λ t s a. rw (target_is (Some t), ← k.how _ s (stands a), c.in-41.is) }
 
 pub returns-in-42 : goal.returns-in-42
 unfolding serves_as
 returns-in-42 c = let k = c.kind_at.ensures in
     let e = c.in-42.is in
-    record { how = λ t s a. rw (target_is (just t), ← k.how _ s (stands a), e) ((serves_known k e c.serves_of.ensures).how t s a) }
+    record { how = λ t s a. rw (target_is (Some t), ← k.how _ s (stands a), e) ((serves_known k e c.serves_of.ensures).how t s a) }
 
 pub returns-in-43 : goal.returns-in-43
 unfolding serves_as
 returns-in-43 c = let k = c.kind_at.ensures in
     let e = c.in-43.is in
-    record { how = λ t s a. rw (target_is (just t), ← k.how _ s (stands a), e) ((serves_known k e c.serves_of-in-43.ensures).how t s a) }
+    record { how = λ t s a. rw (target_is (Some t), ← k.how _ s (stands a), e) ((serves_known k e c.serves_of-in-43.ensures).how t s a) }
 
 pub returns-in_default : goal.returns-in_default
 returns-in_default c = let k = c.kind_at.ensures in
-    record { how = λ t s a. rw (target_is (just t), ← k.how _ s (stands a)) (search tests) }
+    record { how = λ t s a. rw (target_is (Some t), ← k.how _ s (stands a)) (search tests) }
