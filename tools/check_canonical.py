@@ -25,7 +25,7 @@ import supplied
 
 ROOT = os.path.dirname(os.path.dirname(os.path.abspath(__file__)))
 # of grammar, what its specs/ and its proofs/ keep: the definitions of reading and of canonical tokens, and the table of sheets, which defines `canonical`
-KEPT = {"specs": ("Reading", "Canonical", "Levels"), "proofs": ("Sheets",)}
+KEPT = {"specs": ("Reading", "Canonical", "Levels", "Flat"), "proofs": ("Sheets",)}
 HEADER = """-- Scratch: sheets and what they come to.
 use Rattle.std.specs.Prelude.{◌≡◌, refl, Bool, true, List, [], ◌∷◌, ℕ, Option, Some, option_and_then}
 use Rattle.tree.specs.Tree.{all_records}

@@ -390,18 +390,19 @@ def needed_crates(repo):
     return found
 
 
-def keep_reading(crate):
-    """of grammar only the code and the definitions of reading, so that a run proves nothing else"""
+def keep_definitions(crate):
+    """of grammar only the code and the definitions that it needs, so that a run proves nothing else"""
     shutil.rmtree(os.path.join(crate, "proofs"))
     specs = os.path.join(crate, "specs")
+    kept = ("Reading", "Canonical", "Levels", "Flat")
     for name in os.listdir(specs):
         path = os.path.join(specs, name)
-        if os.path.isdir(path) and name != "Reading":
+        if os.path.isdir(path) and name not in kept:
             shutil.rmtree(path)
-        elif os.path.isfile(path) and name != "Reading.antt":
+        elif os.path.isfile(path) and name[:-len(".antt")] not in kept:
             os.remove(path)
     with open(os.path.join(specs, "Lib.antt"), "w") as out:
-        out.write("pub mod Reading\n")
+        out.writelines("pub mod %s\n" % name for name in kept)
 
 
 def copy_repository(repo, folder):
@@ -409,7 +410,7 @@ def copy_repository(repo, folder):
     crates = needed_crates(repo)
     for name in crates:
         shutil.copytree(os.path.join(repo, "crates", name), os.path.join(folder, "crates", name), ignore=shutil.ignore_patterns("out"))
-    keep_reading(os.path.join(folder, "crates", "grammar"))
+    keep_definitions(os.path.join(folder, "crates", "grammar"))
     for part in ("src", "proofs"):
         os.makedirs(os.path.join(folder, "crates", "scratch", part))
     with open(os.path.join(folder, "crates", "scratch", "src", "lib.rt"), "w") as out:
