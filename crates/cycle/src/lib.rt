@@ -794,7 +794,7 @@ fn param(
         Head::Required(pos, v) => Ok(Parameter::Required(pos, v)),
         Head::Variadic(pos, v) => Ok(Parameter::Variadic(pos, v)),
         Head::Default(pos, v) => {
-            let at = required_end(store, cursor.at, counts.required, counts.default);
+            let at = required_end(store, cursor.at, counts);
             let value = expr(tokens, store, queue, depth, Cursor { pos, at })?;
             Ok(Parameter::Default(Cursor {
                 at: emit(store, value.at, word::DEFAULT_DEF, v),

@@ -166,12 +166,12 @@ pub fn param_head(tokens: &[u64], pos: usize) -> Result<Head, Halt>
 }
 
 // The list of the required parameters stands before the first default.
-pub fn required_end(store: &mut [u64], a: usize, required: u64, default: u64) -> usize
-    requires { (a + 2 ≤ length store.old) × (required ≤ 65536) }
-    ensures { Added a 2 (required_words required default) result store.old store.new }
+pub fn required_end(store: &mut [u64], a: usize, counts: Counts) -> usize
+    requires { (a + 2 ≤ length store.old) × (counts.required ≤ 65536) }
+    ensures { Added a 2 (required_words counts.required counts.default) result store.old store.new }
 {
-    if default == 0 {
-        return list_end(store, a, required);
+    if counts.default == 0 {
+        return list_end(store, a, counts.required);
     }
     a
 }
@@ -192,7 +192,7 @@ pub fn params_end(store: &mut [u64], a: usize, counts: Counts) -> usize
     requires { (a + 6 ≤ length store.old) × (counts.required ≤ 65536) × (counts.default ≤ 65536) }
     ensures { Ended params_words (λ ps. Fitting ps counts) signature_words as_it_is a 6 result store.old store.new }
 {
-    let b = required_end(store, a, counts.required, counts.default);
+    let b = required_end(store, a, counts);
     let d = list_end(store, b, counts.default);
     variadic_end(store, d, counts.variadic)
 }
