@@ -96,13 +96,22 @@ pub fn group_end(store: &mut [u64], a: usize, m: u64) -> usize
     emit(store, a, word::GROUP, m)
 }
 
+// `Absent`, and the record over it.
+fn absent_under(store: &mut [u64], a: usize, word: u64) -> usize
+    requires { a + 4 ≤ length store.old }
+    ensures { Added a 4 (0 ∷ 0 ∷ word ∷ 0 ∷ []) result store.old store.new }
+{
+    let b = emit(store, a, word::ABSENT, 0);
+    emit(store, b, word, 0)
+}
+
 // `...` alone.
+#[tactic(auto, unfolding(tree::specs::Tree::records, tree::specs::Tree::count))]
 pub fn lone_unpack(store: &mut [u64], a: usize) -> usize
     requires { a + 4 ≤ length store.old }
     ensures { Added a 4 (records (Node.unpack Node.absent)) result store.old store.new }
 {
-    let b = emit(store, a, word::ABSENT, 0);
-    emit(store, b, word::UNPACK, 0)
+    absent_under(store, a, word::UNPACK)
 }
 
 // `...` behind what was read.
@@ -244,8 +253,7 @@ fn suite_end(store: &mut [u64], a: usize, n: u64) -> usize
     ensures { Added a 6 ((1 + 256 * n) ∷ 0 ∷ 0 ∷ 0 ∷ 519 ∷ 0 ∷ []) result store.old store.new }
 {
     let b = list_end(store, a, n);
-    let d = emit(store, b, word::ABSENT, 0);
-    emit(store, d, word::STMT_LIST, 0)
+    absent_under(store, b, word::STMT_LIST)
 }
 
 // A block without result, behind its statement list.
@@ -253,8 +261,7 @@ fn resultless(store: &mut [u64], a: usize) -> usize
     requires { a + 4 ≤ length store.old }
     ensures { Added a 4 (0 ∷ 0 ∷ 534 ∷ 0 ∷ []) result store.old store.new }
 {
-    let b = emit(store, a, word::ABSENT, 0);
-    emit(store, b, word::EXPR_BLOCK, 0)
+    absent_under(store, a, word::EXPR_BLOCK)
 }
 
 // A block of n statements without control (`ExprBlock::from`): the last one is the result, if it is an expression statement, which then begins at `last`.
@@ -321,6 +328,5 @@ pub fn if_end(store: &mut [u64], a: usize, n: u64) -> usize
     ensures { Added a 6 ((1 + 256 * n) ∷ 0 ∷ 0 ∷ 0 ∷ 530 ∷ 0 ∷ []) result store.old store.new }
 {
     let b = list_end(store, a, n);
-    let d = emit(store, b, word::ABSENT, 0);
-    emit(store, d, word::IF_EXPR, 0)
+    absent_under(store, b, word::IF_EXPR)
 }
