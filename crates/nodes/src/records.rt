@@ -12,6 +12,7 @@ ghost use Rattle.grammar.specs.Reading.Block.{block_of};
 ghost use Rattle.grammar.specs.Reading.Function.{target_name as target_name_def};
 ghost use Rattle.grammar.specs.Reading.Stmt.{stmt_list_of, lone_ellipsis as lone_ellipsis_def};
 ghost use Rattle.pattern.specs.Contract.{ATree, Whole};
+ghost use Rattle.scan.specs.Parts.{keyword_code};
 ghost use Rattle.scan.specs.Post.{Writes};
 ghost use Rattle.nodes.specs.Parts.{tuple_words, path_words, unpack_end as unpack_end_def, expression_end as expression_end_def};
 ghost use Rattle.nodes.specs.Ends.{Added, Ended, Shape, AShape, Counts, CountsAfter, Any, as_it_is, Marked, Carries};
@@ -20,7 +21,7 @@ ghost use Rattle.nodes.specs.Lists.{Closing, Blocked, Closable, Unders};
 use pattern::deciding::can_be_pattern;
 use pattern::moving::move_to_pattern;
 use scan::tokens::atom_error;
-use scan::{Cursor, Failure, Halt, Listed, number};
+use scan::{Action, Cursor, Failure, Halt, Listed, number};
 use token::kind;
 use tree::{block_result, emit, node, word};
 
@@ -74,26 +75,36 @@ pub fn literal(store: &mut [u64], kind: u64, value: u64, cursor: Cursor) -> Resu
     })
 }
 
-// A group's modifier, 0 or 1 + its action, is handed to an assignment inside.
-fn with_action(store: &mut [u64], a: usize, m: u64)
-    requires { (2 ≤ a) × (a ≤ length store.old) × (m ≤ 4) }
-    ensures { (X : List ℕ) (t : Tree) → Small t → take a store.old ≡ X ++ records t → take a store.new ≡ X ++ records (with_action_def m t) }
+// A group's modifier is handed to an assignment inside.
+fn with_action(store: &mut [u64], a: usize, modifier: Option<Action>)
+    requires { (2 ≤ a) × (a ≤ length store.old) }
+    ensures { (X : List ℕ) (t : Tree) → Small t → take a store.old ≡ X ++ records t → take a store.new ≡ X ++ records (with_action_def (keyword_code modifier) t) }
 {
-    if m == 0 {
+    let Some(action) = modifier else {
         return;
-    }
+    };
     if kind_of(store, a) == node::ASSIGNMENT {
         let value = store[a - 1];
-        store[a - 1] = m - 1 + 4 * (value / 4);
+        store[a - 1] = u64::from(action) + 4 * (value / 4);
     }
 }
 
-pub fn group_end(store: &mut [u64], a: usize, m: u64) -> usize
-    requires { (2 ≤ a) × (a + 2 ≤ length store.old) × (m ≤ 4) }
-    ensures { Ended records Small records (λ t. Node.group m (with_action_def m t)) a 2 result store.old store.new }
+// What a group's record has for its modifier: 0, or 1 + its action.
+fn modifier_value(modifier: Option<Action>) -> u64
+    ensures { result ≡ keyword_code modifier }
 {
-    with_action(store, a, m);
-    emit(store, a, word::GROUP, m)
+    match modifier {
+        Some(action) => 1 + u64::from(action),
+        None => 0,
+    }
+}
+
+pub fn group_end(store: &mut [u64], a: usize, modifier: Option<Action>) -> usize
+    requires { (2 ≤ a) × (a + 2 ≤ length store.old) }
+    ensures { Ended records Small records (λ t. Node.group (keyword_code modifier) (with_action_def (keyword_code modifier) t)) a 2 result store.old store.new }
+{
+    with_action(store, a, modifier);
+    emit(store, a, word::GROUP, modifier_value(modifier))
 }
 
 // `Absent`, and the record over it.
@@ -186,15 +197,15 @@ pub fn expect_pattern(
     })
 }
 
-// A pattern under a modifier, 0 or 1 + its action.
-pub fn modified(store: &mut [u64], a: usize, m: u64) -> usize
-    requires { (a + 2 ≤ length store.old) × (m ≤ 4) }
-    ensures { Ended records Any records (modified_def m) a 2 result store.old store.new }
+// A pattern under a modifier.
+pub fn modified(store: &mut [u64], a: usize, modifier: Option<Action>) -> usize
+    requires { a + 2 ≤ length store.old }
+    ensures { Ended records Any records (modified_def (keyword_code modifier)) a 2 result store.old store.new }
 {
-    if m == 0 {
-        return a;
+    match modifier {
+        Some(action) => emit(store, a, word::MODIFIER, u64::from(action)),
+        None => a,
     }
-    emit(store, a, word::MODIFIER, m - 1)
 }
 
 // The name that a function's target gives to the signature, 0 or 1 + it: a name alone is the target's first token, which carries `value`.
