@@ -19,7 +19,7 @@ use Rattle.grammar.specs.Reading.Expr.{Depth, expr}
 use Rattle.grammar.specs.Reading.Function.{Param, required, variadic, default, Params, variadic_param, plain_param, param, joined, params}
 use Rattle.nodes.specs.Parts.{Header, h_required, h_variadic, h_default, param_name, variadic_head, param_kind, param_head, join}
 use Rattle.scan.specs.Post.{As, Moved, Room, Failed, Wrote, Unread, Taken}
-use Rattle.nodes.specs.Parameters.{HeaderAt, Heads, DefaultOne, required_words, default_words, ParameterAt, ParamsRead, words_of, params_words, with_default, Fitting, JoinsTo, Unjoined, JoinedBy}
+use Rattle.nodes.specs.Parameters.{NamedBelow, HeaderAt, Heads, DefaultOne, required_words, default_words, ParameterAt, ParamsRead, words_of, params_words, with_default, Fitting, JoinsTo, Unjoined, JoinedBy}
 use Rattle.std.proofs.Common.{None, Ok, Err}
 use Rattle.scan.specs.declared.Halt.{Halt}
 use Rattle.nodes.specs.declared.Counts.{Counts}
@@ -164,6 +164,7 @@ pub record Round (D : Res Params) (low : Depth) (fuel : ℕ) (T : List ℕ) (pos
   pub run : Wrote params_words D (params low fuel) T pos pos 8 at S₀ Q₀ p a S Q
   pub fits : Fitting run.what c
   pub few : 2 * (c.required + c.default) ≤ p
+  pub below : NamedBelow c.variadic
   pub far : p₀ + 2 ≤ p
 
 -- what was read joined those before it, of which there are so many
@@ -174,7 +175,7 @@ joins_round low fuel before gm few o mv j room =
     let jf = j.few in
     let jo = jg.on in
     let ji = jg.within in
-    record { run = record { what = jg.what; same = gets _ jg o; moved = omega arith; room = room; text = j.text }; fits = j.fits; few = omega arith; far = omega arith }
+    record { run = record { what = jg.what; same = gets _ jg o; moved = omega arith; room = room; text = j.text }; fits = j.fits; few = omega arith; below = j.below; far = omega arith }
 
 module _ {D : Res Params} (low : Depth) (fuel : ℕ) {T : List ℕ} {pos at : ℕ} {S₀ Q₀ : List ℕ} {p a : ℕ} {c : Counts} {S Q S₁ Q₁ S₂ : List ℕ} (g : Wrote params_words D (params low fuel) T pos pos 8 at S₀ Q₀ p a S Q) (fits : Fitting g.what c) (few : 2 * (c.required + c.default) ≤ p)
     (on : As Q₀ D Q (params_go low (fuel - 1) g.what Q (drop p T))) (start : at ≤ length S₀) (within : a ≤ length S) (same_length : length S₁ ≡ length S) (same_length₂ : length S₂ ≡ length S) (space : a + 8 * (length T - p) + 8 ≤ length S) where

@@ -274,7 +274,7 @@ fn group(
     let pos = expect(tokens, kind::CLOSE_PAREN, number::GROUP_CLOSING, inner.pos)?;
     Ok(Cursor {
         pos,
-        at: group_end(store, inner.at, modifier.number),
+        at: group_end(store, inner.at, modifier.action),
     })
 }
 
@@ -530,7 +530,7 @@ fn expr(
     let left = tuple(tokens, store, queue, depth, start)?;
     let token = look(tokens, left.pos)?;
     let Some(op) = which_assignment_op(token.kind) else {
-        return unassigned(keyword.number, left);
+        return unassigned(keyword.action, left);
     };
     let next = Cursor {
         pos: left.pos + 2,
@@ -538,7 +538,7 @@ fn expr(
     };
     let target = expect_pattern(store, cursor.at, number::CANNOT_ASSIGN, next)?;
     let right = rhs(tokens, store, queue, depth, target)?;
-    let value = action(keyword.number) + 4 * u64::from(op);
+    let value = u64::from(action(keyword.action)) + 4 * u64::from(op);
     Ok(Cursor {
         at: emit(store, right.at, word::ASSIGNMENT, value),
         ..right
@@ -794,7 +794,7 @@ fn param(
         Head::Required(pos, v) => Ok(Parameter::Required(pos, v)),
         Head::Variadic(pos, v) => Ok(Parameter::Variadic(pos, v)),
         Head::Default(pos, v) => {
-            let at = required_end(store, cursor.at, counts.required, counts.default);
+            let at = required_end(store, cursor.at, counts);
             let value = expr(tokens, store, queue, depth, Cursor { pos, at })?;
             Ok(Parameter::Default(Cursor {
                 at: emit(store, value.at, word::DEFAULT_DEF, v),
@@ -951,7 +951,7 @@ fn lhs(
     let left = tuple(tokens, store, queue, depth, start)?;
     let target = expect_pattern(store, cursor.at, number::CANNOT_ASSIGN, left)?;
     Ok(Cursor {
-        at: modified(store, target.at, keyword.number),
+        at: modified(store, target.at, keyword.action),
         ..target
     })
 }

@@ -18,7 +18,6 @@ use Rattle.tree.specs.Records.{Small}
 use Rattle.tree.specs.Store.{Emitted, Result, leading}
 use Rattle.grammar.specs.Reading.Result.{Res, ok, fail, ifb, Error}
 use Rattle.grammar.specs.Reading.Expr.{Stmts}
-use Rattle.grammar.specs.Reading.Pattern.{modified}
 use Rattle.grammar.specs.Reading.Primary.{with_action, atom_error, literal, arguments}
 use Rattle.grammar.specs.Reading.Block.{whole, result, split, split_last, split_kids, split_before, block_split, block_of}
 use Rattle.grammar.specs.Reading.Function.{target_name}
@@ -34,7 +33,7 @@ use Rattle.scan.specs.Post.{Writes}
 use Rattle.nodes.specs.Ends.{Shape, other, a_tuple, lone, unpacked, Marked, statement, no_statement, Carries}
 use Rattle.nodes.specs.Parts.{path_words}
 use Rattle.nodes.specs.Lists.{Ends, keeps, gives, held_words, SuiteStands, HeldStands, Closing, Closable, Stands, Unders}
-use Rattle.nodes.proofs.Made.{over_one, all_snoc, count_snoc}
+use Rattle.nodes.proofs.Made.{all_snoc, count_snoc}
 use Rattle.nodes.proofs.Names.{failed, unwrote}
 
 -- THE LAST RECORD of a text: its words, and the text before it
@@ -81,29 +80,16 @@ act_other : (m k v : ℕ) (f : Forest) → (k ≡ NodeKind.Assignment → ⊥) �
 act_other zero k v f e = refl
 act_other (suc m) k v f e = rw (ne_eqb k NodeKind.Assignment e)
 
-act_some : (m k v : ℕ) (f : Forest) → (m ≡ 0 → ⊥) → k ≡ NodeKind.Assignment → with_action m (node k v f) ≡ node k (m - 1 + 4 * (v / 4)) f
-act_some zero k v f h e = absurd (h refl)
-act_some (suc m) k v f h e =
-    let z : suc m - 1 ≡ m = omega arith in
-    rw (eq-eqb k NodeKind.Assignment e, z)
-
 module _ (S X : List ℕ) (a m : ℕ) where
   pub acted_other : (t : Tree) → Small t → a ≤ length S → (get_or S (a - 2) 0 % 256 ≡ NodeKind.Assignment → ⊥) → take a S ≡ X ++ records t → take a S ≡ X ++ records (with_action m t)
   unfolding Small
   acted_other (node k v f) s within h text = rw (act_other m k v f (λ e. h (root_kind S X a k v f text within s.0 ∙ e))) text
 
-  pub acted_some : (t : Tree) → Small t → a ≤ length S → (m ≡ 0 → ⊥) → get_or S (a - 2) 0 % 256 ≡ NodeKind.Assignment → take a S ≡ X ++ records t → take a (set S (a - 1) (m - 1 + 4 * (get_or S (a - 1) 0 / 4))) ≡ X ++ records (with_action m t)
+  pub acted_some : (t : Tree) → Small t → a ≤ length S → get_or S (a - 2) 0 % 256 ≡ NodeKind.Assignment → take a S ≡ X ++ records t → take a (set S (a - 1) (m + 4 * (get_or S (a - 1) 0 / 4))) ≡ X ++ records (with_action (suc m) t)
   unfolding Small records
-  acted_some (node k v f) s within h e text =
+  acted_some (node k v f) s within e text =
       let r = root S X a k v f text within in
-      rw (act_some m k v f h (sym (root_kind S X a k v f text within s.0) ∙ e), r.value) (r.changed (m - 1 + 4 * (v / 4)) ∙ append_assoc X (all_records f) ((k + 256 * count f) ∷ (m - 1 + 4 * (v / 4)) ∷ []))
-
--- A PATTERN under a modifier
-pub modified_some : (m : ℕ) (t : Tree) → (m ≡ 0 → ⊥) → records (modified m t) ≡ records t ++ 302 ∷ (m - 1) ∷ []
-modified_some zero t e = absurd (e refl)
-modified_some (suc m) t e =
-    let z : suc m - 1 ≡ m = omega arith in
-    rw z (over_one NodeKind.Modifier m t)
+      rw (eq-eqb k NodeKind.Assignment (sym (root_kind S X a k v f text within s.0) ∙ e), r.value) (r.changed (m + 4 * (v / 4)) ∙ append_assoc X (all_records f) ((k + 256 * count f) ∷ (m + 4 * (v / 4)) ∷ []))
 
 -- THE NAME of a function's target
 pub named : {k value : ℕ} (t : Tree) → k ≡ kind_of t → k ≡ NodeKind.IdentifierPattern → Carries value t → value + 1 ≡ target_name t

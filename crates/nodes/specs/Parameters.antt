@@ -1,5 +1,5 @@
 -- What the contracts of the functions that read parameters say. Assumes nothing.
-use Rattle.std.specs.Prelude.{◌≡◌, Result, Ok, Err, List, [], ◌∷◌, ◌++◌, Option, None, Some, ℕ, ◌+◌, ◌*◌, ◌≤◌, ◌<◌, eqb, take, drop}
+use Rattle.std.specs.Prelude.{◌≡◌, Result, Ok, Err, List, [], ◌∷◌, ◌++◌, Option, None, Some, IfSome, ℕ, ◌+◌, ◌*◌, ◌≤◌, ◌<◌, eqb, take, drop}
 use Rattle.tree.specs.Tree.{Tree, Forest, none, more, snoc, count, records, all_records}
 use Rattle.tree.specs.Node
 use Rattle.grammar.specs.Reading.Result.{Res, ok, ifb, Error}
@@ -17,6 +17,10 @@ use Rattle.nodes.specs.declared.Joined.{Joined}
 -- a name with its access is below this
 abbrev pub name_bound : ℕ
 name_bound = 8589934592
+
+-- so is that of a variadic parameter, if there is one
+abbrev pub NamedBelow : Option ℕ → Type 0
+NamedBelow name = IfSome name (λ v. v < name_bound)
 
 -- THE HEAD of a parameter
 pub record HeaderAt (make : ℕ → Header) (d : List Error → Res Header) (T : List ℕ) (least p v : ℕ) : Type 0 where
@@ -83,6 +87,7 @@ pub record JoinsTo (d : List Error → Res Params) (X T : List ℕ) (pos : ℕ) 
   pub got : Got d T pos j.end.pos
   pub fits : Fitting got.what j.counts
   pub few : j.counts.required + j.counts.default ≤ before.required + before.default + 1
+  pub below : NamedBelow j.counts.variadic
   pub up : at ≤ j.end.at
   pub far : j.end.at ≤ at + 2
   pub text : take j.end.at S' ≡ X ++ params_words got.what

@@ -9,7 +9,7 @@ ghost use Rattle.grammar.specs.Reading.Function.{required as a_required, variadi
 ghost use Rattle.scan.specs.Post.{Finds, itself, Writes};
 ghost use Rattle.nodes.specs.Parts.{named_field as named_field_def, item_end as item_end_def, param_name as param_name_def, variadic_head, param_kind as param_kind_def, param_head as param_head_def, separator as separator_def, join, signature_words};
 ghost use Rattle.nodes.specs.Ends.{Added, Ended, as_it_is};
-ghost use Rattle.nodes.specs.Parameters.{name_bound, Heads, required_words, params_words, variadic_of, with_default, Fitting, Joins, JoinedBy, One};
+ghost use Rattle.nodes.specs.Parameters.{name_bound, NamedBelow, Heads, required_words, params_words, variadic_of, with_default, Fitting, Joins, JoinedBy, One};
 
 use crate::records::list_end;
 use crate::{Counts, Head, Joined, Parameter};
@@ -166,12 +166,12 @@ pub fn param_head(tokens: &[u64], pos: usize) -> Result<Head, Halt>
 }
 
 // The list of the required parameters stands before the first default.
-pub fn required_end(store: &mut [u64], a: usize, required: u64, default: u64) -> usize
-    requires { (a + 2 ≤ length store.old) × (required ≤ 65536) }
-    ensures { Added a 2 (required_words required default) result store.old store.new }
+pub fn required_end(store: &mut [u64], a: usize, counts: Counts) -> usize
+    requires { (a + 2 ≤ length store.old) × (counts.required ≤ 65536) }
+    ensures { Added a 2 (required_words counts.required counts.default) result store.old store.new }
 {
-    if default == 0 {
-        return list_end(store, a, required);
+    if counts.default == 0 {
+        return list_end(store, a, counts.required);
     }
     a
 }
@@ -192,7 +192,7 @@ pub fn params_end(store: &mut [u64], a: usize, counts: Counts) -> usize
     requires { (a + 6 ≤ length store.old) × (counts.required ≤ 65536) × (counts.default ≤ 65536) }
     ensures { Ended params_words (λ ps. Fitting ps counts) signature_words as_it_is a 6 result store.old store.new }
 {
-    let b = required_end(store, a, counts.required, counts.default);
+    let b = required_end(store, a, counts);
     let d = list_end(store, b, counts.default);
     variadic_end(store, d, counts.variadic)
 }
@@ -245,7 +245,7 @@ fn join_required(
     counts: Counts,
     cursor: Cursor,
 ) -> Result<Joined, Halt>
-    requires { (cursor.pos ≤ length tokens.now) × (cursor.at + 2 ≤ length store.old) × (counts.required ≤ 65536) }
+    requires { (cursor.pos ≤ length tokens.now) × (cursor.at + 2 ≤ length store.old) × (counts.required ≤ 65536) × NamedBelow counts.variadic }
     ensures { (X : List ℕ) (ps : Params) → Fitting ps counts → take cursor.at store.old ≡ X ++ params_words ps → Joins (λ q. join ps (a_required v) q (drop cursor.pos tokens.now)) X tokens.now cursor.pos counts cursor.at store.old store.new result }
 {
     let pos = separator(tokens, cursor.pos)?.pos;
@@ -266,7 +266,7 @@ fn join_required(
 }
 
 fn join_variadic(tokens: &[u64], v: u64, counts: Counts, cursor: Cursor) -> Result<Joined, Halt>
-    requires { cursor.pos ≤ length tokens.now }
+    requires { (cursor.pos ≤ length tokens.now) × (v < name_bound) }
     ensures { (S X : List ℕ) (ps : Params) → Fitting ps counts → take cursor.at S ≡ X ++ params_words ps → Joins (λ q. join ps (a_variadic v) q (drop cursor.pos tokens.now)) X tokens.now cursor.pos counts cursor.at S S result }
 {
     let behind = separator(tokens, cursor.pos)?;
@@ -289,7 +289,7 @@ fn join_variadic(tokens: &[u64], v: u64, counts: Counts, cursor: Cursor) -> Resu
 }
 
 fn join_default(tokens: &[u64], counts: Counts, cursor: Cursor) -> Result<Joined, Halt>
-    requires { (cursor.pos ≤ length tokens.now) × (counts.default ≤ 65536) }
+    requires { (cursor.pos ≤ length tokens.now) × (counts.default ≤ 65536) × NamedBelow counts.variadic }
     ensures { (S X : List ℕ) (ps : Params) (v : ℕ) (e : Tree) → Fitting ps counts → take cursor.at S ≡ X ++ params_words (with_default ps v e) → Joins (λ q. join ps (a_default v e) q (drop cursor.pos tokens.now)) X tokens.now cursor.pos counts cursor.at S S result }
 {
     let pos = separator(tokens, cursor.pos)?.pos;
@@ -310,7 +310,7 @@ pub fn joined(
     counts: Counts,
     at: usize,
 ) -> Result<Joined, Halt>
-    requires { One (length tokens.now) (length store.old) at one × (counts.required ≤ 65536) × (counts.default ≤ 65536) }
+    requires { One (length tokens.now) (length store.old) at one × (counts.required ≤ 65536) × (counts.default ≤ 65536) × NamedBelow counts.variadic }
     ensures { JoinedBy tokens.now counts at store.old store.new one result }
 {
     match one {

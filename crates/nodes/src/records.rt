@@ -12,6 +12,7 @@ ghost use Rattle.grammar.specs.Reading.Block.{block_of};
 ghost use Rattle.grammar.specs.Reading.Function.{target_name as target_name_def};
 ghost use Rattle.grammar.specs.Reading.Stmt.{stmt_list_of, lone_ellipsis as lone_ellipsis_def};
 ghost use Rattle.pattern.specs.Contract.{ATree, Whole};
+ghost use Rattle.scan.specs.Parts.{keyword_code};
 ghost use Rattle.scan.specs.Post.{Writes};
 ghost use Rattle.nodes.specs.Parts.{tuple_words, path_words, unpack_end as unpack_end_def, expression_end as expression_end_def};
 ghost use Rattle.nodes.specs.Ends.{Added, Ended, Shape, AShape, Counts, CountsAfter, Any, as_it_is, Marked, Carries};
@@ -20,7 +21,7 @@ ghost use Rattle.nodes.specs.Lists.{Closing, Blocked, Closable, Unders};
 use pattern::deciding::can_be_pattern;
 use pattern::moving::move_to_pattern;
 use scan::tokens::atom_error;
-use scan::{Cursor, Failure, Halt, Listed, number};
+use scan::{Action, Cursor, Failure, Halt, Listed, number};
 use token::kind;
 use tree::{block_result, emit, node, word};
 
@@ -74,35 +75,54 @@ pub fn literal(store: &mut [u64], kind: u64, value: u64, cursor: Cursor) -> Resu
     })
 }
 
-// A group's modifier, 0 or 1 + its action, is handed to an assignment inside.
-fn with_action(store: &mut [u64], a: usize, m: u64)
-    requires { (2 ≤ a) × (a ≤ length store.old) × (m ≤ 4) }
-    ensures { (X : List ℕ) (t : Tree) → Small t → take a store.old ≡ X ++ records t → take a store.new ≡ X ++ records (with_action_def m t) }
+// A group's modifier is handed to an assignment inside.
+fn with_action(store: &mut [u64], a: usize, modifier: Option<Action>)
+    requires { (2 ≤ a) × (a ≤ length store.old) }
+    ensures { (X : List ℕ) (t : Tree) → Small t → take a store.old ≡ X ++ records t → take a store.new ≡ X ++ records (with_action_def (keyword_code modifier) t) }
 {
-    if m == 0 {
+    let Some(action) = modifier else {
         return;
-    }
+    };
     if kind_of(store, a) == node::ASSIGNMENT {
         let value = store[a - 1];
-        store[a - 1] = m - 1 + 4 * (value / 4);
+        store[a - 1] = u64::from(action) + 4 * (value / 4);
     }
 }
 
-pub fn group_end(store: &mut [u64], a: usize, m: u64) -> usize
-    requires { (2 ≤ a) × (a + 2 ≤ length store.old) × (m ≤ 4) }
-    ensures { Ended records Small records (λ t. Node.group m (with_action_def m t)) a 2 result store.old store.new }
+// What a group's record has for its modifier: 0, or 1 + its action.
+fn modifier_value(modifier: Option<Action>) -> u64
+    ensures { result ≡ keyword_code modifier }
 {
-    with_action(store, a, m);
-    emit(store, a, word::GROUP, m)
+    match modifier {
+        Some(action) => 1 + u64::from(action),
+        None => 0,
+    }
+}
+
+pub fn group_end(store: &mut [u64], a: usize, modifier: Option<Action>) -> usize
+    requires { (2 ≤ a) × (a + 2 ≤ length store.old) }
+    ensures { Ended records Small records (λ t. Node.group (keyword_code modifier) (with_action_def (keyword_code modifier) t)) a 2 result store.old store.new }
+{
+    with_action(store, a, modifier);
+    emit(store, a, word::GROUP, modifier_value(modifier))
+}
+
+// `Absent`, and the record over it.
+fn absent_under(store: &mut [u64], a: usize, word: u64) -> usize
+    requires { a + 4 ≤ length store.old }
+    ensures { Added a 4 (0 ∷ 0 ∷ word ∷ 0 ∷ []) result store.old store.new }
+{
+    let b = emit(store, a, word::ABSENT, 0);
+    emit(store, b, word, 0)
 }
 
 // `...` alone.
+#[tactic(auto, unfolding(tree::specs::Tree::records, tree::specs::Tree::count))]
 pub fn lone_unpack(store: &mut [u64], a: usize) -> usize
     requires { a + 4 ≤ length store.old }
     ensures { Added a 4 (records (Node.unpack Node.absent)) result store.old store.new }
 {
-    let b = emit(store, a, word::ABSENT, 0);
-    emit(store, b, word::UNPACK, 0)
+    absent_under(store, a, word::UNPACK)
 }
 
 // `...` behind what was read.
@@ -177,15 +197,15 @@ pub fn expect_pattern(
     })
 }
 
-// A pattern under a modifier, 0 or 1 + its action.
-pub fn modified(store: &mut [u64], a: usize, m: u64) -> usize
-    requires { (a + 2 ≤ length store.old) × (m ≤ 4) }
-    ensures { Ended records Any records (modified_def m) a 2 result store.old store.new }
+// A pattern under a modifier.
+pub fn modified(store: &mut [u64], a: usize, modifier: Option<Action>) -> usize
+    requires { a + 2 ≤ length store.old }
+    ensures { Ended records Any records (modified_def (keyword_code modifier)) a 2 result store.old store.new }
 {
-    if m == 0 {
-        return a;
+    match modifier {
+        Some(action) => emit(store, a, word::MODIFIER, u64::from(action)),
+        None => a,
     }
-    emit(store, a, word::MODIFIER, m - 1)
 }
 
 // The name that a function's target gives to the signature, 0 or 1 + it: a name alone is the target's first token, which carries `value`.
@@ -244,8 +264,7 @@ fn suite_end(store: &mut [u64], a: usize, n: u64) -> usize
     ensures { Added a 6 ((1 + 256 * n) ∷ 0 ∷ 0 ∷ 0 ∷ 519 ∷ 0 ∷ []) result store.old store.new }
 {
     let b = list_end(store, a, n);
-    let d = emit(store, b, word::ABSENT, 0);
-    emit(store, d, word::STMT_LIST, 0)
+    absent_under(store, b, word::STMT_LIST)
 }
 
 // A block without result, behind its statement list.
@@ -253,8 +272,7 @@ fn resultless(store: &mut [u64], a: usize) -> usize
     requires { a + 4 ≤ length store.old }
     ensures { Added a 4 (0 ∷ 0 ∷ 534 ∷ 0 ∷ []) result store.old store.new }
 {
-    let b = emit(store, a, word::ABSENT, 0);
-    emit(store, b, word::EXPR_BLOCK, 0)
+    absent_under(store, a, word::EXPR_BLOCK)
 }
 
 // A block of n statements without control (`ExprBlock::from`): the last one is the result, if it is an expression statement, which then begins at `last`.
@@ -321,6 +339,5 @@ pub fn if_end(store: &mut [u64], a: usize, n: u64) -> usize
     ensures { Added a 6 ((1 + 256 * n) ∷ 0 ∷ 0 ∷ 0 ∷ 530 ∷ 0 ∷ []) result store.old store.new }
 {
     let b = list_end(store, a, n);
-    let d = emit(store, b, word::ABSENT, 0);
-    emit(store, d, word::IF_EXPR, 0)
+    absent_under(store, b, word::IF_EXPR)
 }

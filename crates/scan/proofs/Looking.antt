@@ -14,7 +14,10 @@ use Rattle.token.specs.declared.Token.{Token}
 use Rattle.grammar.specs.Reading.Number
 use Rattle.grammar.specs.Reading.Result.{Res, ok, fail, stop, then, ifb, Error}
 use Rattle.grammar.specs.Reading.Look.{look, expect, try_label, keyword, try_assign_keyword}
+use Rattle.scan.specs.Parts.{action_number}
 use Rattle.scan.specs.Post.{Unread, Taken}
+use Rattle.scan.specs.declared.Action.{Action}
+use Rattle.scan.specs.declared.Action.TheVariants.{AssignLocal, AssignNonLocal, DeclImmutable, DeclMutable}
 use Rattle.scan.specs.declared.Halt.{Halt}
 use Rattle.scan.specs.declared.Halt.TheVariants.{Fail, Stop}
 
@@ -83,6 +86,13 @@ module _ (q : List Error) (ts : List ℕ) where
   pub keyword_looks : try_assign_keyword q ts ≡ then q (look q ts) (λ tok q₁ rest. ifb (eqb (keyword tok.kind) 0) (λ _. ok 0 ts) (λ _. ok (keyword tok.kind) rest))
   unfolding try_assign_keyword
   keyword_looks = refl
+
+-- an action's number
+pub action_most : (action : Action) → action_number action ≤ 3
+action_most AssignLocal = omega arith
+action_most AssignNonLocal = omega arith
+action_most DeclImmutable = omega arith
+action_most DeclMutable = omega arith
 
 -- a keyword's number
 pub keyword_below : (k : ℕ) → keyword k < 5

@@ -1,6 +1,9 @@
 // How a reading ends, and what looks at the tokens and at the errors that wait.
 #![tactic(auto)]
 
+ghost use Rattle.std.specs.Prelude.{◌≡◌};
+ghost use Rattle.scan.specs.Parts.{action_number};
+
 pub mod number;
 pub mod queue;
 pub mod tokens;
@@ -28,11 +31,36 @@ pub enum Halt {
 }
 
 // A number that was read, and past which word of the tokens.
-// Stays a number where it may be none (a label, a keyword): 0, or 1 + it, is what the record has that it goes into, and nothing takes it apart before.
+// Stays a number where it may be none (a label): 0, or 1 + it, is what the record has that it goes into, and nothing takes it apart before.
 #[derive(Clone, Copy)]
 pub struct Found {
     pub pos: usize,
     pub number: u64,
+}
+
+// The `MatchAction` that a keyword before an assignment stands for: `local`, `nonlocal`, `let` and `var`.
+#[derive(Clone, Copy)]
+pub enum Action {
+    AssignLocal,
+    AssignNonLocal,
+    DeclImmutable,
+    DeclMutable,
+}
+
+// An action's number is its place in its enum.
+impl From<Action> for u64 {
+    ghost from_gives = { λ action number. number ≡ action_number action };
+
+    fn from(action: Action) -> u64 {
+        action as u64
+    }
+}
+
+// The keyword before an assignment, if there is one, and past which word of the tokens.
+#[derive(Clone, Copy)]
+pub struct Keyword {
+    pub pos: usize,
+    pub action: Option<Action>,
 }
 
 // The statements of a list without control: past which words they end, how many they are, and where a last expression statement starts, the end if there

@@ -1,5 +1,5 @@
 // What stands at a place of the tokens, and what is read of them without recursion.
-ghost use Rattle.std.specs.Prelude.{◌≡◌, ◌&&◌, ◌||◌, ◌+◌, ◌≤◌, eqb, length, drop};
+ghost use Rattle.std.specs.Prelude.{◌≡◌, ◌&&◌, ◌||◌, suc, ◌+◌, ◌≤◌, eqb, length, drop};
 ghost use Rattle.token.specs.Kind;
 ghost use Rattle.grammar.specs.Reading.Look.{expect as expect_def, try_label as try_label_def, keyword as keyword_def, try_assign_keyword, action as action_def};
 ghost use Rattle.grammar.specs.Reading.Expr.{keyword_alone as keyword_alone_def};
@@ -7,10 +7,10 @@ ghost use Rattle.grammar.specs.Reading.Primary.{atom_error as atom_error_def};
 ghost use Rattle.grammar.specs.Reading.Stmt.{ends as ends_def, is_control as is_control_def, not_last as not_last_def, starts_stmt};
 ghost use Rattle.grammar.specs.Reading.Next.{start as start_def};
 ghost use Rattle.scan.specs.Post.{Saw, Reads, Finds, itself, value_of};
-ghost use Rattle.scan.specs.Parts.{unassigned_result, goes_on, not_allowed as not_allowed_def, until};
+ghost use Rattle.scan.specs.Parts.{action_number, keyword_code, keyword_found, unassigned_result, goes_on, not_allowed as not_allowed_def, until};
 ghost use Rattle.scan.specs.Lists.{Within, Passes};
 
-use crate::{Cursor, Failure, Found, Halt, Listed, Suite, Until, number};
+use crate::{Action, Cursor, Failure, Found, Halt, Keyword, Listed, Suite, Until, number};
 use grammar::limit;
 use token::{Token, Unread, kind};
 
@@ -76,67 +76,64 @@ pub fn try_label(tokens: &[u64], pos: usize) -> Result<Found, Halt>
     })
 }
 
-// 0, or 1 + the `MatchAction` of a keyword.
-fn keyword(kind: u64) -> u64
-    ensures { result ≡ keyword_def kind }
+// The action that a token of this kind stands for before an assignment.
+fn keyword(kind: u64) -> Option<Action>
+    ensures { keyword_code result ≡ keyword_def kind }
 {
     match kind {
-        kind::LOCAL => 1,
-        kind::NONLOCAL => 2,
-        kind::LET => 3,
-        kind::VAR => 4,
-        _ => 0,
+        kind::LOCAL => Some(Action::AssignLocal),
+        kind::NONLOCAL => Some(Action::AssignNonLocal),
+        kind::LET => Some(Action::DeclImmutable),
+        kind::VAR => Some(Action::DeclMutable),
+        _ => None,
     }
 }
 
-// `try_parse_assign_keyword`: 0, or 1 + the `MatchAction`.
-pub fn assign_keyword(tokens: &[u64], pos: usize) -> Result<Found, Halt>
+// `try_parse_assign_keyword`.
+pub fn assign_keyword(tokens: &[u64], pos: usize) -> Result<Keyword, Halt>
     requires { pos ≤ length tokens.now }
-    ensures { Finds itself (λ q. try_assign_keyword q (drop pos tokens.now)) tokens.now pos pos (pos + 2) 5 result }
+    ensures { Finds itself (λ q. try_assign_keyword q (drop pos tokens.now)) tokens.now pos pos (pos + 2) 5 (keyword_found result) }
 {
-    let number = keyword(look(tokens, pos)?.kind);
-    if number == 0 {
-        return Ok(Found { pos, number });
+    match keyword(look(tokens, pos)?.kind) {
+        Some(action) => Ok(Keyword {
+            pos: pos + 2,
+            action: Some(action),
+        }),
+        None => Ok(Keyword { pos, action: None }),
     }
-    Ok(Found {
-        pos: pos + 2,
-        number,
-    })
 }
 
-// The action of an assignment: `AssignLocal`, 0, without a keyword.
-pub fn action(m: u64) -> u64
-    ensures { result ≡ action_def m }
+// The action of an assignment: `AssignLocal` without a keyword.
+pub fn action(keyword: Option<Action>) -> Action
+    ensures { action_number result ≡ action_def (keyword_code keyword) }
 {
-    if m == 0 {
-        return 0;
-    }
-    m - 1
+    keyword.unwrap_or(Action::AssignLocal)
 }
 
-// The error of a keyword, 1 + its action, that no assignment follows.
-fn keyword_alone(m: u64) -> u64
-    ensures { result ≡ keyword_alone_def m }
+// The error of a keyword that no assignment follows.
+fn keyword_alone(action: Action) -> u64
+    ensures { result ≡ keyword_alone_def (suc (action_number action)) }
 {
-    match m {
-        1 => number::LOCAL_ALONE,
-        2 => number::NONLOCAL_ALONE,
-        3 => number::LET_ALONE,
-        _ => number::VAR_ALONE,
+    match action {
+        Action::AssignLocal => number::LOCAL_ALONE,
+        Action::AssignNonLocal => number::NONLOCAL_ALONE,
+        Action::DeclImmutable => number::LET_ALONE,
+        Action::DeclMutable => number::VAR_ALONE,
     }
 }
 
 // An expression that no assignment operator follows: it may not have a keyword before it.
-pub fn unassigned(m: u64, cursor: Cursor) -> Result<Cursor, Halt>
-    ensures { result ≡ unassigned_result m cursor }
+#[tactic(auto, unfolding(crate::specs::Parts::unassigned_result, grammar::specs::Reading::Result::ifb))]
+pub fn unassigned(keyword: Option<Action>, cursor: Cursor) -> Result<Cursor, Halt>
+    ensures { result ≡ unassigned_result (keyword_code keyword) cursor }
 {
-    if m == 0 {
-        return Ok(cursor);
+    match keyword {
+        Some(action) => Err(Halt::Fail(Failure {
+            error: keyword_alone(action),
+            pos: cursor.pos,
+        })),
+        None => Ok(cursor),
     }
-    Err(Halt::Fail(Failure {
-        error: keyword_alone(m),
-        pos: cursor.pos,
-    }))
 }
 
 // The error of a token that is no atom.

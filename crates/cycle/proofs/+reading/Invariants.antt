@@ -9,7 +9,7 @@ use Rattle.grammar.specs.Reading.Function.{params, function_param_list}
 use Rattle.grammar.specs.Reading.Primary.{path as path_def, table_items, table_literal}
 use Rattle.grammar.specs.Reading.Stmt.{stmts, synchronize}
 use Rattle.nodes.specs.Lists.{Ends}
-use Rattle.nodes.specs.Parameters.{params_words, Fitting}
+use Rattle.nodes.specs.Parameters.{NamedBelow, params_words, Fitting}
 use Rattle.operator.specs.Operator.{level_count}
 use Rattle.scan.specs.Post.{As, Moved, Wrote}
 use Rattle.scan.specs.Parts.{until}
@@ -206,6 +206,7 @@ pub record GoingSig (T S₀ Q₀ : List ℕ) (depth pos at : ℕ) (S Q : List �
   pub run : Wrote params_words (function_param_list (at_depth depth) Q₀ (drop pos T)) (params (at_depth depth) fuel) T pos pos 8 at S₀ Q₀ p a S Q
   pub fits : Fitting run.what c
   pub few : 2 * (c.required + c.default) ≤ p
+  pub below : NamedBelow c.variadic
   pub kept : length S ≡ length S₀
 
 abbrev pub invariant-sig-loop-token : goal.invariant-sig-loop-token

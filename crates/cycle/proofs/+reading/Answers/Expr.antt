@@ -1,25 +1,21 @@
 -- What is left to show of `cycle::expr` in its cycle of calls. Assumes nothing.
 use mathlib.Core.Path.{refl, ap, ◌∙◌}
 use mathlib.Core.List.{List, ◌++◌}
-use Prim.Native.Nat.{ℕ, zero, suc, ◌≤◌}
+use Prim.Native.Nat.{ℕ}
 use lib.Dec.{eqb}
 use borrow.Author.Tests.{eqb-true, eqb-false}
 use native.Mathlib.Omega.{arith}
 use lib.ListN.{take}
 use Rattle.operator.specs.Laws.{assignment_most}
 use Rattle.tree.specs.Tree.{two, count, records}
-use Rattle.grammar.specs.Reading.Look.{action}
 use Rattle.grammar.specs.Reading.Depth.{at_depth}
-use Rattle.scan.specs.Parts.{unassigned_result}
+use Rattle.scan.specs.Parts.{keyword_code, unassigned_result}
+use Rattle.scan.proofs.Looking.{action_most}
 use Rattle.scan.proofs.Laws.{hands, way, link, goes, done, undone, taken, fails, lacks, fails_unseen, found, unfound, gets, prefix, relabel}
 use Rattle.cycle.proofs.PathsExpr.{expr_step, expr_plain, expr_alone, expr_assign}
 use Rattle.cycle.proofs.Shapes.{given, shape_small, tuple_shape}
 use Rattle.cycle.proofs.Writing.{stored, unstored, either_way, told, kids_two, made_over, stored_prefix, stored_up, unstored_fails, stands}
 use Rattle.cycle.proofs.+reading.Goals as goal
-
-action_le : (m : ℕ) → action m ≤ m
-action_le zero = omega arith
-action_le (suc m) = omega arith
 
 pub expr-returns-in_err-left : goal.expr-returns-in_err-left
 expr-returns-in_err-left t c = let x = found c.in_ok-keyword.ensures in
@@ -37,9 +33,9 @@ expr-returns-in_default t c = let x = found c.in_ok-keyword.ensures in
     let w = done c.in_ok-left.ensures in
     let s1 = goes _ s0 w.same in
     let tk = taken c.in_ok-token.ensures in
-    either_way (eqb c.in_ok-keyword.keyword.number 0)
-    (λ e. record { how = relabel w w.what refl (link s1 (way _ (expr_plain (at_depth c.args.depth) c.in_ok-keyword.keyword.number w.what _ tk c.which_assignment_op.ensures c.in_default.not-Some (eqb-true _ _ e)))) (omega (arith, c.requires, w.moved, xo)) (omega (arith, c.requires, w.moved, w.room, xo)) })
-    (λ e. record { how = record { how = record { same = link s1 (way _ (expr_alone (at_depth c.args.depth) c.in_ok-keyword.keyword.number w.what _ tk c.which_assignment_op.ensures c.in_default.not-Some (eqb-false _ _ e))); moved = omega (arith, c.requires, w.moved, xo); far = omega (arith, c.requires, w.moved, xo); text = prefix w (omega (arith, c.requires)) } } })
+    either_way (eqb (keyword_code c.in_ok-keyword.keyword.action) 0)
+    (λ e. record { how = relabel w w.what refl (link s1 (way _ (expr_plain (at_depth c.args.depth) (keyword_code c.in_ok-keyword.keyword.action) w.what _ tk c.which_assignment_op.ensures c.in_default.not-Some (eqb-true _ _ e)))) (omega (arith, c.requires, w.moved, xo)) (omega (arith, c.requires, w.moved, w.room, xo)) })
+    (λ e. record { how = record { how = record { same = link s1 (way _ (expr_alone (at_depth c.args.depth) (keyword_code c.in_ok-keyword.keyword.action) w.what _ tk c.which_assignment_op.ensures c.in_default.not-Some (eqb-false _ _ e))); moved = omega (arith, c.requires, w.moved, xo); far = omega (arith, c.requires, w.moved, xo); text = prefix w (omega (arith, c.requires)) } } })
     c.unassigned.ensures
 
 pub expr-expect_pattern-requires : goal.expr-expect_pattern-requires
@@ -61,7 +57,7 @@ expr-returns-in_err-target t c = let x = found c.in_ok-keyword.ensures in
     let tk = taken c.in_ok-token.ensures in
     let small = shape_small (given (tuple_shape _ _ _) w.same) in
     let whole = stands w small (omega (arith, c.requires)) (omega (arith, c.requires, w.moved, w.room, xo, xw, c.tuple.auto.store)) in
-    let q2 = link s1 (way _ (expr_assign (at_depth c.args.depth) c.in_ok-keyword.keyword.number w.what _ tk c.which_assignment_op.ensures c.in-Some.is refl refl)) in
+    let q2 = link s1 (way _ (expr_assign (at_depth c.args.depth) (keyword_code c.in_ok-keyword.keyword.action) w.what _ tk c.which_assignment_op.ensures c.in-Some.is refl refl)) in
     let kept = prefix w (omega (arith, c.requires)) in
     hands c.from_residual-in_err-target.ensures.1 (unstored_fails _ (unstored (c.in_err-target.ensures w.what c.args.tokens.now whole tk.within)) q2 kept (omega (arith, c.requires, w.moved, xo)))
 
@@ -91,7 +87,7 @@ expr-returns-in_err-right t c = let x = found c.in_ok-keyword.ensures in
     let pt = stored (c.in_ok-target.ensures w.what c.args.tokens.now whole tk.within) in
     let po = pt.got.on in
     let pw = pt.got.within in
-    let q2 = link s1 (way _ (expr_assign (at_depth c.args.depth) c.in_ok-keyword.keyword.number w.what _ tk c.which_assignment_op.ensures c.in-Some.is refl refl)) in
+    let q2 = link s1 (way _ (expr_assign (at_depth c.args.depth) (keyword_code c.in_ok-keyword.keyword.action) w.what _ tk c.which_assignment_op.ensures c.in-Some.is refl refl)) in
     let s3 = gets _ pt.got q2 in
     let kept = prefix w (omega (arith, c.requires)) in
     let stays = stored_prefix c.args.cursor.at c.tuple.new.store pt (omega (arith, c.requires, c.tuple.auto.store)) ∙ kept in
@@ -99,10 +95,9 @@ expr-returns-in_err-right t c = let x = found c.in_ok-keyword.ensures in
     hands c.from_residual-in_err-right.ensures.1 (fails _ s3 (undone c.in_err-right.ensures) stays (omega (arith, c.requires, w.moved, w.room, xo, xw, po, pw, up)))
 
 pub expr-overflow_add-value : goal.expr-overflow_add-value
-expr-overflow_add-value t c = let x = found c.in_ok-keyword.ensures in
-    let m = action_le c.in_ok-keyword.keyword.number in
+expr-overflow_add-value t c = let m = action_most c.action.result in
     let n = assignment_most c.in-Some.op in
-    omega arith
+    omega (arith, c.from.ensures, c.from-2.ensures)
 
 pub expr-emit-requires : goal.expr-emit-requires
 expr-emit-requires t c = let x = found c.in_ok-keyword.ensures in
@@ -136,7 +131,7 @@ expr-returns t c =
     let kept = prefix w (omega (arith, c.requires)) in
     let up = stored_up c.args.cursor.at c.tuple.new.store pt (omega (arith, c.requires, c.tuple.auto.store)) in
     let u = done c.in_ok-right.ensures in
-    let q4 = link s1 (way _ (expr_assign (at_depth c.args.depth) c.in_ok-keyword.keyword.number w.what _ tk c.which_assignment_op.ensures c.in-Some.is c.action.ensures c.from.ensures)) in
+    let q4 = link s1 (way _ (expr_assign (at_depth c.args.depth) (keyword_code c.in_ok-keyword.keyword.action) w.what _ tk c.which_assignment_op.ensures c.in-Some.is (c.from.ensures ∙ c.action.ensures) c.from-2.ensures)) in
     let e = c.emit.ensures in
     let en = e.next in
     let text = pt.text ∙ ap (λ (l : List ℕ). l ++ records pt.got.what) kept in

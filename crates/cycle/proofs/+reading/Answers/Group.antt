@@ -42,7 +42,7 @@ group-group_end-requires t c = let tk = taken c.in_ok-token.ensures in
     let yo = y.on in
     let yw = y.within in
     let h = taller w (omega (arith, c.requires)) in
-    omega (arith, c.requires, h, w.moved, w.room, xo, yo, yw, x.below, c.expr.auto.store)
+    omega (arith, c.requires, h, w.moved, w.room, xo, yo, yw, c.expr.auto.store)
 
 pub group-returns : goal.group-returns
 group-returns t c = let tk = taken c.in_ok-token.ensures in

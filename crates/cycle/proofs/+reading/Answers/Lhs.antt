@@ -53,8 +53,7 @@ lhs-modified-requires t c = let f = found c.in_ok-keyword.ensures in
     let inside = stands w small (omega (arith, c.requires, gon, gwithin)) (omega (arith, c.requires, gon, gwithin, w.moved, w.room, c.tuple.auto.store)) in
     let ep = c.in_ok-target.ensures w.what c.args.tokens.now inside w.moved.within in
     let st = stored ep in
-    let below = f.below in
-    (omega (arith, c.requires, gon, gwithin, w.moved, w.room, st.far, c.tuple.auto.store, c.expect_pattern.auto.store), omega (arith, below))
+    omega (arith, c.requires, gon, gwithin, w.moved, w.room, st.far, c.tuple.auto.store, c.expect_pattern.auto.store)
 
 pub lhs-returns : goal.lhs-returns
 lhs-returns t c = let f = found c.in_ok-keyword.ensures in

@@ -9,7 +9,7 @@ use Rattle.cycle.proofs.PathsParams.{params_looks, params_close, params_more, ro
 use Rattle.cycle.proofs.+reading.Goals as goal
 
 pub sig-loop-token-init : goal.sig-loop-token-init
-sig-loop-token-init t c = record { fuel = length (drop c.args.cursor.pos c.args.tokens.now); enough = rw length-drop (omega arith); run = record { what = no_params; same = here; moved = omega arith; room = omega arith; text = no_words_yet (take c.args.cursor.at c.args.store.now) }; fits = none_fit; few = omega arith; kept = refl }
+sig-loop-token-init t c = record { fuel = length (drop c.args.cursor.pos c.args.tokens.now); enough = rw length-drop (omega arith); run = record { what = no_params; same = here; moved = omega arith; room = omega arith; text = no_words_yet (take c.args.cursor.at c.args.store.now) }; fits = none_fit; few = omega arith; below = tt; kept = refl }
 
 pub sig-returns-then-token-eq-CLOSE_PAREN : goal.sig-returns-then-token-eq-CLOSE_PAREN
 sig-returns-then-token-eq-CLOSE_PAREN t c = let i = c.loop-token.invariant in
@@ -32,7 +32,7 @@ sig-loop-token-preserved t c = let i = c.loop-token.invariant in
     let tk = taken c.in_ok-token.ensures in
     let on = link g.same (way _ (params_more _ g.what _ i.fuel _ i.enough tk c.if-token-eq-CLOSE_PAREN.false)) in
     let rd = round (at_depth c.args.depth) i.fuel g i.fits i.few on (omega (arith, c.requires)) (omega (arith, c.requires)) (omega (arith, c.requires)) (omega (arith, c.requires)) (omega (arith, c.requires)) c.in_ok-one.ensures c.in_ok-all.ensures in
-    record { fuel = i.fuel - 1; enough = omega (arith, i.enough, rd.far); run = rd.run; fits = rd.fits; few = rd.few; kept = omega arith }
+    record { fuel = i.fuel - 1; enough = omega (arith, i.enough, rd.far); run = rd.run; fits = rd.fits; few = rd.few; below = rd.below; kept = omega arith }
 
 pub sig-returns-in_err-one : goal.sig-returns-in_err-one
 sig-returns-in_err-one t c = let i = c.loop-token.invariant in

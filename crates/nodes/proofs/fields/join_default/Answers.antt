@@ -12,4 +12,4 @@ returns-in_err-pos c = λ S X ps v e t s. rw (handed c.from_residual.ensures.1) 
 
 pub returns : goal.returns
 returns c = let f = found c.in_ok-pos.ensures in
-    λ S X ps v e t s. record { how = record { got = joins_default ps f.got v e; fits = record { are_required = t.are_required; are_default = count_snoc ps.default_list _ ∙ ap (λ (n : ℕ). n + 1) t.are_default; is_variadic = t.is_variadic }; few = omega arith; up = omega arith; far = omega arith; text = s } }
+    λ S X ps v e t s. record { how = record { got = joins_default ps f.got v e; fits = record { are_required = t.are_required; are_default = count_snoc ps.default_list _ ∙ ap (λ (n : ℕ). n + 1) t.are_default; is_variadic = t.is_variadic }; few = omega arith; below = c.requires.2; up = omega arith; far = omega arith; text = s } }

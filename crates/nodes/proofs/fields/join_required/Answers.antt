@@ -22,4 +22,4 @@ returns c = let f = found c.in_ok-pos.ensures in
     let d = c.if-counts-gt0.false in
     λ X ps t s.
     let z : count ps.default_list ≡ 0 = omega (arith, t.are_default) in
-    record { how = record { got = joins_required ps f.got c.args.v (is_empty ps.default_list z); fits = record { are_required = count_snoc ps.required_list _ ∙ ap (λ (n : ℕ). n + 1) t.are_required; are_default = t.are_default; is_variadic = t.is_variadic }; few = omega arith; up = omega arith; far = omega arith; text = required_text X ps z s e } }
+    record { how = record { got = joins_required ps f.got c.args.v (is_empty ps.default_list z); fits = record { are_required = count_snoc ps.required_list _ ∙ ap (λ (n : ℕ). n + 1) t.are_required; are_default = t.are_default; is_variadic = t.is_variadic }; few = omega arith; below = c.requires.3; up = omega arith; far = omega arith; text = required_text X ps z s e } }

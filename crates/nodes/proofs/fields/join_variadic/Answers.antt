@@ -14,4 +14,4 @@ returns-then-behind-eq1 c = let f = found c.in_ok-behind.ensures in
 
 pub returns : goal.returns
 returns c = let f = found c.in_ok-behind.ensures in
-    λ S X ps t s. record { how = record { got = joins_variadic ps f.got c.args.v (λ i. c.if-behind-eq1.false (sym f.is ∙ i)); fits = record { are_required = t.are_required; are_default = t.are_default; is_variadic = refl }; few = omega arith; up = omega arith; far = omega arith; text = s } }
+    λ S X ps t s. record { how = record { got = joins_variadic ps f.got c.args.v (λ i. c.if-behind-eq1.false (sym f.is ∙ i)); fits = record { are_required = t.are_required; are_default = t.are_default; is_variadic = refl }; few = omega arith; below = c.requires.1; up = omega arith; far = omega arith; text = s } }
