@@ -1070,10 +1070,7 @@ fn catch(
     if f.error == number::END_OF_TOKENS {
         return Err(Halt::Fail(f));
     }
-    if queue.is_full() {
-        return Err(Halt::Stop(limit::QUEUE_FULL));
-    }
-    queue.push(f.error);
+    queue.push(f.error)?;
     let pos = sync(tokens, store, queue, depth, true, Cursor { pos: f.pos, at })?;
     synchronized(tokens, queue, pos)?;
     Ok(pos)
