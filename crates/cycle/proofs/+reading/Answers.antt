@@ -407,8 +407,8 @@ list-loop-token-preserved-then-token-eq-SEMICOLON = Rattle.cycle.proofs.+reading
 pub list-returns-then-ends : goal.list-returns-then-ends
 list-returns-then-ends = Rattle.cycle.proofs.+reading.Answers.List.list-returns-then-ends
 
-pub list-mark-requires : goal.list-mark-requires
-list-mark-requires = Rattle.cycle.proofs.+reading.Answers.List.list-mark-requires
+pub list-mark-suite-requires : goal.list-mark-suite-requires
+list-mark-suite-requires = Rattle.cycle.proofs.+reading.Answers.List.list-mark-suite-requires
 
 pub list-loop-token-preserved-in-Stmt : goal.list-loop-token-preserved-in-Stmt
 list-loop-token-preserved-in-Stmt = Rattle.cycle.proofs.+reading.Answers.List.list-loop-token-preserved-in-Stmt

@@ -28,7 +28,6 @@ returns-in_err-push c = let tk = taken c.in_ok-token.ensures in
 pub returns : goal.returns
 unfolding control_last then
 returns c = let tk = taken c.in_ok-token.ensures in
-    let on = way _ (rw tk.same (other _ _ (sym c.ends.ensures ∙ c.if-ends.false))) in
     let e = c.not_last.ensures in
     let u = rw e at c.in_ok-push.ensures in
-    record { how = record { what = tt; same = link on (joins (λ q. ok tt (drop (c.args.pos + 2) c.args.tokens.now)) u); moved = record { on = omega arith; within = tk.within; more = omega (arith, longer u) } } }
+    record { how = record { what = tt; same = link (way _ (rw tk.same (other _ _ (sym c.ends.ensures ∙ c.if-ends.false)))) (joins (λ q. ok tt (drop (c.args.pos + 2) c.args.tokens.now)) u); moved = record { on = omega arith; within = tk.within; more = omega (arith, longer u) } } }
