@@ -14,7 +14,7 @@ use Rattle.grammar.specs.Reading.Block.{body}
 use Rattle.scan.specs.Post.{As, clean, Failed, Wrote, Agrees}
 use Rattle.nodes.specs.Lists.{Ends, keeps, gives, Closable, Unders}
 use Rattle.cycle.specs.Lists.{Lists}
-use Rattle.std.proofs.Common.{Result, Ok, Err}
+use Rattle.std.proofs.Common.{Result, Ok, Err, Option, Some}
 use Rattle.scan.specs.Lists.{Passes}
 use Rattle.scan.specs.declared.Cursor.{Cursor}
 use Rattle.scan.specs.declared.Halt.{Halt}
@@ -43,7 +43,7 @@ module _ (low : Depth) {T : List ℕ} {pos at : ℕ} {S Q S' Q' : List ℕ} (who
       let o = g.room in
       let short = s.short in
       let x = by.taken.within in
-      rw by.is (record { how = record { run = relabel g g.what refl (goes _ (went low T pos Q g.same) (way _ (by.taken.same _))) (omega arith) (omega arith); plain = s.plain; many = s.many; short = omega arith; back = s.back; ends = s.ends } })
+      rw by.is (record { how = record { run = relabel g g.what refl (goes _ (went low T pos Q g.same) (way _ (by.taken.same _))) (omega arith) (omega arith); plain = s.plain; many = s.many; short = omega arith; ends = s.ends } })
   passes_lists (Control end) (Ok on) h f =
       let by = f.how.1 in
       let s = h.how in
@@ -72,9 +72,10 @@ pub record Closes (n m m' pos at slack most : ℕ) : Type 0 where
   pub kept : m' ≡ m
   pub room : at + 8 * (n - pos) + most + 8 ≤ m + slack
 
-ends_some : {f : Forest} {at a last n : ℕ} (S S' : List ℕ) → at ≤ length S → Ends f at a last → take a S' ≡ take at S ++ all_records f → count f ≡ n → (last ≡ a → ⊥) → (last + 2 ≤ a) × (1 ≤ n)
-ends_some S S' h (keeps s e) x c b = absurd (b e)
-ends_some {f} {at} {a} {last} {n} S S' h (gives g v e i j) x c b =
+ends_some : {f : Forest} {at a n from : ℕ} {last : Option ℕ} (S S' : List ℕ) → at ≤ length S → Ends f at last → take a S' ≡ take at S ++ all_records f → count f ≡ n → last ≡ Some from → (from + 2 ≤ a) × (1 ≤ n)
+ends_some S S' h (keeps s e) x c b = absurd (let z : ◌≡◌ {A = ℕ} 0 1 = cc in omega arith)
+ends_some {f} {at} {a} {n} {from} S S' h (gives g v e i j) x c b =
+    let k : at + length (all_records g) ≡ from = cc in
     let t : Tree = node NodeKind.Expression v (one e) in
     let l = up_of S S' (all_records f) at a x h in
     let o : length (all_records f) ≡ length (all_records g) + length (records t) = ap (λ (z : Forest). length (all_records z)) i ∙ ap length (all_snoc g t) ∙ length-append (all_records g) (records t) in
@@ -89,7 +90,7 @@ closable {S = S} {S' = S'} (Suite suite) h c =
     let m = g.moved in
     let o = g.room in
     let short = s.short in
-    record { how = record { room = omega arith; few = omega arith; before = s.back; some = ends_some S S' c.start s.ends g.text s.many } }
+    record { how = record { room = omega arith; few = omega arith; some = ends_some S S' c.start s.ends g.text s.many } }
 closable (Control end) h c =
     let g = h.how.run in
     let m = g.moved in
@@ -120,7 +121,7 @@ module _ {A : Type 0} {words : A → List ℕ} {D : Res A} {d : Res Stmts} {T : 
       let s = h.how in
       let v = u.how in
       let l : length (take at S) ≡ at = length-take-le at S n.within in
-      let z : Ends s.run.what.suite (length (take at S)) suite.end.at suite.last = rw l s.ends in
+      let z : Ends s.run.what.suite (length (take at S)) suite.last = rw l s.ends in
       record { how = finish (λ s. records (tree s) ++ word ∷ value ∷ []) a y is n s.run v.stays v.up v.far (v.text s.run.what (take at S) (record { text = s.run.text; plain = s.plain; many = s.many; ends = z })) }
   under {tree} {word} {value} {l = Control end} h u a y is n =
       let s = h.how in

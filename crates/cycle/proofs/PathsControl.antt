@@ -165,10 +165,10 @@ module _ {D d : Res (Unit {0})} {T : List ℕ} {pos at p : ℕ} {S₀ Q₀ S Q Q
   resumes_not {h = Stop k} r = record { how = record { how = link on r.how } }
 
 -- a control is no `Absent`
-abbrev pub Some : Tree → Type 0
-Some t = kind_of t ≡ NodeKind.Absent → ⊥
+abbrev pub Present : Tree → Type 0
+Present t = kind_of t ≡ NodeKind.Absent → ⊥
 
-pub control_held : (low : Depth) (k : ℕ) (q : List Error) (ts : List ℕ) → Holds Some (control_flow low k q ts)
+pub control_held : (low : Depth) (k : ℕ) (q : List Error) (ts : List ℕ) → Holds Present (control_flow low k q ts)
 unfolding control_flow
 control_held low k q ts =
     k_if _ (λ _. k_any q (try_label q ts) λ l q₁ r. k_ok (λ e. omega arith)) λ _. k_if _

@@ -26,7 +26,7 @@ use Rattle.cycle.specs.Parts.{Place, a_stmt, a_control, a_caught, resume, turn, 
 use Rattle.nodes.specs.Ends.{Marked, statement, no_statement}
 use Rattle.nodes.specs.Lists.{Ends, keeps, gives}
 use Rattle.cycle.specs.Lists.{Controlled, Enters}
-use Rattle.std.proofs.Common.{Ok, Err}
+use Rattle.std.proofs.Common.{Ok, Err, Option, Some}
 use Rattle.scan.specs.declared.Cursor.{Cursor}
 use Rattle.scan.specs.declared.Halt.{Halt}
 use Rattle.scan.specs.declared.Entry.{Entry}
@@ -38,7 +38,7 @@ use Rattle.scan.proofs.Looking.{counted}
 use Rattle.scan.proofs.Text.{left}
 use Rattle.scan.proofs.Waiting.{other}
 use Rattle.cycle.proofs.Shapes.{given}
-use Rattle.cycle.proofs.PathsControl.{control_held, Some}
+use Rattle.cycle.proofs.PathsControl.{control_held, Present}
 
 -- A PLACE of a list
 abbrev pub control_go : Depth → ℕ → ℕ → Tree → List Error → List ℕ → Res Place
@@ -116,7 +116,7 @@ pub record HeldAt (pos at p a : ℕ) (Q₀ Q : List ℕ) : Type 0 where
   pub room : a + 8 * pos ≤ at + 8 * p
 
 module _ {D : Res Place} {d : Res (Unit {0})} {T : List ℕ} {pos n at p a : ℕ} {S₀ Q₀ S Q Q' : List ℕ} (t : Tree)
-    (on : As Q₀ D Q (then Q d λ u q₂ s. ok (a_control t) s)) (some : Some t) (text : take a S ≡ take at S₀ ++ control_words n t) (before : take at S ≡ take at S₀) (c : HeldAt pos at p a Q₀ Q) where
+    (on : As Q₀ D Q (then Q d λ u q₂ s. ok (a_control t) s)) (some : Present t) (text : take a S ≡ take at S₀ ++ control_words n t) (before : take at S ≡ take at S₀) (c : HeldAt pos at p a Q₀ Q) where
   pub closes : {p' : ℕ} → Queues d T p Q Q' (Ok p') → Enters D T pos n at S₀ Q₀ S Q' (Ok (EControl (record { pos = p'; at = a })))
   closes h =
       let x = h.how in
@@ -225,13 +225,9 @@ pub split_none : split none ≡ whole none
 unfolding split
 split_none = refl
 
-pub next_ends : {a b at last : ℕ} (f : Forest) {t : Tree} → Marked t a b last → a ≡ at + length (all_records f) → Ends (snoc f t) at b last
-next_ends f (statement {v} {e} i r) h = gives f v e (ap (snoc f) i) (r ∙ h)
+pub next_ends : {a at : ℕ} {last : Option ℕ} (f : Forest) {t : Tree} → Marked t a last → a ≡ at + length (all_records f) → Ends (snoc f t) at last
+next_ends f (statement {v} {e} i r) h = gives f v e (ap (snoc f) i) (r ∙ ap Some h)
 next_ends f {t} (no_statement i r) h = keeps (split_snoc f t i) r
-
-pub mark_le : {t : Tree} {a b r : ℕ} → Marked t a b r → a ≤ b → r ≤ b
-mark_le (statement i e) h = omega arith
-mark_le (no_statement i e) h = omega arith
 
 -- a list with its control
 pub held_text : (f : Forest) (c : Tree) {n : ℕ} (X : List ℕ) {Y Z : List ℕ} → Z ≡ Y ++ control_words n c → Y ≡ X ++ all_records f → count f ≡ n → Z ≡ X ++ (records (Node.list f) ++ records c)

@@ -21,8 +21,7 @@ pub record Suited (d : Res Stmts) (T : List ℕ) (pos slack at : ℕ) (S Q : Lis
   pub plain : run.what.control ≡ Node.absent
   pub many : count run.what.suite ≡ suite.count
   pub short : 2 * suite.count ≤ suite.end.pos
-  pub back : suite.last ≤ suite.end.at
-  pub ends : Ends run.what.suite at suite.end.at suite.last
+  pub ends : Ends run.what.suite at suite.last
 
 -- one with a control
 pub record Held (d : Res Stmts) (T : List ℕ) (pos slack at : ℕ) (S Q : List ℕ) (p a : ℕ) (S' Q' : List ℕ) : Type 0 where

@@ -1070,16 +1070,13 @@ fn catch(
     if f.error == number::END_OF_TOKENS {
         return Err(Halt::Fail(f));
     }
-    if queue.is_full() {
-        return Err(Halt::Stop(limit::QUEUE_FULL));
-    }
-    queue.push(f.error);
+    queue.push(f.error)?;
     let pos = sync(tokens, store, queue, depth, true, Cursor { pos: f.pos, at })?;
     synchronized(tokens, queue, pos)?;
     Ok(pos)
 }
 
-// One place of a statement list, where a token of this kind stands that does not end it, after n statements.
+// One place of a statement list, behind the statements so far, where a token of this kind stands that does not end it.
 #[cycle(reading)]
 fn turn(
     tokens: &[u64],
@@ -1088,16 +1085,16 @@ fn turn(
     depth: usize,
     end: Until,
     kind: u64,
-    n: u64,
-    cursor: Cursor,
+    suite: Suite,
 ) -> Result<Entry, Halt>
-    requires { Ready (length tokens.now) (length store.old) cursor.pos cursor.at × (cursor.pos + 2 ≤ length tokens.now) × (n ≤ 65536) }
-    ensures { Enters (turn_def (at_depth depth) (until end) kind (drop (cursor.pos + 2) tokens.now) queue.old (drop cursor.pos tokens.now)) tokens.now cursor.pos n cursor.at store.old queue.old store.new queue.new result }
+    requires { Ready (length tokens.now) (length store.old) suite.end.pos suite.end.at × (suite.end.pos + 2 ≤ length tokens.now) × (suite.count ≤ 65536) }
+    ensures { Enters (turn_def (at_depth depth) (until end) kind (drop (suite.end.pos + 2) tokens.now) queue.old (drop suite.end.pos tokens.now)) tokens.now suite.end.pos suite.count suite.end.at store.old queue.old store.new queue.new result }
 {
+    let place = suite.end;
     if is_control(kind) {
         let start = Cursor {
-            pos: cursor.pos + 2,
-            at: list_end(store, cursor.at, n),
+            pos: place.pos + 2,
+            at: list_end(store, place.at, suite.count),
         };
         return match jump(tokens, store, queue, depth, kind, start) {
             Ok(next) => {
@@ -1105,16 +1102,16 @@ fn turn(
                 Ok(Entry::Control(Cursor { pos, ..next }))
             }
             Err(Halt::Fail(f)) => {
-                let pos = catch(tokens, store, queue, depth, f, cursor.at)?;
+                let pos = catch(tokens, store, queue, depth, f, place.at)?;
                 Ok(Entry::Caught(pos))
             }
             Err(Halt::Stop(n)) => Err(Halt::Stop(n)),
         };
     }
-    match stmt(tokens, store, queue, depth, cursor) {
+    match stmt(tokens, store, queue, depth, place) {
         Ok(next) => Ok(Entry::Stmt(next)),
         Err(Halt::Fail(f)) => {
-            let pos = catch(tokens, store, queue, depth, f, cursor.at)?;
+            let pos = catch(tokens, store, queue, depth, f, place.at)?;
             Ok(Entry::Caught(pos))
         }
         Err(Halt::Stop(n)) => Err(Halt::Stop(n)),
@@ -1140,41 +1137,25 @@ fn list(
     let mut suite = Suite {
         end: cursor,
         count: 0,
-        last: cursor.at,
+        last: None,
     };
     loop {
-        let place = suite.end;
-        let token = look(tokens, place.pos)?;
+        let token = look(tokens, suite.end.pos)?;
         if token.kind == kind::SEMICOLON {
-            suite.end = Cursor {
-                pos: place.pos + 2,
-                ..place
-            };
+            suite.end.pos += 2;
             continue;
         }
         if end.ends(token.kind) {
             return Ok(Listed::Suite(suite));
         }
-        let count = suite.count;
-        match turn(
-            tokens,
-            store,
-            queue,
-            depth - 1,
-            end,
-            token.kind,
-            count,
-            place,
-        )? {
+        match turn(tokens, store, queue, depth - 1, end, token.kind, suite)? {
             Entry::Stmt(next) => {
-                suite = Suite {
-                    end: next,
-                    count: count + 1,
-                    last: mark(store, place.at, next.at),
-                };
+                suite.last = mark(store, suite.end.at, next.at);
+                suite.count += 1;
+                suite.end = next;
             }
             Entry::Control(next) => return Ok(Listed::Control(next)),
-            Entry::Caught(pos) => suite.end = Cursor { pos, ..place },
+            Entry::Caught(pos) => suite.end.pos = pos,
         }
     }
 }

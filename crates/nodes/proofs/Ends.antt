@@ -22,7 +22,7 @@ use Rattle.grammar.specs.Reading.Primary.{with_action, atom_error, literal, argu
 use Rattle.grammar.specs.Reading.Block.{whole, result, split, split_last, split_kids, split_before, block_split, block_of}
 use Rattle.grammar.specs.Reading.Function.{target_name}
 use Rattle.grammar.specs.Reading.Stmt.{stmt_list_of, lone_ellipsis}
-use Rattle.std.proofs.Common.{Ok, Err}
+use Rattle.std.proofs.Common.{Ok, Err, Option, None, Some}
 use Rattle.scan.specs.declared.Cursor.{Cursor}
 use Rattle.scan.specs.declared.Halt.TheVariants.{Fail}
 use Rattle.scan.specs.declared.Suite.{Suite}
@@ -150,7 +150,7 @@ module _ (S X : List ℕ) (a : ℕ) (within : a ≤ length S) where
 
 -- THE LAST STATEMENT
 module _ (S X : List ℕ) (a b : ℕ) (within : b ≤ length S) where
-  pub marks : (t : Tree) → Small t → get_or S (b - 2) 0 ≡ 258 → take b S ≡ X ++ records t → Marked t a b a
+  pub marks : (t : Tree) → Small t → get_or S (b - 2) 0 ≡ 258 → take b S ≡ X ++ records t → Marked t a (Some a)
   unfolding Small count
   marks (node k v none) s e text = let w = (root S X b k v none text within).word in absurd (omega arith)
   marks (node k v (more t none)) s e text =
@@ -160,7 +160,7 @@ module _ (S X : List ℕ) (a b : ℕ) (within : b ≤ length S) where
       statement (ap (λ (j : ℕ). node j v (one t)) i) refl
   marks (node k v (more t (more u f))) s e text = let w = (root S X b k v (more t (more u f)) text within).word in absurd (omega arith)
 
-  pub marks_none : (t : Tree) → (get_or S (b - 2) 0 ≡ 258 → ⊥) → take b S ≡ X ++ records t → Marked t a b b
+  pub marks_none : (t : Tree) → (get_or S (b - 2) 0 ≡ 258 → ⊥) → take b S ≡ X ++ records t → Marked t a None
   unfolding count split_last split_kids ifb
   marks_none (node k v none) e text = no_statement refl refl
   marks_none (node k v (more t none)) e text =
@@ -187,42 +187,34 @@ block_held : (s : Stmts) → (kind_of s.control ≡ NodeKind.Absent → ⊥) →
 unfolding block_of ifb records count
 block_held s c = rw (ne_eqb _ _ c) (simp (append-nil, append_assoc))
 
-record_long : (k v : ℕ) (f : Forest) → length (records (node k v f)) ≡ length (all_records f) + 2
-unfolding records
-record_long k v f = length-append (all_records f) ((k + 256 * count f) ∷ v ∷ [])
-
-module _ {s : Stmts} {X S : List ℕ} {a n last : ℕ} (st : SuiteStands s X S a n last) (within : a ≤ length S) where
-  at_end : a ≡ length X + length (all_records s.suite)
-  at_end = sym (length-take-le a S within) ∙ ap length st.text ∙ length-append X (all_records s.suite)
-
-  plain_by : Ends s.suite (length X) a last → last ≡ a → split s.suite ≡ whole s.suite
+module _ {s : Stmts} {X S : List ℕ} {a n : ℕ} {last : Option ℕ} (st : SuiteStands s X S a n last) (within : a ≤ length S) where
+  plain_by : Ends s.suite (length X) last → last ≡ None → split s.suite ≡ whole s.suite
   plain_by (keeps w i) e = w
-  plain_by (gives g v t f i) e =
-      let l = ap (λ (y : Forest). length (all_records y)) f ∙ ap length (all_snoc g (node NodeKind.Expression v (one t))) ∙ length-append (all_records g) (records (node NodeKind.Expression v (one t))) in
-      absurd (omega (arith, at_end, l, record_long NodeKind.Expression v (one t)))
+  plain_by (gives g v t f i) e = absurd (let z : ◌≡◌ {A = ℕ} 0 1 = cc in omega arith)
 
-  pub plain_text : {Y : List ℕ} → last ≡ a → Y ≡ take a S ++ (leading n ++ 0 ∷ 0 ∷ 534 ∷ 0 ∷ []) → Y ≡ X ++ records (block_of s)
+  pub plain_text : {Y : List ℕ} → last ≡ None → Y ≡ take a S ++ (leading n ++ 0 ∷ 0 ∷ 534 ∷ 0 ∷ []) → Y ≡ X ++ records (block_of s)
   plain_text e text = rw (block_whole s st.plain (plain_by st.ends e), st.many) (joins X (all_records s.suite) (leading n ++ 0 ∷ 0 ∷ 534 ∷ 0 ∷ []) text st.text)
 
-  given_by : {S' Y : List ℕ} → Ends s.suite (length X) a last → (last ≡ a → ⊥) → Result last (a - 2) (n - 1) S S' → Y ≡ take (a + 4) S' ++ 534 ∷ 0 ∷ [] → Y ≡ X ++ records (block_of s)
+  given_by : {S' Y : List ℕ} {from : ℕ} → Ends s.suite (length X) last → last ≡ Some from → Result from (a - 2) (n - 1) S S' → Y ≡ take (a + 4) S' ++ 534 ∷ 0 ∷ [] → Y ≡ X ++ records (block_of s)
   unfolding records
-  given_by (keeps w i) e led text = absurd (e i)
-  given_by {S'} (gives g v t f i) e led text =
+  given_by (keeps w i) e led text = absurd (let z : ◌≡◌ {A = ℕ} 0 1 = cc in omega arith)
+  given_by {S'} {from = from} (gives g v t f i) e led text =
       let u : Tree = node NodeKind.Expression v (one t) in
       let G : List ℕ = all_records g in
       let whole_text : take a S ≡ (X ++ G) ++ records u = st.text ∙ ap (λ (y : Forest). X ++ all_records y) f ∙ ap (λ (y : List ℕ). X ++ y) (all_snoc g u) ∙ sym (append_assoc X G (records u)) in
       let r = root S (X ++ G) a NodeKind.Expression v (one t) whole_text within in
       let z : take (a - 2) S ≡ (X ++ G) ++ records t = r.before ∙ ap (λ (y : List ℕ). (X ++ G) ++ y) (append-nil (records t)) in
-      let l : length (X ++ G) ≡ last = length-append X G ∙ sym i in
-      let m : last ≤ a - 2 = omega (arith, r.long, length-append (X ++ G) (records t ++ [])) in
-      let b : take last S ≡ X ++ G = sym (take-take last (a - 2) S m) ∙ ap (take last) z ∙ take_at (X ++ G) (records t) last l in
-      let d : drop last (take (a - 2) S) ≡ records t = ap (drop last) z ∙ drop_at (X ++ G) (records t) last l in
+      let j : length X + length G ≡ from = cc in
+      let l : length (X ++ G) ≡ from = length-append X G ∙ j in
+      let m : from ≤ a - 2 = omega (arith, r.long, length-append (X ++ G) (records t ++ [])) in
+      let b : take from S ≡ X ++ G = sym (take-take from (a - 2) S m) ∙ ap (take from) z ∙ take_at (X ++ G) (records t) from l in
+      let d : drop from (take (a - 2) S) ≡ records t = ap (drop from) z ∙ drop_at (X ++ G) (records t) from l in
       let k : n - 1 ≡ count g = omega (arith, sym st.many ∙ ap count f ∙ count_snoc g u) in
       let o : a + 4 ≡ a - 2 + 6 = omega (arith, r.long) in
       let x : take (a + 4) S' ≡ (X ++ G) ++ (leading (count g) ++ records t) = ap (λ (j : ℕ). take j S') o ∙ led.text ∙ rw (b, d, k) in
       rw (block_given s g t st.plain (ap split f ∙ split_result g v t)) (text ∙ ap (λ (y : List ℕ). y ++ 534 ∷ 0 ∷ []) x ∙ simp append_assoc)
 
-  pub given_text : {S' Y : List ℕ} → (last ≡ a → ⊥) → Result last (a - 2) (n - 1) S S' → Y ≡ take (a + 4) S' ++ 534 ∷ 0 ∷ [] → Y ≡ X ++ records (block_of s)
+  pub given_text : {S' Y : List ℕ} {from : ℕ} → last ≡ Some from → Result from (a - 2) (n - 1) S S' → Y ≡ take (a + 4) S' ++ 534 ∷ 0 ∷ [] → Y ≡ X ++ records (block_of s)
   given_text e led text = given_by st.ends e led text
 
   pub listed_text : {Y : List ℕ} → Y ≡ take a S ++ leading n → Y ≡ X ++ records (stmt_list_of s)

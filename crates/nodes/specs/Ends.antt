@@ -1,6 +1,6 @@
 -- What the contracts of the functions that end a tree say: the new text, for every text X before the tree, and every tree, whose records end the store's words up to a.
 -- Assumes nothing.
-use Rattle.std.specs.Prelude.{◌≡◌, List, ◌++◌, ℕ, suc, ◌+◌, ◌≤◌, ◌<◌, length, take}
+use Rattle.std.specs.Prelude.{◌≡◌, List, ◌++◌, Option, None, Some, ℕ, suc, ◌+◌, ◌≤◌, ◌<◌, length, take}
 use Rattle.tree.specs.NodeKind
 use Rattle.tree.specs.Tree.{Tree, Forest, node, one, count, records, kind_of}
 use Rattle.tree.specs.Node
@@ -41,10 +41,10 @@ Any x = Unit {0}
 abbrev pub as_it_is : {A : Type 0} → A → A
 as_it_is x = x
 
--- the tree whose records end at b, and start at a, is an expression statement, and r is a; or it is none, and r is b
-pub data Marked (t : Tree) (a b r : ℕ) : Type 0 where
-  statement : {v : ℕ} {e : Tree} → t ≡ node NodeKind.Expression v (one e) → r ≡ a → Marked t a b r
-  no_statement : split_last t ≡ whole (one t) → r ≡ b → Marked t a b r
+-- the tree whose records start at a is an expression statement, and r is a; or it is none, and r is none
+pub data Marked (t : Tree) (a : ℕ) (r : Option ℕ) : Type 0 where
+  statement : {v : ℕ} {e : Tree} → t ≡ node NodeKind.Expression v (one e) → r ≡ Some a → Marked t a r
+  no_statement : split_last t ≡ whole (one t) → r ≡ None → Marked t a r
 
 -- a tree of such a shape stands up to a
 pub record AShape (S : List ℕ) (a : ℕ) : Type 0 where

@@ -247,15 +247,15 @@ pub fn expression_end(store: &mut [u64], cursor: Cursor) -> Result<Cursor, Halt>
     })
 }
 
-// Where the words of the last expression statement start, after a statement that was written from a to b: b for any other.
-pub fn mark(store: &[u64], a: usize, b: usize) -> usize
+// Where the words of a statement that was written from a to b start, if it is an expression statement.
+pub fn mark(store: &[u64], a: usize, b: usize) -> Option<usize>
     requires { (2 ≤ b) × (b ≤ length store.now) }
-    ensures { (X : List ℕ) (t : Tree) → Small t → take b store.now ≡ X ++ records t → Marked t a b result }
+    ensures { (X : List ℕ) (t : Tree) → Small t → take b store.now ≡ X ++ records t → Marked t a result }
 {
     if store[b - 2] == word::EXPRESSION {
-        return a;
+        return Some(a);
     }
-    b
+    None
 }
 
 // The statement list of n statements without control.
@@ -276,16 +276,20 @@ fn resultless(store: &mut [u64], a: usize) -> usize
 }
 
 // A block of n statements without control (`ExprBlock::from`): the last one is the result, if it is an expression statement, which then begins at `last`.
-fn block_end(store: &mut [u64], a: usize, n: u64, last: usize) -> usize
+fn block_end(store: &mut [u64], a: usize, n: u64, last: Option<usize>) -> usize
     requires { Closing (length store.old) 10 a n last }
     ensures { Blocked a n last result store.old store.new }
 {
-    if last == a {
-        let b = suite_end(store, a, n);
-        return resultless(store, b);
+    match last {
+        None => {
+            let b = suite_end(store, a, n);
+            resultless(store, b)
+        }
+        Some(from) => {
+            block_result(store, from, a - 2, n - 1);
+            emit(store, a + 4, word::EXPR_BLOCK, 0)
+        }
     }
-    block_result(store, last, a - 2, n - 1);
-    emit(store, a + 4, word::EXPR_BLOCK, 0)
 }
 
 // A list that was read as a block, and the node over it.

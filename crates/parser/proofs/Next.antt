@@ -1,24 +1,22 @@
 -- A statement at the top level (grammar's Reading/Next.antt), one step each, as the code goes. Assumes nothing.
 use mathlib.Core.Path.{◌≡◌, refl}
-use mathlib.Core.Bool.{true, false}
-use lib.Dec.{eqb}
-use mathlib.Core.List.{List, [], ◌∷◌, ◌++◌}
-use Prim.Native.Nat.{ℕ, ◌+◌}
+use mathlib.Core.Bool.{false}
+use mathlib.Core.List.{List, ◌∷◌}
+use Prim.Native.Nat.{ℕ, ◌+◌, ◌≤◌}
 use native.Mathlib.Omega.{arith}
 use lib.ListN.{length}
 use Rattle.tree.specs.Tree.{Tree, records}
-use Rattle.grammar.specs.Reading.Limit.{queue_full, queue_limit}
-use Rattle.grammar.specs.Reading.Result.{Res, ok, fail, stop, either, then, Error}
+use Rattle.grammar.specs.Reading.Result.{Res, ok, fail, either, then, push, Error}
 use Rattle.grammar.specs.Reading.Stmt.{synchronize, stmt}
 use Rattle.grammar.specs.Reading.Depth.{at_depth}
 use Rattle.grammar.specs.Reading.Next.{start, front, failed, next}
-use Rattle.scan.specs.Post.{As, Agrees}
-use Rattle.std.proofs.Common.{Ok, Err}
+use Rattle.scan.specs.Post.{As, Agrees, Pushes}
+use Rattle.std.proofs.Common.{Result, Ok, Err}
 use Rattle.scan.specs.declared.Cursor.{Cursor}
 use Rattle.scan.specs.declared.Halt.{Halt}
 use Rattle.scan.specs.declared.Halt.TheVariants.{Stop}
-use Rattle.scan.proofs.Laws.{way, link, wins, undone, did_not, stops, lose_as}
-use Rattle.scan.proofs.Waiting.{push_full, pushes}
+use Rattle.scan.proofs.Laws.{way, link, wins, undone, did_not, stops, onto, lose_as}
+use Rattle.scan.proofs.Waiting.{joins}
 
 -- what follows the separators
 abbrev pub next_go : ℕ → Unit {0} → List Error → List ℕ → Res Tree
@@ -40,9 +38,14 @@ module _ {D d : Res Tree} (or : ℕ → List Error → List ℕ → Res Tree) {T
   pub halted : {n : ℕ} {h : Halt} → h ≡ Stop n → Agrees records d T p (p + 2) 14 0 S Q S' Q' (Err h) → Agrees records D T 0 0 8 0 S Q S' Q' (Err (Stop n))
   halted e f = did_not (stops _ or e x (undone f))
 
-pub failed_full : (d e : ℕ) (Q ts : List ℕ) → eqb (length Q) queue_limit ≡ true → failed d e Q ts ≡ stop queue_full
-unfolding failed
-failed_full d e Q ts h = push_full e Q _ h
+-- D is at last d, a reading further on
+pub at_last : {D d : Res Tree} {T : List ℕ} {p : ℕ} {S Q S₁ Q₁ S' Q' : List ℕ} {r : Result Cursor Halt} → As Q D Q₁ d → Agrees records d T p p 8 0 S₁ Q₁ S' Q' r → length Q ≤ length Q₁ → Agrees records D T 0 0 8 0 S Q S' Q' r
+at_last {r = Ok c} x h more =
+    let u = h.how in
+    let m = u.moved in
+    let k = u.room in
+    record { how = record { what = u.what; same = link x u.same; moved = omega arith; room = omega arith; text = u.text } }
+at_last {r = Err h} x f more = did_not (onto x f.how refl (omega arith))
 
 -- the resynchronization, before the answer f
 abbrev pub sync_fail : ℕ → List ℕ → ℕ → List Error → Res Tree
@@ -52,7 +55,10 @@ front_of : {A : Type 0} (q : List Error) {e : ℕ} {q' : List Error} (k : ℕ �
 unfolding front
 front_of q k x = rw x
 
-pub failed_step : (d e : ℕ) (Q ts : List ℕ) {q q' : List Error} {f : ℕ} → eqb (length Q) queue_limit ≡ false → q ≡ Q ++ e ∷ [] → q ≡ f ∷ q' → As Q (failed d e Q ts) q' (sync_fail d ts f q')
+pub failed_push : (d e : ℕ) (Q ts : List ℕ) → failed d e Q ts ≡ push e Q (λ q. front q (sync_fail d ts))
 unfolding failed
-failed_step d e Q ts {q} {q'} {f} h x y =
-    link (pushes e Q (λ q₁. front q₁ (sync_fail d ts)) h x) (link (way q (front_of q (sync_fail d ts) y)) (lose_as q q' q' f (synchronize (at_depth d) false (length ts) q' ts)))
+failed_push d e Q ts = refl
+
+pub failed_step : (d : ℕ) (ts : List ℕ) {e : ℕ} {Q q q' : List ℕ} {u : Unit {0}} {f : ℕ} → Pushes e Q q (Ok u) → q ≡ f ∷ q' → As Q (failed d e Q ts) q' (sync_fail d ts f q')
+failed_step d ts {e} {Q} {q} {q'} {f = f} p y =
+    link (way Q (failed_push d e Q ts)) (link (joins (λ q₁. front q₁ (sync_fail d ts)) p) (link (way q (front_of q (sync_fail d ts) y)) (lose_as q q' q' f (synchronize (at_depth d) false (length ts) q' ts))))

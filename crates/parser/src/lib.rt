@@ -6,7 +6,7 @@ ghost use Rattle.tree.specs.Tree.{records};
 ghost use Rattle.grammar.specs.Reading.Limit.{depth_limit, length_limit, queue_limit};
 ghost use Rattle.grammar.specs.Reading.Next.{is_stop as is_stop_def, queue_fits as queue_fits_def, reader_at, halted, error_answer as error_answer_def, called, failed as failed_def, next};
 ghost use Rattle.grammar.specs.Contract.{Returns};
-ghost use Rattle.scan.specs.Post.{Ready, Failed, Agrees};
+ghost use Rattle.scan.specs.Post.{Ready, Agrees};
 
 pub mod host;
 pub mod kept;
@@ -18,21 +18,21 @@ use scan::tokens::start;
 use scan::{Cursor, Failure, Halt, number};
 use tree::clear;
 
-// A statement failed: its error joins the queue's back, the front is the answer, and then comes the resynchronization.
-fn failed(tokens: &[u64], store: &mut [u64], queue: &mut Waiting, f: Failure) -> Halt
+// A statement failed: its error joins the queue's back, the front is the answer, and then comes the resynchronization. There is no tree.
+fn failed(
+    tokens: &[u64],
+    store: &mut [u64],
+    queue: &mut Waiting,
+    f: Failure,
+) -> Result<Cursor, Halt>
     requires { Ready (length tokens.now) (length store.old) f.pos 0 }
-    ensures { Failed (failed_def depth_limit f.error queue.old (drop f.pos tokens.now)) tokens.now f.pos f.pos 0 store.old queue.old store.new queue.new result }
+    ensures { Agrees records (failed_def depth_limit f.error queue.old (drop f.pos tokens.now)) tokens.now f.pos f.pos 8 0 store.old queue.old store.new queue.new result }
 {
-    if queue.is_full() {
-        return Halt::Stop(limit::QUEUE_FULL);
-    }
-    queue.push(f.error);
+    queue.push(f.error)?;
     let error = queue.pop();
     let place = Cursor { pos: f.pos, at: 0 };
-    match sync(tokens, store, queue, limit::DEPTH, false, place) {
-        Ok(pos) => Halt::Fail(Failure { error, pos }),
-        Err(halt) => halt,
-    }
+    let pos = sync(tokens, store, queue, limit::DEPTH, false, place)?;
+    Err(Halt::Fail(Failure { error, pos }))
 }
 
 // One statement. Error `END` is the end.
@@ -43,7 +43,7 @@ fn statement(tokens: &[u64], store: &mut [u64], queue: &mut Waiting) -> Result<C
     let pos = start(tokens, 0)?;
     match stmt(tokens, store, queue, limit::DEPTH, Cursor { pos, at: 0 }) {
         Ok(end) => Ok(end),
-        Err(Halt::Fail(f)) => Err(failed(tokens, store, queue, f)),
+        Err(Halt::Fail(f)) => failed(tokens, store, queue, f),
         Err(Halt::Stop(n)) => Err(Halt::Stop(n)),
     }
 }

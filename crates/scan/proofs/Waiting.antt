@@ -1,15 +1,16 @@
 -- The queue of errors that wait: an error joins it, its front is taken, and what fails leaves it. Assumes nothing.
 use mathlib.Core.Path.{◌≡◌}
 use mathlib.Core.Bool.{Bool, true, false}
-use mathlib.Core.List.{List, [], ◌∷◌, ◌++◌}
+use mathlib.Core.List.{List, ◌∷◌}
 use Prim.Native.Nat.{ℕ, ◌+◌}
 use native.Mathlib.Omega.{arith}
-use lib.Dec.{eqb}
+use borrow.Author.Tests.{eq-eqb, ne_eqb}
 use lib.ListN.{length, length-append}
-use Rattle.grammar.specs.Reading.Result.{Res, fail, stop, unclean, ifb, push, pop, Error}
-use Rattle.scan.specs.Post.{As}
-use Rattle.scan.proofs.Laws.{way, link, as_unclean}
-use Rattle.grammar.specs.Reading.Limit.{queue_full, queue_limit}
+use Rattle.grammar.specs.Reading.Result.{Res, fail, ifb, push, pop, Error}
+use Rattle.scan.specs.Post.{As, Failed, Pushes}
+use Rattle.std.proofs.Common.{Ok, Err}
+use Rattle.scan.specs.declared.Halt.{Halt}
+use Rattle.scan.proofs.Laws.{way, link, ends, as_unclean}
 
 -- a choice
 pub chosen : {A : Type 0} {b : Bool} (f g : Unit {0} → A) → b ≡ true → ifb b f g ≡ f tt
@@ -20,25 +21,22 @@ pub other : {A : Type 0} {b : Bool} (f g : Unit {0} → A) → b ≡ false → i
 unfolding ifb
 other f g e = rw e
 
--- the queue
-pub push_full : {A : Type 0} (e : ℕ) (Q : List Error) (k : List Error → Res A) → eqb (length Q) queue_limit ≡ true → push e Q k ≡ stop queue_full
-unfolding push ifb
-push_full e Q k h = rw h
+-- a push, as `push` answers it
+pub joins : {A : Type 0} {e : ℕ} {Q Q' : List Error} {u : Unit {0}} (k : List Error → Res A) → Pushes e Q Q' (Ok u) → As Q (push e Q k) Q' (k Q')
+unfolding push
+joins {e = e} {Q} k p = rw p.how.1 (link (way _ (other _ _ (ne_eqb _ _ (omega (arith, p.how.0))))) (as_unclean _ _))
 
-push_room : {A : Type 0} (e : ℕ) (Q : List Error) (k : List Error → Res A) → eqb (length Q) queue_limit ≡ false → push e Q k ≡ unclean (Q ++ e ∷ []) (k (Q ++ e ∷ []))
-unfolding push ifb
-push_room e Q k h = rw h
-
-pub pushes : {A : Type 0} (e : ℕ) (Q : List Error) (k : List Error → Res A) {q : List Error} → eqb (length Q) queue_limit ≡ false → q ≡ Q ++ e ∷ [] → As Q (push e Q k) q (k q)
-pushes e Q k {q} h x = rw x (link (way _ (push_room e Q k h)) (as_unclean _ _))
+pub overfull : {A : Type 0} {D : Res A} {e : ℕ} {Q Q' : List Error} {h : Halt} {T : List ℕ} {pos least at : ℕ} {S S' : List ℕ} (k : List Error → Res A) → As Q D Q (push e Q k) → Pushes e Q Q' (Err h) → Failed D T pos least at S Q S' Q' h
+unfolding push
+overfull k on p = rw p.how.2 (record { how = link on (ends (chosen _ _ (eq-eqb _ _ p.how.0))) })
 
 pub pops : {A : Type 0} (q : List Error) (r : List ℕ) {e : ℕ} {q' : List Error} → q ≡ e ∷ q' → pop {A = A} q r ≡ fail e q' r
 unfolding pop
 pops q r x = rw x
 
 -- one more waits after a push, one fewer after the front was taken
-pub longer : (q : List ℕ) (e : ℕ) {q' : List ℕ} → q' ≡ q ++ e ∷ [] → length q' ≡ length q + 1
-longer q e x = rw (x, length-append)
+pub longer : {e : ℕ} {Q Q' : List ℕ} {u : Unit {0}} → Pushes e Q Q' (Ok u) → length Q' ≡ length Q + 1
+longer p = rw (p.how.1, length-append)
 
 pub fewer : {e : ℕ} {q q' : List ℕ} → q ≡ e ∷ q' → length q' + 1 ≡ length q
 fewer x = rw x (omega arith)

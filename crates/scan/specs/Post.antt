@@ -1,9 +1,10 @@
 -- What the contracts say: how what the code answers goes with what the definition answers. Assumes nothing.
 -- T are the tokens' words, S the store's and Q the errors that wait, as they were; S' and Q' as they are.
 -- pos and «at» are where a reading begins in the words, p and a where it ends.
-use Rattle.std.specs.Prelude.{◌≡◌, true, Result, Ok, Err, List, [], ◌++◌, ℕ, ◌+◌, ◌*◌, ◌-◌, ◌≤◌, ◌<◌, length, take, drop}
+use Rattle.std.specs.Prelude.{◌≡◌, true, Result, Ok, Err, List, [], ◌∷◌, ◌++◌, ℕ, ◌+◌, ◌*◌, ◌-◌, ◌≤◌, ◌<◌, length, take, drop}
 use Rattle.token.specs.Look.{value_fits}
 use Rattle.token.specs.declared.Token.{Token}
+use Rattle.grammar.specs.Reading.Limit.{queue_full, queue_limit}
 use Rattle.grammar.specs.Reading.Number
 use Rattle.grammar.specs.Reading.Result.{Res, ok, bad, fail, stop, Error}
 use Rattle.grammar.specs.Reading.Look.{look}
@@ -186,6 +187,14 @@ WritesAs words d T pos least most at X S S' (Err h) = Unstored d T pos least S S
 
 pub record Writes {A : Type 0} (words : A → List ℕ) (d : List Error → Res A) (T : List ℕ) (pos least most at : ℕ) (X S S' : List ℕ) (r : Result Cursor Halt) : Type 0 where
   pub how : WritesAs words d T pos least most at X S S' r
+
+-- an error joins the back of what waits; where the queue is full it stays, and the reading stops
+abbrev pub PushesAs : ℕ → List ℕ → List ℕ → Result (Unit {0}) Halt → Type 0
+PushesAs error Q Q' (Ok u) = (length Q < queue_limit) × (Q' ≡ Q ++ error ∷ [])
+PushesAs error Q Q' (Err h) = (length Q ≡ queue_limit) × (Q' ≡ Q) × (h ≡ Stop queue_full)
+
+pub record Pushes (error : ℕ) (Q Q' : List ℕ) (r : Result (Unit {0}) Halt) : Type 0 where
+  pub how : PushesAs error Q Q' r
 
 -- what reads tokens and adds to the queue, without store
 pub record Queued {A : Type 0} (d : Res A) (T : List ℕ) (pos : ℕ) (Q : List ℕ) (p : ℕ) (Q' : List ℕ) : Type 0 where

@@ -63,13 +63,12 @@ pub struct Keyword {
     pub action: Option<Action>,
 }
 
-// The statements of a list without control: past which words they end, how many they are, and where a last expression statement starts, the end if there
-// is none.
+// The statements of a list without control: past which words they end, how many they are, and where the last one starts, if it is an expression statement.
 #[derive(Clone, Copy)]
 pub struct Suite {
     pub end: Cursor,
     pub count: u64,
-    pub last: usize,
+    pub last: Option<usize>,
 }
 
 // Where a statement list ends: before `End`; in a branch of a conditional before `Elif` and `Else` too.

@@ -1,10 +1,10 @@
 // The errors that wait, the oldest first.
-ghost use Rattle.std.specs.Prelude.{◌≡◌, ◌≤◌, ◌<◌, ◌&&◌, ◌++◌, ◌∷◌, [], eqb, length, take, drop};
+ghost use Rattle.std.specs.Prelude.{◌≡◌, ◌≤◌, ◌&&◌, ◌∷◌, [], eqb, length, take, drop};
 ghost use Rattle.std.specs.List.{list_all};
 ghost use Rattle.grammar.specs.Reading.Limit.{queue_limit};
 ghost use Rattle.grammar.specs.Reading.Stmt.{control_last as control_last_def, synchronized as synchronized_def};
 ghost use Rattle.grammar.specs.Reading.Next.{is_error as is_error_def, is_stop as is_stop_def, queue_fits as queue_fits_def, pad};
-ghost use Rattle.scan.specs.Post.{Queues, Resumes};
+ghost use Rattle.scan.specs.Post.{Pushes, Queues, Resumes};
 ghost use Rattle.scan.specs.Parts.{until};
 
 use crate::tokens::{look, not_last};
@@ -56,20 +56,16 @@ impl Waiting {
         self.count
     }
 
-    pub fn is_full(&self) -> bool
-        ensures full { result ≡ eqb (length self.now) queue_limit }
-        ensures few { length self.now ≤ queue_limit }
+    // An error joins the back. Where the queue is full it stays, and the reading stops.
+    pub fn push(&mut self, error: u64) -> Result<(), Halt>
+        ensures { Pushes error self.old self.new result }
     {
-        self.count == limit::QUEUE
-    }
-
-    // An error joins the back, where there is a place.
-    pub fn push(&mut self, error: u64)
-        requires { length self.old < queue_limit }
-        ensures { self.new ≡ self.old ++ error ∷ [] }
-    {
+        if self.count == limit::QUEUE {
+            return Err(Halt::Stop(limit::QUEUE_FULL));
+        }
         self.errors[self.count] = error;
         self.count += 1;
+        Ok(())
     }
 
     // The front; the others move up.
@@ -109,10 +105,7 @@ pub fn control_last(
     if end.ends(token.kind) {
         return Ok(pos);
     }
-    if queue.is_full() {
-        return Err(Halt::Stop(limit::QUEUE_FULL));
-    }
-    queue.push(not_last(k));
+    queue.push(not_last(k))?;
     Ok(pos + 2)
 }
 

@@ -146,8 +146,7 @@ pub fn atom_error(kind: u64) -> u64
         kind::LET => number::LET_NEEDS_PARENS,
         kind::VAR => number::VAR_NEEDS_PARENS,
         kind::BEGIN => number::BEGIN_NEEDS_PARENS,
-        kind::IF => number::OTHER_NEEDS_PARENS,
-        kind::LABEL => number::OTHER_NEEDS_PARENS,
+        kind::IF | kind::LABEL => number::OTHER_NEEDS_PARENS,
         kind::CLOSE_PAREN => number::UNMATCHED_PAREN,
         kind::CLOSE_SQUARE => number::UNMATCHED_SQUARE,
         kind::CLOSE_BRACE => number::UNMATCHED_BRACE,
@@ -160,10 +159,8 @@ pub fn continues(calls: bool, kind: u64, newline: u64) -> bool
     ensures { result ≡ goes_on calls kind newline }
 {
     match kind {
-        kind::OP_ACCESS => true,
-        kind::OPEN_SQUARE => true,
-        kind::OPEN_PAREN => calls && newline == 0,
-        kind::OPEN_BRACE => calls && newline == 0,
+        kind::OP_ACCESS | kind::OPEN_SQUARE => true,
+        kind::OPEN_PAREN | kind::OPEN_BRACE => calls && newline == 0,
         _ => false,
     }
 }
@@ -191,12 +188,7 @@ pub fn ends_control(kind: u64) -> bool
 pub fn is_control(kind: u64) -> bool
     ensures { result ≡ is_control_def kind }
 {
-    match kind {
-        kind::CONTINUE => true,
-        kind::BREAK => true,
-        kind::RETURN => true,
-        _ => false,
-    }
+    matches!(kind, kind::CONTINUE | kind::BREAK | kind::RETURN)
 }
 
 // The error of a control where none is allowed.
@@ -226,13 +218,13 @@ pub fn halts(inside: bool, kind: u64) -> bool
     ensures { result ≡ (starts_stmt kind || (inside && eqb kind Kind.End)) }
 {
     match kind {
-        kind::EOF => true,
-        kind::SEMICOLON => true,
-        kind::WHILE => true,
-        kind::LOOP => true,
-        kind::FOR => true,
-        kind::LABEL => true,
-        kind::ASSERT => true,
+        kind::EOF
+        | kind::SEMICOLON
+        | kind::WHILE
+        | kind::LOOP
+        | kind::FOR
+        | kind::LABEL
+        | kind::ASSERT => true,
         kind::END => inside,
         _ => is_control(kind),
     }

@@ -143,8 +143,8 @@ call-returns-in_err-token = Rattle.cycle.proofs.+reading.Answers.Call.call-retur
 pub catch-returns-then-f-eq-END_OF_TOKENS : goal.catch-returns-then-f-eq-END_OF_TOKENS
 catch-returns-then-f-eq-END_OF_TOKENS = Rattle.cycle.proofs.+reading.Answers.Catch.catch-returns-then-f-eq-END_OF_TOKENS
 
-pub catch-returns-then-is_full : goal.catch-returns-then-is_full
-catch-returns-then-is_full = Rattle.cycle.proofs.+reading.Answers.Catch.catch-returns-then-is_full
+pub catch-returns-in_err-push : goal.catch-returns-in_err-push
+catch-returns-in_err-push = Rattle.cycle.proofs.+reading.Answers.Catch.catch-returns-in_err-push
 
 pub catch-returns-in_err-pos : goal.catch-returns-in_err-pos
 catch-returns-in_err-pos = Rattle.cycle.proofs.+reading.Answers.Catch.catch-returns-in_err-pos
@@ -407,8 +407,8 @@ list-loop-token-preserved-then-token-eq-SEMICOLON = Rattle.cycle.proofs.+reading
 pub list-returns-then-ends : goal.list-returns-then-ends
 list-returns-then-ends = Rattle.cycle.proofs.+reading.Answers.List.list-returns-then-ends
 
-pub list-mark-requires : goal.list-mark-requires
-list-mark-requires = Rattle.cycle.proofs.+reading.Answers.List.list-mark-requires
+pub list-mark-suite-requires : goal.list-mark-suite-requires
+list-mark-suite-requires = Rattle.cycle.proofs.+reading.Answers.List.list-mark-suite-requires
 
 pub list-loop-token-preserved-in-Stmt : goal.list-loop-token-preserved-in-Stmt
 list-loop-token-preserved-in-Stmt = Rattle.cycle.proofs.+reading.Answers.List.list-loop-token-preserved-in-Stmt

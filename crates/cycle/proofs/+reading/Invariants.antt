@@ -173,8 +173,7 @@ pub record GoingList (T S₀ Q₀ : List ℕ) (depth end pos at : ℕ) (S Q : Li
   pub run : Wrote all_records ((at_depth depth).list end Q₀ (drop pos T)) (stmts (at_depth (depth - 1)) end fuel) T pos pos 8 at S₀ Q₀ suite.end.pos suite.end.at S Q
   pub many : count run.what ≡ suite.count
   pub short : 2 * suite.count ≤ suite.end.pos
-  pub back : suite.last ≤ suite.end.at
-  pub ending : Ends run.what at suite.end.at suite.last
+  pub ending : Ends run.what at suite.last
   pub kept : length S ≡ length S₀
 
 abbrev pub invariant-list-loop-token : goal.invariant-list-loop-token

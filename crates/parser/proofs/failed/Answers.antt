@@ -1,27 +1,30 @@
 -- `parser::failed` meets its contract. Assumes nothing.
-use mathlib.Core.Path.{refl, sym, ◌∙◌}
+use mathlib.Core.Path.{refl}
 use native.Mathlib.Omega.{arith}
 use lib.ListN.{drop}
-use Rattle.scan.proofs.Laws.{ends, goes, fails}
-use Rattle.scan.proofs.Waiting.{longer, fewer}
+use Rattle.scan.proofs.Laws.{hands, way, goes, did_not, fails}
+use Rattle.scan.proofs.Waiting.{overfull, longer, fewer}
 use Rattle.grammar.specs.Reading.Limit.{depth_limit}
-use Rattle.parser.proofs.Next.{failed_full, failed_step}
+use Rattle.parser.proofs.Next.{failed_push, failed_step}
 use Rattle.parser.proofs.failed.Goals as goal
 
-pub returns-then-is_full : goal.returns-then-is_full
-returns-then-is_full c = record { how = ends (failed_full depth_limit _ _ _ (sym c.is_full.ensures.full ∙ c.if-is_full.true)) }
+pub returns-in_err-push : goal.returns-in_err-push
+returns-in_err-push c = hands c.from_residual.ensures.1 (overfull _ (way _ (failed_push depth_limit _ _ _)) c.in_err-push.ensures)
 
-pub returns-in-Ok : goal.returns-in-Ok
-returns-in-Ok c =
-    let more = longer _ _ c.push.ensures in
-    let less = fewer c.pop-error.ensures in
-    let path = failed_step depth_limit c.args.f.error c.args.queue.now (drop c.args.f.pos c.args.tokens.now) (sym c.is_full.ensures.full ∙ c.if-is_full.false) c.push.ensures c.pop-error.ensures in
-    let y1 = c.in-Ok.ensures.how in
-    record { how = record { same = goes _ path y1.same; moved = omega (arith, y1.moved, more, less); far = omega (arith, y1.moved); text = refl } }
+pub pop-error-requires : goal.pop-error-requires
+pop-error-requires c = omega (arith, longer c.in_ok-push.ensures)
 
-pub returns-in-Err : goal.returns-in-Err
-returns-in-Err c =
-    let more = longer _ _ c.push.ensures in
+pub returns-in_err-pos : goal.returns-in_err-pos
+returns-in_err-pos c =
+    let more = longer c.in_ok-push.ensures in
     let less = fewer c.pop-error.ensures in
-    let path = failed_step depth_limit c.args.f.error c.args.queue.now (drop c.args.f.pos c.args.tokens.now) (sym c.is_full.ensures.full ∙ c.if-is_full.false) c.push.ensures c.pop-error.ensures in
-    fails _ path c.in-Err.ensures.how refl (omega (arith, more, less))
+    let path = failed_step depth_limit (drop c.args.f.pos c.args.tokens.now) c.in_ok-push.ensures c.pop-error.ensures in
+    hands c.from_residual-in_err-pos.ensures.1 (fails _ path c.in_err-pos.ensures.how refl (omega (arith, more, less)))
+
+pub returns : goal.returns
+returns c =
+    let more = longer c.in_ok-push.ensures in
+    let less = fewer c.pop-error.ensures in
+    let path = failed_step depth_limit (drop c.args.f.pos c.args.tokens.now) c.in_ok-push.ensures c.pop-error.ensures in
+    let y = c.in_ok-pos.ensures.how in
+    did_not (record { how = record { same = goes _ path y.same; moved = omega (arith, y.moved, more, less); far = omega (arith, y.moved); text = refl } })

@@ -10,7 +10,7 @@ use Rattle.scan.proofs.Laws.{handed, way, link, ends, goes, taken, fails, fails_
 use Rattle.scan.proofs.Text.{grown}
 use Rattle.nodes.proofs.Made.{count_snoc, joined}
 use Rattle.cycle.proofs.PathsExpr.{list_stops, list_step}
-use Rattle.cycle.proofs.PathsList.{stmts_looks, stmts_semi, stmts_end, stmts_turn, was_stmt, was_control, was_caught, was_not, place_small, split_none, next_ends, mark_le, held_text}
+use Rattle.cycle.proofs.PathsList.{stmts_looks, stmts_semi, stmts_end, stmts_turn, was_stmt, was_control, was_caught, was_not, place_small, split_none, next_ends, held_text}
 use Rattle.cycle.proofs.Writing.{taller}
 use Rattle.nodes.specs.Lists.{keeps}
 use Rattle.cycle.proofs.+reading.Goals as goal
@@ -20,7 +20,7 @@ list-returns-then-depth-eq0 t c = record { how = record { how = ends (list_stops
 
 pub list-loop-token-init : goal.list-loop-token-init
 unfolding records count
-list-loop-token-init t c = record { fuel = length (drop c.args.cursor.pos c.args.tokens.now); enough = rw length-drop (omega arith); run = record { what = none; same = way _ (list_step _ _ _ _ c.if-depth-eq0.false); moved = omega arith; room = omega arith; text = sym (append-nil (take c.args.cursor.at c.args.store.now)) }; many = refl; short = omega arith; back = omega arith; ending = keeps split_none refl; kept = refl }
+list-loop-token-init t c = record { fuel = length (drop c.args.cursor.pos c.args.tokens.now); enough = rw length-drop (omega arith); run = record { what = none; same = way _ (list_step _ _ _ _ c.if-depth-eq0.false); moved = omega arith; room = omega arith; text = sym (append-nil (take c.args.cursor.at c.args.store.now)) }; many = refl; short = omega arith; ending = keeps split_none refl; kept = refl }
 
 pub list-loop-token-preserved-then-token-eq-SEMICOLON : goal.list-loop-token-preserved-then-token-eq-SEMICOLON
 list-loop-token-preserved-then-token-eq-SEMICOLON t c = let g = c.loop-token.invariant in
@@ -32,7 +32,6 @@ list-loop-token-preserved-then-token-eq-SEMICOLON t c = let g = c.loop-token.inv
       run = relabel gr gr.what refl (link gr.same (way _ (stmts_semi _ _ gr.what _ g.fuel _ g.enough tk c.if-token-eq-SEMICOLON.true))) (omega arith) (omega arith);
       many = g.many;
       short = omega arith;
-      back = g.back;
       ending = g.ending;
       kept = g.kept;
     }
@@ -47,13 +46,12 @@ list-returns-then-ends t c = let g = c.loop-token.invariant in
         plain = refl;
         many = g.many;
         short = g.short;
-        back = g.back;
         ends = g.ending;
       };
     }
 
-pub list-mark-requires : goal.list-mark-requires
-list-mark-requires t c = let g = c.loop-token.invariant in
+pub list-mark-suite-requires : goal.list-mark-suite-requires
+list-mark-suite-requires t c = let g = c.loop-token.invariant in
     let gr = g.run in
     let tk = taken c.in_ok-token.ensures in
     let w1 = was_stmt c.in-Stmt.is c.in_ok-next.ensures in
@@ -66,7 +64,7 @@ list-loop-token-preserved-in-Stmt t c = let g = c.loop-token.invariant in
     let tk = taken c.in_ok-token.ensures in
     let try = link gr.same (way _ (stmts_turn _ _ gr.what _ g.fuel _ g.enough tk c.if-token-eq-SEMICOLON.false (sym c.ends.ensures ∙ c.if-ends.false))) in
     let w1 = was_stmt c.in-Stmt.is c.in_ok-next.ensures in
-    let mk = c.mark.ensures (take c.loop-token.suite.end.at c.loop-token.store) w1.what (place_small _ _ _ _ _ _ w1.same) w1.text in
+    let mk = c.mark-suite.ensures (take c.loop-token.suite.end.at c.loop-token.store) w1.what (place_small _ _ _ _ _ _ w1.same) w1.text in
     let room = w1.room in
     let old = gr.room in
     let moved = w1.moved in
@@ -76,7 +74,6 @@ list-loop-token-preserved-in-Stmt t c = let g = c.loop-token.invariant in
       run = record { what = snoc gr.what w1.what; same = goes _ try w1.same; moved = omega (arith, moved, gr.moved); room = omega (arith, room, old); text = joined gr.what w1.what (take c.args.cursor.at c.args.store.now) w1.text gr.text };
       many = count_snoc gr.what w1.what ∙ ap (λ (i : ℕ). i + 1) g.many;
       short = omega (arith, g.short, moved);
-      back = mark_le mk w1.room.up;
       ending = next_ends gr.what mk (grown c.args.store.now c.loop-token.store (all_records gr.what) _ _ gr.text (omega (arith, c.requires)) (omega (arith, c.requires, g.kept, gr.moved, old)));
       kept = omega (arith, g.kept);
     }
@@ -107,7 +104,6 @@ list-loop-token-preserved t c = let g = c.loop-token.invariant in
       run = record { what = gr.what; same = goes _ try v.same; moved = omega (arith, gr.moved, v.moved); room = omega (arith, gr.room, v.moved); text = v.text ∙ append-nil _ ∙ gr.text };
       many = g.many;
       short = omega (arith, g.short, v.moved);
-      back = g.back;
       ending = g.ending;
       kept = omega (arith, g.kept);
     }

@@ -13,13 +13,13 @@ pub turn-returns-in_err-pos-in-Ok : goal.turn-returns-in_err-pos-in-Ok
 turn-returns-in_err-pos-in-Ok t c = let e = c.list_end.ensures in
     let hold = way _ (turn_control _ _ _ _ _ _ (sym c.is_control.ensures ∙ c.if-is_control.true)) in
     let k1 = done c.in-Ok.ensures in
-    rw (handed c.from_residual.ensures.1) (closes_not k1.what (wins _ _ hold k1.same) (given (control_held _ _ _ _) k1.same) (control_text c.args.n k1.what (take c.args.cursor.at c.args.store.now) k1.text e.text) (emitted_before e (omega (arith, c.requires)) _ (prefix k1 (omega (arith, c.requires, e.next, e.whole)))) (omega (arith, e.next, k1.moved, k1.room)) c.in_err-pos-in-Ok.ensures)
+    rw (handed c.from_residual.ensures.1) (closes_not k1.what (wins _ _ hold k1.same) (given (control_held _ _ _ _) k1.same) (control_text c.args.suite.count k1.what (take c.args.suite.end.at c.args.store.now) k1.text e.text) (emitted_before e (omega (arith, c.requires)) _ (prefix k1 (omega (arith, c.requires, e.next, e.whole)))) (omega (arith, e.next, k1.moved, k1.room)) c.in_err-pos-in-Ok.ensures)
 
 pub turn-returns-in_ok-pos-in-Ok : goal.turn-returns-in_ok-pos-in-Ok
 turn-returns-in_ok-pos-in-Ok t c = let e = c.list_end.ensures in
     let hold = way _ (turn_control _ _ _ _ _ _ (sym c.is_control.ensures ∙ c.if-is_control.true)) in
     let k1 = done c.in-Ok.ensures in
-    closes k1.what (wins _ _ hold k1.same) (given (control_held _ _ _ _) k1.same) (control_text c.args.n k1.what (take c.args.cursor.at c.args.store.now) k1.text e.text) (emitted_before e (omega (arith, c.requires)) _ (prefix k1 (omega (arith, c.requires, e.next, e.whole)))) (omega (arith, e.next, k1.moved, k1.room)) c.in_ok-pos-in-Ok.ensures
+    closes k1.what (wins _ _ hold k1.same) (given (control_held _ _ _ _) k1.same) (control_text c.args.suite.count k1.what (take c.args.suite.end.at c.args.store.now) k1.text e.text) (emitted_before e (omega (arith, c.requires)) _ (prefix k1 (omega (arith, c.requires, e.next, e.whole)))) (omega (arith, e.next, k1.moved, k1.room)) c.in_ok-pos-in-Ok.ensures
 
 pub turn-returns-in_err-pos-in-Err-Fail : goal.turn-returns-in_err-pos-in-Err-Fail
 turn-returns-in_err-pos-in-Err-Fail t c = let e = c.list_end.ensures in

@@ -6,11 +6,11 @@ use Rattle.tree.specs.Store.{leading}
 use Rattle.nodes.proofs.Ends.{joins, plain_text, given_text}
 use Rattle.nodes.proofs.records.block_end.Goals as goal
 
-pub returns-then-last-a : goal.returns-then-last-a
-returns-then-last-a c = let u = c.suite_end-b.ensures in
+pub returns-in-None : goal.returns-in-None
+returns-in-None c = let u = c.suite_end-b.ensures in
     let r = c.resultless.ensures in
-    record { up = omega arith; far = omega arith; text = λ s X st. plain_text st (omega arith) c.if-last-a.true (joins (take c.args.a c.args.store.now) (leading c.args.n) (0 ∷ 0 ∷ 534 ∷ 0 ∷ []) r.text u.text) }
+    record { up = omega arith; far = omega arith; text = λ s X st. plain_text st (omega arith) c.in-None.is (joins (take c.args.a c.args.store.now) (leading c.args.n) (0 ∷ 0 ∷ 534 ∷ 0 ∷ []) r.text u.text) }
 
-pub returns : goal.returns
-returns c = let e = c.emit.ensures in
-    record { up = omega arith; far = omega arith; text = λ s X st. given_text st (omega arith) c.if-last-a.false c.block_result.ensures e.text }
+pub returns-in-Some : goal.returns-in-Some
+returns-in-Some c = let e = c.emit.ensures in
+    record { up = omega arith; far = omega arith; text = λ s X st. given_text st (omega arith) c.in-Some.is c.block_result.ensures e.text }
