@@ -20,7 +20,9 @@ fn jump_kind(kind: u64) -> Option<JumpKind>
     }
 }
 
-// Whether what encloses the record that ends at p serves it: by the entries, or by the records behind it where the entries are full.
+// Whether what encloses the record that ends at p serves it: by the entries, or by the records behind it where the entries are full. Out of line: few records ask it, and
+// written in place its loops make the check take up to 2.5 % more instructions of each statement.
+#[inline(never)]
 fn any_serves(records: &[u64], entries: &Entries, p: usize, jump: Jump) -> bool
     requires { Round records.now entries.now.words.now entries.now.count p }
     ensures { result ≡ any_serves_def (kind_of jump.kind) jump.label (enclosing 1 (drop p records.now)) }

@@ -86,8 +86,8 @@ pub record AtNode (L F : List ℕ) (base h p : ℕ) : Type 0 where
 abbrev pub TreeAt : Standing → ℕ → ℕ → Type 0
 TreeAt s i q = On s.records.now s.kept.now s.base i q
 
-abbrev pub NodeAt : Standing → ℕ → ℕ → Type 0
-NodeAt s h p = AtNode s.records.now s.kept.now s.base h p
+abbrev pub NodeAt : Standing → ℕ → Type 0
+NodeAt s p = AtNode s.records.now s.kept.now s.base s.count p
 
 -- the record of the node at p is sound, so that it has the children of its kind
 pub record SoundAt (L : List ℕ) (p : ℕ) : Type 0 where

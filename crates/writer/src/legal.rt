@@ -14,7 +14,7 @@ use crate::edges::ends_wrong;
 use crate::kinds::{target_item, unlabelled};
 use crate::records::{count_at, kind_at, value_at};
 use crate::sound::sound;
-use crate::standing::{Standing, keep, word_of};
+use crate::standing::{Standing, word_of};
 
 // What is found of a node's children that may stand where they stand: where the node's tree begins, where its first child ends, and whether all are
 // members and indexes of a path.
@@ -52,16 +52,16 @@ impl Standing<'_> {
             && !ends_wrong(self.records, kind, q)
     }
 
-    // Whether the children of the node that ends at p and has the mode m may stand where they stand, from the last of the h trees to the first
-    // child; if so, what is found of them.
-    fn kids_fit(&self, h: usize, p: usize, m: u64) -> Option<Kids>
-        requires { NodeAt self.now h p }
+    // Whether the children of the node that ends at p and has the mode m may stand where they stand, from the last tree to the first child; if so,
+    // what is found of them.
+    fn kids_fit(&self, p: usize, m: u64) -> Option<Kids>
+        requires { NodeAt self.now p }
         ensures { KidsFit self.now.records.now p m result }
     {
         let kind = kind_at(self.records, p);
         let value = value_at(self.records, p);
         let n = count_at(self.records, p);
-        let mut i = h;
+        let mut i = self.count;
         let mut q = p - 2;
         let mut first = q;
         let mut items = true;
@@ -82,9 +82,9 @@ impl Standing<'_> {
         })
     }
 
-    // Whether the node that ends at p, with h trees before it, may stand, its own place aside; if so, what is to be kept of it, if it is kept.
-    fn visit(&self, h: usize, p: usize) -> Option<Option<u64>>
-        requires { NodeAt self.now h p }
+    // Whether the node that ends at p, behind all trees, may stand, its own place aside; if so, what is to be kept of it, if it is kept.
+    fn visit(&self, p: usize) -> Option<Option<u64>>
+        requires { NodeAt self.now p }
         ensures { Visited self.now.records.now p result }
     {
         let kind = kind_at(self.records, p);
@@ -92,10 +92,10 @@ impl Standing<'_> {
         if !sound(kind, value, count_at(self.records, p)) {
             return None;
         }
-        let m = self.mode_by(h, p);
-        let kids = self.kids_fit(h, p, m)?;
-        let labelled = self.labelled_by(h, p, kids.first);
-        let serves = self.serves_by(h, p, m, kids.begin, kids.items);
+        let m = self.mode_by(p);
+        let kids = self.kids_fit(p, m)?;
+        let labelled = self.labelled_by(p, kids.first);
+        let serves = self.serves_by(p, m, kids);
         Some(word_of(class(kind, value, m), labelled, serves, kids.begin))
     }
 }
@@ -106,26 +106,19 @@ pub fn legal(records: &[u64], kept: &mut [u64]) -> bool
     requires { Whole records.now }
     ensures { Legal records.now result }
 {
-    let mut h: usize = 0;
-    let mut base: usize = 0;
-    for node in 0..records.len() / 2 {
-        let p = 2 * node + 2;
-        let standing = Standing {
-            records,
-            kept,
-            base,
-        };
-        let Some(word) = standing.visit(h, p) else {
-            return false;
-        };
-        let i = h - count_at(records, p) as usize;
-        h = i + 1;
-        base = keep(kept, base, i, word);
-    }
-    let standing = Standing {
+    let mut standing = Standing {
         records,
         kept,
-        base,
+        base: 0,
+        count: 0,
     };
+    for node in 0..records.len() / 2 {
+        let p = 2 * node + 2;
+        let Some(word) = standing.visit(p) else {
+            return false;
+        };
+        let i = standing.count - count_at(records, p) as usize;
+        standing.stand(i, word);
+    }
     standing.class_of(0, records.len()) == STATEMENT
 }

@@ -44,7 +44,7 @@ const DEPTH: u64 = limit::DEPTH as u64;
 // writes (docs/DECISIONS.md).
 const ROOM: usize = 6144;
 
-// Where the records of a tree that was written begin, and 2 more than where its words begin (below 2: no room).
+// Where the writing stands: the records before this place are still to be written, and the text begins 2 before this one (below 2: no room).
 #[derive(Clone, Copy)]
 pub struct Step {
     pub records: usize,
@@ -55,31 +55,29 @@ pub struct Step {
 #[derive(Clone, Copy, Debug, PartialEq, Eq)]
 pub struct TooDeep;
 
-// The tree that ends at `from`, its words before the text that begins at end - 2. A chain of operators is a loop from its root: the right
-// side, the operator, and on with the left side.
+// The last tree of those that are still to be written, its words before the text. A chain of operators is a loop from its root: the right side, the operator, and on
+// with the left side.
 #[cycle(write_node_write_tree)]
 fn write_tree(
     records: &[u64],
     output: &mut [u64],
     depth: u64,
     place: Place,
-    from: usize,
-    end: usize,
+    from: Step,
 ) -> Result<Step, TooDeep>
-    requires { Here records.now from × Held end output.old }
-    ensures { WroteTree records.now depth (place_number place) from end output.old output.new result }
+    requires { Here records.now from.records × Held from.words output.old }
+    ensures { WroteTree records.now depth (place_number place) from.records from.words output.old output.new result }
 {
     let mut at = place;
-    let mut p = from;
-    let mut a = end;
-    while records[p - 2] == BINARY_OP {
-        let number = records[p - 1];
-        let side = write_tree(records, output, depth, Place::Own, p - 2, a)?;
-        a = put(output, side.words, op_token(number), 0);
-        p = side.records;
+    let mut step = from;
+    while records[step.records - 2] == BINARY_OP {
+        let number = records[step.records - 1];
+        step.records -= 2;
+        step = write_tree(records, output, depth, Place::Own, step)?;
+        step.words = put(output, step.words, op_token(number), 0);
         at = Place::Own;
     }
-    write_node(records, output, depth, at, p, a)
+    write_node(records, output, depth, at, step)
 }
 
 // The same, of a tree that is no operator with two sides: what stands behind the children, the children from the last to the first, each
@@ -90,12 +88,12 @@ fn write_node(
     output: &mut [u64],
     depth: u64,
     place: Place,
-    p: usize,
-    end: usize,
+    from: Step,
 ) -> Result<Step, TooDeep>
-    requires { Here records.now p × Held end output.old }
-    ensures { WroteTree records.now depth (place_number place) p end output.old output.new result }
+    requires { Here records.now from.records × Held from.words output.old }
+    ensures { WroteTree records.now depth (place_number place) from.records from.words output.old output.new result }
 {
+    let p = from.records;
     let word = records[p - 2];
     let kind = word % CHILD;
     if depth < base(kind) {
@@ -107,19 +105,17 @@ fn write_node(
         form: form_at(records, p, place),
     };
     let n = word / CHILD;
-    let mut q = p - 2;
-    let mut a = head.closing(output, end);
+    let mut step = Step {
+        records: p - 2,
+        words: head.closing(output, from.words),
+    };
     for j in (1..=n).rev() {
-        let b = put(output, a, head.after_token(n, j), 0);
+        step.words = put(output, step.words, head.after_token(n, j), 0);
         let below = depth - head.deeper(j);
-        let kid = write_tree(records, output, below, head.place_of(j), q, b)?;
-        q = kid.records;
-        a = kid.words;
+        step = write_tree(records, output, below, head.place_of(j), step)?;
     }
-    Ok(Step {
-        records: q,
-        words: head.opening(output, a),
-    })
+    step.words = head.opening(output, step.words);
+    Ok(step)
 }
 
 // The tree whose records these are and its semicolon, at the output's front, and zeros behind them.
@@ -127,9 +123,11 @@ fn run_out(records: &[u64], output: &mut [u64]) -> Written
     requires { Here records.now (length records.now) }
     ensures { RanOut records.now output.old output.new result }
 {
-    let a = put(output, output.len() + 2, Some(kind::SEMICOLON), 0);
-    let n = records.len();
-    match write_tree(records, output, DEPTH, Place::Own, n, a) {
+    let end = Step {
+        records: records.len(),
+        words: put(output, output.len() + 2, Some(kind::SEMICOLON), 0),
+    };
+    match write_tree(records, output, DEPTH, Place::Own, end) {
         Ok(step) => written(output, step.words),
         Err(TooDeep) => {
             clear(output, 0);

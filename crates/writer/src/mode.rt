@@ -115,6 +115,8 @@ fn mode(records: &[u64], p: usize) -> u64
     inner_mode(records, p)
 }
 
+// Out of line, as serves_at: only of trees that are not kept it is asked, and written in place the two make the decision take 3 to 6 % more instructions of any.
+#[inline(never)]
 pub fn class_at(records: &[u64], p: usize) -> u64
     requires { Somewhere records.now p }
     ensures { Says records.now p class_in result }

@@ -22,12 +22,13 @@ const BEGIN: u64 = 512;
 // A tree that begins here or behind, or is of a class that there is not, is not kept: its number might be no word.
 const FAR: usize = 18014398509481984;
 
-// The trees that stand, to be asked: the records, and what is kept from the number `base` on.
-#[derive(Clone, Copy)]
+// The trees that stand: the records, what is kept from the number `base` on, and how many there are.
+#[derive(Drop)]
 pub struct Standing<'a> {
     pub records: &'a [u64],
-    pub kept: &'a [u64],
+    pub kept: &'a mut [u64],
     pub base: usize,
+    pub count: usize,
 }
 
 impl Standing<'_> {
@@ -82,6 +83,27 @@ impl Standing<'_> {
             None => serves_at(self.records, q),
         }
     }
+
+    // The tree number i stands, the last one, and its word is kept, if it has one.
+    pub fn stand(&mut self, i: usize, word: Option<u64>)
+        requires { i < 18446744073709551615 }
+        ensures keeps { Keeps self.old.kept.now self.new.kept.now self.old.base i word self.new.base }
+        ensures same { self.new.records.now ≡ self.old.records.now }
+        ensures many { self.new.count ≡ i + 1 }
+    {
+        let n = self.kept.len();
+        self.count = i + 1;
+        let Some(word) = word else {
+            self.base = i + 1;
+            return;
+        };
+        if n == 0 {
+            self.base = i + 1;
+            return;
+        }
+        self.base = first_kept(n, self.base, i);
+        self.kept[i - self.base] = word;
+    }
 }
 
 // What is kept of a tree that has a class and begins at b, if it is kept.
@@ -99,27 +121,5 @@ pub fn word_of(class: u64, labelled: bool, serves: bool, b: usize) -> Option<u64
 fn first_kept(n: usize, base: usize, i: usize) -> usize
     ensures { result ≡ first_kept_def n base i }
 {
-    if i < base {
-        return i;
-    }
-    if n <= i - base {
-        return i;
-    }
-    base
-}
-
-// Keeps the word of the tree number i, the last one, if it has one. Answers from which number on trees are kept.
-pub fn keep(kept: &mut [u64], base: usize, i: usize, word: Option<u64>) -> usize
-    requires { i < 18446744073709551615 }
-    ensures { Keeps kept.old kept.new base i word result }
-{
-    let Some(word) = word else {
-        return i + 1;
-    };
-    if kept.is_empty() {
-        return i + 1;
-    }
-    let from = first_kept(kept.len(), base, i);
-    kept[i - from] = word;
-    from
+    if i < base || n <= i - base { i } else { base }
 }

@@ -121,7 +121,8 @@ fn path_serves(records: &[u64], p: usize) -> bool
     target_items(records, p).is_some()
 }
 
-// Whether the tree that ends at p serves a `fun` with a target: as the target or a part of it, or as the function behind it.
+// Whether the tree that ends at p serves a `fun` with a target: as the target or a part of it, or as the function behind it. Out of line, as class_at (mode.rt).
+#[inline(never)]
 pub fn serves_at(records: &[u64], p: usize) -> bool
     requires { Here records.now p }
     ensures { Tells records.now p serves_def result }

@@ -14,16 +14,16 @@ use Rattle.writer.proofs.run_out.Goals as goal
 
 -- the text begins with the semicolon
 module _ (c : After-write_tree) where
-  ends : Holds c.put-a.result c.put-a.new.output (Kind.Semicolon ∷ 0 ∷ [])
+  ends : Holds c.put.result c.put.new.output (Kind.Semicolon ∷ 0 ∷ [])
   unfolding token_in
-  ends = semicolon (c.put-a.ensures Kind.Semicolon refl)
+  ends = semicolon (c.put.ensures Kind.Semicolon refl)
 
   kept : length c.write_tree.new.output ≡ length c.args.output.now
-  kept = let k = c.write_tree.auto.output in let l = c.put-a.auto.output in omega arith
+  kept = let k = c.write_tree.auto.output in let l = c.put.auto.output in omega arith
 
 pub write_tree-requires : goal.write_tree-requires
 unfolding token_in
-write_tree-requires c = (c.requires, record { words = _; holds = semicolon (c.put-a.ensures Kind.Semicolon refl) })
+write_tree-requires c = (c.requires, record { words = _; holds = semicolon (c.put.ensures Kind.Semicolon refl) })
 
 pub written-requires : goal.written-requires
 written-requires c =

@@ -21,12 +21,12 @@ use Rattle.writer.proofs.standing.Standing.form_by.Goals as goal
 
 -- its children
 module _ (c : Start) where
-  pair : Two c.args.self.now.records.now c.args.self.now.kept.now c.args.self.now.base c.args.h c.args.p
+  pair : Two c.args.self.now.records.now c.args.self.now.kept.now c.args.self.now.base c.args.self.now.count c.args.p
   pair = a_pair c.requires.0 c.requires.1
 
 -- the second is a function
 module _ (c : Else-kind_at-ne-FUNCTION_DEF) where
-  abbrev both : Two c.args.self.now.records.now c.args.self.now.kept.now c.args.self.now.base c.args.h c.args.p
+  abbrev both : Two c.args.self.now.records.now c.args.self.now.kept.now c.args.self.now.base c.args.self.now.count c.args.p
   both = pair (goal.at.Else-kind_at-ne-FUNCTION_DEF c).Start
 
   function : kind_in (Some both.second) ≡ NodeKind.FunctionDef
@@ -56,8 +56,8 @@ unfolding function_form
 returns-then-kind_at-ne-FUNCTION_DEF c = let y = pair (goal.at.returns-then-kind_at-ne-FUNCTION_DEF c).Start in
     says_one y.here (rw (no_function (more y.first (more y.second none)) (λ e. c.if-kind_at-ne-FUNCTION_DEF.true (c.kind_at.ensures.how _ _ (stands y.last) ∙ e))))
 
-pub overflow_sub-h : goal.overflow_sub-h
-overflow_sub-h c = omega (arith, two_room (pair (goal.at.overflow_sub-h c).Start))
+pub overflow_sub-self : goal.overflow_sub-self
+overflow_sub-self c = omega (arith, two_room (pair (goal.at.overflow_sub-self c).Start))
 
 pub serves_of-requires : goal.serves_of-requires
 serves_of-requires c = two_last (pair (goal.at.serves_of-requires c).Start)
@@ -66,14 +66,14 @@ pub returns-then-not-serves_of : goal.returns-then-not-serves_of
 returns-then-not-serves_of c = let y = both (goal.at.returns-then-not-serves_of c).Else-kind_at-ne-FUNCTION_DEF in
     says_one y.here (form_is y.first y.second y.rest (function (goal.at.returns-then-not-serves_of c).Else-kind_at-ne-FUNCTION_DEF) (sym c.if-not-serves_of.true ∙ c.serves_of.ensures.how _ _ y.last) refl refl)
 
-pub overflow_sub-h-2 : goal.overflow_sub-h-2
-overflow_sub-h-2 c = omega (arith, two_room (pair (goal.at.overflow_sub-h-2 c).Start))
+pub overflow_sub-self-2 : goal.overflow_sub-self-2
+overflow_sub-self-2 c = omega (arith, two_room (pair (goal.at.overflow_sub-self-2 c).Start))
 
 pub begin_of-target-requires : goal.begin_of-target-requires
 begin_of-target-requires c = two_last (pair (goal.at.begin_of-target-requires c).Start)
 
-pub overflow_sub-h-3 : goal.overflow_sub-h-3
-overflow_sub-h-3 c = omega (arith, two_room (pair (goal.at.overflow_sub-h-3 c).Start))
+pub overflow_sub-self-3 : goal.overflow_sub-self-3
+overflow_sub-self-3 c = omega (arith, two_room (pair (goal.at.overflow_sub-self-3 c).Start))
 
 pub target_by-requires : goal.target_by-requires
 target_by-requires c = two_first (pair (goal.at.target_by-requires c).Start) c.begin_of-target.ensures
@@ -81,8 +81,8 @@ target_by-requires c = two_first (pair (goal.at.target_by-requires c).Start) c.b
 pub returns-then-not-target_by : goal.returns-then-not-target_by
 returns-then-not-target_by c = by_name (goal.at.returns-then-not-target_by c).After-target_by c.if-not-target_by.true refl
 
-pub overflow_sub-h-4 : goal.overflow_sub-h-4
-overflow_sub-h-4 c = omega (arith, two_room (pair (goal.at.overflow_sub-h-4 c).Start))
+pub overflow_sub-self-4 : goal.overflow_sub-self-4
+overflow_sub-self-4 c = omega (arith, two_room (pair (goal.at.overflow_sub-self-4 c).Start))
 
 pub class_of-requires : goal.class_of-requires
 class_of-requires c = two_last (pair (goal.at.class_of-requires c).Start)

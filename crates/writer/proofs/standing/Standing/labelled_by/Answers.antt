@@ -22,7 +22,7 @@ module _ (c : Then-passes) where
 
 -- there is one
 module _ (c : Else-n-eq0) where
-  first_one : (o : On c.args.self.now.records.now c.args.self.now.kept.now c.args.self.now.base (c.args.h - c.count_at-n.result) c.args.first) × (first_labelled c.requires.0.kids ≡ begins_labelled o.top) × (c.count_at-n.result ≤ c.args.h)
+  first_one : (o : On c.args.self.now.records.now c.args.self.now.kept.now c.args.self.now.base (c.args.self.now.count - c.count_at-n.result) c.args.first) × (first_labelled c.requires.0.kids ≡ begins_labelled o.top) × (c.count_at-n.result ≤ c.args.self.now.count)
   first_one = first_on c.requires.0 c.requires.1 c.count_at-n.ensures c.if-n-eq0.false
 
 -- it begins by itself
@@ -41,8 +41,8 @@ returns-then-n-eq0 c = let k = c.kind_at-kind.ensures in
     let n = c.count_at-n.ensures in
     record { how = λ t s a. sym (labelled_down (Some t) (rw (← k.how _ s (stands a)) (first_begins (goal.at.returns-then-n-eq0 c).Then-passes)) ∙ ap (λ m. option_map_or begins_labelled m false) (no_first t (sym (n.how _ s (stands a)) ∙ c.if-n-eq0.true))) }
 
-pub overflow_sub-h : goal.overflow_sub-h
-overflow_sub-h c = omega (arith, (first_one (goal.at.overflow_sub-h c).Else-n-eq0).2)
+pub overflow_sub-self : goal.overflow_sub-self
+overflow_sub-self c = omega (arith, (first_one (goal.at.overflow_sub-self c).Else-n-eq0).2)
 
 pub labelled_of-requires : goal.labelled_of-requires
 labelled_of-requires c = (first_one (goal.at.labelled_of-requires c).Else-n-eq0).0

@@ -14,10 +14,10 @@ use Rattle.writer.proofs.standing.Standing.list_by.Goals as goal
 
 -- there is a last member
 module _ (c : Else-n-eq0) where
-  last_one : (o : On c.args.self.now.records.now c.args.self.now.kept.now c.args.self.now.base (c.args.h - 1) (c.args.p - 2)) × (last_tree c.requires.kids ≡ Some o.top)
+  last_one : (o : On c.args.self.now.records.now c.args.self.now.kept.now c.args.self.now.base (c.args.self.now.count - 1) (c.args.p - 2)) × (last_tree c.requires.kids ≡ Some o.top)
   last_one = last_on c.requires (λ e. c.if-n-eq0.false (c.count_at-n.ensures.how _ _ (stands c.requires.here) ∙ e))
 
-  many : 1 ≤ c.args.h
+  many : 1 ≤ c.args.self.now.count
   many =
       let n = c.count_at-n.ensures.how _ _ (stands c.requires.here) in
       let m = c.requires.many in
@@ -42,8 +42,8 @@ returns-then-kind_at-eq-LIST c = let o = last_one (goal.at.returns-then-kind_at-
     let y = c.requires in
     says_one y.here (c.list_class.ensures ∙ rw (← c.count_at-n.ensures.how _ _ (stands y.here), o.1, inner_list o.0.top (sym (c.kind_at.ensures.how _ _ (stands o.0.here)) ∙ c.if-kind_at-eq-LIST.true)))
 
-pub overflow_sub-h : goal.overflow_sub-h
-overflow_sub-h c = omega (arith, many (goal.at.overflow_sub-h c).Else-n-eq0)
+pub overflow_sub-self : goal.overflow_sub-self
+overflow_sub-self c = omega (arith, many (goal.at.overflow_sub-self c).Else-n-eq0)
 
 pub class_of-requires : goal.class_of-requires
 class_of-requires c = (last_one (goal.at.class_of-requires c).Else-n-eq0).0

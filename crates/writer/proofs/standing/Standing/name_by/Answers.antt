@@ -7,11 +7,11 @@ use Rattle.writer.proofs.standing.Standing.name_by.Goals as goal
 
 -- its children
 module _ (c : Start) where
-  pair : Two c.args.self.now.records.now c.args.self.now.kept.now c.args.self.now.base c.args.h c.args.p
+  pair : Two c.args.self.now.records.now c.args.self.now.kept.now c.args.self.now.base c.args.self.now.count c.args.p
   pair = a_pair c.requires.0 c.requires.1
 
-pub overflow_sub-h : goal.overflow_sub-h
-overflow_sub-h c = omega (arith, two_room (pair (goal.at.overflow_sub-h c).Start))
+pub overflow_sub-self : goal.overflow_sub-self
+overflow_sub-self c = omega (arith, two_room (pair (goal.at.overflow_sub-self c).Start))
 
 pub overflow_sub-p : goal.overflow_sub-p
 overflow_sub-p c = omega (arith, two_room (pair (goal.at.overflow_sub-p c).Start))

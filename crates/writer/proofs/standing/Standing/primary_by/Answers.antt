@@ -14,12 +14,12 @@ use Rattle.writer.proofs.standing.Standing.primary_by.Goals as goal
 
 -- its children
 module _ (c : Start) where
-  pair : Two c.args.self.now.records.now c.args.self.now.kept.now c.args.self.now.base c.args.h c.args.p
+  pair : Two c.args.self.now.records.now c.args.self.now.kept.now c.args.self.now.base c.args.self.now.count c.args.p
   pair = a_pair c.requires.0 c.requires.1
 
 -- the second is a list
 module _ (c : After-serves_of) where
-  abbrev both : Two c.args.self.now.records.now c.args.self.now.kept.now c.args.self.now.base c.args.h c.args.p
+  abbrev both : Two c.args.self.now.records.now c.args.self.now.kept.now c.args.self.now.base c.args.self.now.count c.args.p
   both = pair (goal.at.After-serves_of c).Start
 
   path : {b : Bool} → c.serves_of.result ≡ b → target_path (more both.second none) ≡ b
@@ -38,8 +38,8 @@ target_receiver-requires c = node_place c.requires.0
 pub returns-then-kind_at-ne-LIST : goal.returns-then-kind_at-ne-LIST
 returns-then-kind_at-ne-LIST c = says_tells c.target_receiver.ensures
 
-pub overflow_sub-h : goal.overflow_sub-h
-overflow_sub-h c = omega (arith, two_room (pair (goal.at.overflow_sub-h c).Start))
+pub overflow_sub-self : goal.overflow_sub-self
+overflow_sub-self c = omega (arith, two_room (pair (goal.at.overflow_sub-self c).Start))
 
 pub serves_of-requires : goal.serves_of-requires
 serves_of-requires c = two_last (pair (goal.at.serves_of-requires c).Start)
@@ -48,8 +48,8 @@ pub returns-then-not-serves_of : goal.returns-then-not-serves_of
 returns-then-not-serves_of c = let y = both (goal.at.returns-then-not-serves_of c).After-serves_of in
     tells_one y.here (rw (path (goal.at.returns-then-not-serves_of c).After-serves_of c.if-not-serves_of.true) (sym (and-false (target_atom (head_kind (more y.first (more y.second none)))))))
 
-pub overflow_sub-h-2 : goal.overflow_sub-h-2
-overflow_sub-h-2 c = omega (arith, two_room (pair (goal.at.overflow_sub-h-2 c).Start))
+pub overflow_sub-self-2 : goal.overflow_sub-self-2
+overflow_sub-self-2 c = omega (arith, two_room (pair (goal.at.overflow_sub-self-2 c).Start))
 
 pub begin_of-atom-requires : goal.begin_of-atom-requires
 begin_of-atom-requires c = two_last (pair (goal.at.begin_of-atom-requires c).Start)

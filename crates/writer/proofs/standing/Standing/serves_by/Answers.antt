@@ -15,12 +15,12 @@ use Rattle.writer.proofs.standing.Standing.serves_by.Goals as goal
 
 -- a pattern's one child, and a node's two
 module _ (c : In-42) where
-  receiver : (o : On c.args.self.now.records.now c.args.self.now.kept.now c.args.self.now.base (c.args.h - 1) (c.args.p - 2)) × (first_tree c.requires.0.kids ≡ Some o.top) × (1 ≤ c.args.h)
+  receiver : (o : On c.args.self.now.records.now c.args.self.now.kept.now c.args.self.now.base (c.args.self.now.count - 1) (c.args.p - 2)) × (first_tree c.requires.0.kids ≡ Some o.top) × (1 ≤ c.args.self.now.count)
   unfolding arity
   receiver = the_only c.requires.0 (arity_at c.requires.0 c.requires.1 c.kind_at.ensures c.in-42.is (λ e. omega arith))
 
 module _ (c : In-43) where
-  pair : Two c.args.self.now.records.now c.args.self.now.kept.now c.args.self.now.base c.args.h c.args.p
+  pair : Two c.args.self.now.records.now c.args.self.now.kept.now c.args.self.now.base c.args.self.now.count c.args.p
   unfolding arity
   pair = let y = c.requires in a_pair y.0 (arity_at y.0 y.1 c.kind_at.ensures c.in-43.is (λ e. omega arith))
 
@@ -32,8 +32,8 @@ unfolding arity
 primary_by-requires c = let y = c.requires in
     (y.0, arity_at y.0 y.1 c.kind_at.ensures c.in-11.is (λ e. omega arith))
 
-pub overflow_sub-h : goal.overflow_sub-h
-overflow_sub-h c = omega (arith, (receiver (goal.at.overflow_sub-h c).In-42).2)
+pub overflow_sub-self : goal.overflow_sub-self
+overflow_sub-self c = omega (arith, (receiver (goal.at.overflow_sub-self c).In-42).2)
 
 pub overflow_sub-p : goal.overflow_sub-p
 overflow_sub-p c = omega (arith, node_room c.requires.0)
@@ -41,8 +41,8 @@ overflow_sub-p c = omega (arith, node_room c.requires.0)
 pub receiver_by-requires : goal.receiver_by-requires
 receiver_by-requires c = (receiver (goal.at.receiver_by-requires c).In-42).0
 
-pub overflow_sub-h-in-43 : goal.overflow_sub-h-in-43
-overflow_sub-h-in-43 c = omega (arith, two_room (pair (goal.at.overflow_sub-h-in-43 c).In-43))
+pub overflow_sub-self-in-43 : goal.overflow_sub-self-in-43
+overflow_sub-self-in-43 c = omega (arith, two_room (pair (goal.at.overflow_sub-self-in-43 c).In-43))
 
 pub overflow_sub-p-in-43 : goal.overflow_sub-p-in-43
 overflow_sub-p-in-43 c = omega (arith, two_room (pair (goal.at.overflow_sub-p-in-43 c).In-43))
@@ -50,8 +50,8 @@ overflow_sub-p-in-43 c = omega (arith, two_room (pair (goal.at.overflow_sub-p-in
 pub begin_of-receiver-requires : goal.begin_of-receiver-requires
 begin_of-receiver-requires c = two_last (pair (goal.at.begin_of-receiver-requires c).In-43)
 
-pub overflow_sub-h-in-43-2 : goal.overflow_sub-h-in-43-2
-overflow_sub-h-in-43-2 c = omega (arith, two_room (pair (goal.at.overflow_sub-h-in-43-2 c).In-43))
+pub overflow_sub-self-in-43-2 : goal.overflow_sub-self-in-43-2
+overflow_sub-self-in-43-2 c = omega (arith, two_room (pair (goal.at.overflow_sub-self-in-43-2 c).In-43))
 
 pub receiver_by-requires-in-43 : goal.receiver_by-requires-in-43
 receiver_by-requires-in-43 c = two_first (pair (goal.at.receiver_by-requires-in-43 c).In-43) c.begin_of-receiver.ensures
