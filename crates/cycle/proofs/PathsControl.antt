@@ -16,14 +16,17 @@ use Rattle.grammar.specs.Reading.Number
 use Rattle.grammar.specs.Reading.Result.{Res, ok, fail, stop, unclean, either, then, ifb, push, Error}
 use Rattle.grammar.specs.Reading.Look.{look, try_label}
 use Rattle.grammar.specs.Reading.Expr.{Depth, expr}
-use Rattle.grammar.specs.Reading.Stmt.{ends, control_value, is_control, control_flow, starts_stmt, synchronize, synchronized, caught}
+use Rattle.grammar.specs.Reading.Stmt.{ends, control_value, control_flow, starts_stmt, synchronize, synchronized, caught}
 use Rattle.grammar.proofs.Laws.Keep.{Holds, k_ok, k_any, k_if}
-use Rattle.scan.specs.Post.{As, Crosses, Taken, Missed, Resumes}
+use Rattle.scan.specs.Post.{As, Crosses, Taken, Missed, Resumes, NumberAt, itself}
+use Rattle.cycle.specs.Parts.{control_kind}
+use Rattle.cycle.specs.declared.Control.{Control}
+use Rattle.cycle.specs.declared.Control.TheVariants.{Continue, Break, Return}
 use Rattle.scan.specs.declared.Failure.{Failure}
 use Rattle.std.proofs.Common.{Ok, Err}
 use Rattle.scan.specs.declared.Halt.{Halt}
 use Rattle.scan.specs.declared.Halt.TheVariants.{Fail, Stop}
-use Rattle.scan.proofs.Laws.{Looks, way, link, as_unclean}
+use Rattle.scan.proofs.Laws.{Looks, way, link, gets, as_unclean}
 use Rattle.scan.proofs.Looking.{counted_stops}
 use Rattle.scan.proofs.Text.{left, fuel_some}
 
@@ -42,35 +45,28 @@ module _ (low : Depth) (q : List Error) {T : List ℕ} {pos k n v : ℕ} (at : T
   value_some e = rw (at.same, e)
 
 -- a control, behind its label
-unfoldable pub label_go : Depth → ℕ → ℕ → List Error → List ℕ → Res Tree
-label_go low k l q r = ifb (eqb k Kind.Continue) (λ _. ok (Node.continue l) r) (λ _. then q (control_value low q r) λ e q₂ s. ok (Node.break l e) s)
+abbrev pub continue_go : ℕ → List Error → List ℕ → Res Tree
+continue_go l q r = ok (Node.continue l) r
 
-module _ (low : Depth) (k : ℕ) (q : List Error) (ts : List ℕ) where
-  pub control_return : k ≡ Kind.Return → control_flow low k q ts ≡ then q (control_value low q ts) (λ e q₁ r. ok (Node.return e) r)
+abbrev pub break_go : Depth → ℕ → List Error → List ℕ → Res Tree
+break_go low l q r = then q (control_value low q r) λ e q₂ s. ok (Node.break l e) s
+
+module _ (low : Depth) {control : Control} (q : List Error) (ts : List ℕ) where
+  pub control_continue : control ≡ Continue → control_flow low (control_kind control) q ts ≡ then q (try_label q ts) continue_go
+  unfolding control_flow ifb
+  control_continue e = rw e
+
+  pub control_break : control ≡ Break → control_flow low (control_kind control) q ts ≡ then q (try_label q ts) (break_go low)
+  unfolding control_flow ifb
+  control_break e = rw e
+
+  pub control_return : control ≡ Return → control_flow low (control_kind control) q ts ≡ then q (control_value low q ts) (λ e q₁ r. ok (Node.return e) r)
   unfolding control_flow ifb
   control_return e = rw e
 
-  label_by : (a b c : Bool) (x : Res ℕ) (z : Res Tree) → (a || b || c) ≡ true → c ≡ false
-      → ifb a (λ _. then q x λ l q₁ r. ok (Node.continue l) r) (λ _. ifb b (λ _. then q x λ l q₁ r. then q₁ (control_value low q₁ r) λ e q₂ s. ok (Node.break l e) s) (λ _. z))
-      ≡ then q x (λ l q₁ r. ifb a (λ _. ok (Node.continue l) r) (λ _. then q₁ (control_value low q₁ r) λ e q₂ s. ok (Node.break l e) s))
-  unfolding ifb
-  label_by true b c x z h g = refl
-  label_by false true c x z h g = refl
-  label_by false false true x z h g = absurd (let y : ◌≡◌ {A = ℕ} 0 1 = cc in omega arith)
-  label_by false false false x z h g = absurd (let y : ◌≡◌ {A = ℕ} 0 1 = cc in omega arith)
-
-  pub control_label : (k ≡ Kind.Return → ⊥) → is_control k ≡ true → control_flow low k q ts ≡ then q (try_label q ts) (label_go low k)
-  unfolding control_flow label_go
-  control_label e h = label_by (eqb k Kind.Continue) (eqb k Kind.Break) (eqb k Kind.Return) (try_label q ts) _ h (ne_eqb _ _ e)
-
-module _ (low : Depth) (k : ℕ) (q : List Error) (r : List ℕ) {x l : ℕ} where
-  pub label_continue : k ≡ Kind.Continue → x ≡ l → label_go low k x q r ≡ ok (Node.continue l) r
-  unfolding label_go ifb
-  label_continue e h = rw (e, h)
-
-  pub label_break : (k ≡ Kind.Continue → ⊥) → x ≡ l → label_go low k x q r ≡ then q (control_value low q r) (λ e q₂ s. ok (Node.break l e) s)
-  unfolding label_go ifb
-  label_break e h = rw (ne_eqb _ _ e, h)
+-- D goes on from a label by k, and it was found
+pub labelled : {D : Res Tree} {q q₁ : List Error} {d : List Error → Res ℕ} {T : List ℕ} {least bound p l : ℕ} (k : ℕ → List Error → List ℕ → Res Tree) → NumberAt itself d T least bound p l → As q D q₁ (then q₁ (d q₁) k) → As q D q₁ (k l q₁ (drop p T))
+labelled {q₁ = q₁} {T = T} {p = p} k n a = link (gets k n.got a) (way _ (ap (λ (v : ℕ). k v q₁ (drop p T)) n.is))
 
 -- resynchronization
 abbrev pub sync_no : Depth → Bool → ℕ → ℕ → List Error → List ℕ → Res (Unit {0})

@@ -22,11 +22,12 @@ use Rattle.grammar.specs.Reading.Depth.{at_depth}
 use Rattle.grammar.proofs.Laws.Levels.Nonterminals.{stmt_leveled, depth_levels}
 use Rattle.grammar.proofs.Laws.Keep.{Holds, Keep, k_ok, k_fail, k_stop, k_all, k_unclean, k_on, k_any, k_or, k_if}
 use Rattle.scan.specs.Post.{As, no_words, Failed, Wrote, Crosses, Taken, Queues}
-use Rattle.cycle.specs.Parts.{Place, a_stmt, a_control, a_caught, resume, turn, control_words}
+use Rattle.cycle.specs.Parts.{Which, control_kind, Place, a_stmt, a_control, a_caught, resume, turn, control_words}
+use Rattle.cycle.specs.declared.Control.{Control}
 use Rattle.nodes.specs.Ends.{Marked, statement, no_statement}
 use Rattle.nodes.specs.Lists.{Ends, keeps, gives}
 use Rattle.cycle.specs.Lists.{Controlled, Enters}
-use Rattle.std.proofs.Common.{Ok, Err, Option, Some}
+use Rattle.std.proofs.Common.{Ok, Err, Option, Some, None}
 use Rattle.scan.specs.declared.Cursor.{Cursor}
 use Rattle.scan.specs.declared.Halt.{Halt}
 use Rattle.scan.specs.declared.Entry.{Entry}
@@ -47,14 +48,23 @@ control_go low end k c q r = then q (control_last end k q r) λ u q₂ s. ok (a_
 abbrev pub stmt_go : Tree → List Error → List ℕ → Res Place
 stmt_go t q r = ok (a_stmt t) r
 
-module _ (low : Depth) (end k : ℕ) (rest : List ℕ) (q : List Error) (ts : List ℕ) where
-  pub turn_control : is_control k ≡ true → turn low end k rest q ts ≡ either q (control_flow low k q rest) (control_go low end k) (resume low)
-  unfolding turn ifb
-  turn_control e = rw e
+which_some : {k : ℕ} {w : Option Control} {control : Control} → w ≡ Some control → Which k w → (is_control k ≡ true) × (k ≡ control_kind control)
+which_some e h = rw e at h.how
 
-  pub turn_stmt : is_control k ≡ false → turn low end k rest q ts ≡ either q (stmt low q ts) stmt_go (resume low)
+which_none : {k : ℕ} (w : Option Control) → ((control : Control) → w ≡ Some control → ⊥) → Which k w → is_control k ≡ false
+which_none None e h = h.how
+which_none (Some control) e h = absurd (e control refl)
+
+module _ (low : Depth) (end k : ℕ) (rest : List ℕ) (q : List Error) (ts : List ℕ) {w : Option Control} (which : Which k w) where
+  pub turn_control : {control : Control} → w ≡ Some control → turn low end k rest q ts ≡ either q (control_flow low (control_kind control) q rest) (control_go low end k) (resume low)
   unfolding turn ifb
-  turn_stmt e = rw e
+  turn_control e =
+      let (one, is) = which_some e which in
+      rw one (ap (λ (j : ℕ). either q (control_flow low j q rest) (control_go low end k) (resume low)) is)
+
+  pub turn_stmt : ((control : Control) → w ≡ Some control → ⊥) → turn low end k rest q ts ≡ either q (stmt low q ts) stmt_go (resume low)
+  unfolding turn ifb
+  turn_stmt e = rw (which_none w e which)
 
 -- the words left where an error was caught hold a token
 abbrev pub Two : {A : Type 0} → Res A → Type 0

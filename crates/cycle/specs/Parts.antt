@@ -1,6 +1,6 @@
 -- Readings that a function of the code does and the definition has no name for, and the words that readings leave where these are no whole tree's.
 -- Definitions; they assume nothing.
-use Rattle.std.specs.Prelude.{List, [], ◌∷◌, ◌++◌, ℕ, zero, suc, ◌+◌, ◌*◌, eqb}
+use Rattle.std.specs.Prelude.{◌≡◌, true, false, Option, Some, None, List, [], ◌∷◌, ◌++◌, ℕ, zero, suc, ◌+◌, ◌*◌, eqb}
 use Rattle.token.specs.Kind
 use Rattle.tree.specs.Tree.{Tree, Forest, snoc, records}
 use Rattle.tree.specs.Node
@@ -11,6 +11,8 @@ use Rattle.grammar.specs.Reading.Expr.{Depth, Stmts, inner_expr, expr}
 use Rattle.grammar.specs.Reading.Primary.{indexing_expr, table_literal, member_access, invocation}
 use Rattle.grammar.specs.Reading.Block.{body, block_of}
 use Rattle.grammar.specs.Reading.Stmt.{stmt_list_of, stmt, is_control, control_flow, control_last, caught}
+use Rattle.cycle.specs.declared.Control.{Control}
+use Rattle.cycle.specs.declared.Control.TheVariants.{Continue, Break, Return}
 
 -- the members of a tuple behind its first, after some
 unfoldable pub tail : Depth → ℕ → Forest → List Error → List ℕ → Res Forest
@@ -58,6 +60,20 @@ whiles low q ts =
 -- its words, under a record
 abbrev pub whiles_words : ℕ → ℕ → Whiles → List ℕ
 whiles_words word value x = records x.over ++ (records (stmt_list_of x.run) ++ word ∷ value ∷ [])
+
+-- the token kind of a control
+abbrev pub control_kind : Control → ℕ
+control_kind Continue = Kind.Continue
+control_kind Break = Kind.Break
+control_kind Return = Kind.Return
+
+-- the code's answer r tells whether a token kind is a control's, and which one's
+abbrev pub WhichAs : ℕ → Option Control → Type 0
+WhichAs k (Some control) = (is_control k ≡ true) × (k ≡ control_kind control)
+WhichAs k None = is_control k ≡ false
+
+pub record Which (k : ℕ) (r : Option Control) : Type 0 where
+  pub how : WhichAs k r
 
 -- what stands at a place of a statement list: a statement; a control; an error that was caught
 pub data Place : Type 0 where

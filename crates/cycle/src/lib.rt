@@ -1,18 +1,18 @@
 // The reading functions that call one another: words of tokens in, records of trees out, and errors that wait.
 #![tactic(auto)]
 
-ghost use Rattle.std.specs.Prelude.{◌≡◌, true, ◌+◌, ◌≤◌, length, drop};
+ghost use Rattle.std.specs.Prelude.{◌+◌, ◌≤◌, length, drop};
 ghost use Rattle.operator.specs.Operator.{level_count};
 ghost use Rattle.tree.specs.Tree.{none, records};
 ghost use Rattle.grammar.specs.Reading.Expr.{binop_expr, tuple_expr, expr as expr_def};
 ghost use Rattle.grammar.specs.Reading.Primary.{group_expr, atom as atom_def, indexing_expr, table_field, table_item, table_literal, invocation, path as path_def, primary as primary_def, unpack_expr};
 ghost use Rattle.grammar.specs.Reading.Block.{body as body_def, block_expr, expr_label, if_expr as if_expr_def};
 ghost use Rattle.grammar.specs.Reading.Function.{param as param_def, function_param_list, function_def, function_assignment_target, function_decl_expr};
-ghost use Rattle.grammar.specs.Reading.Stmt.{loop as loop_def, lvalue_list, for_loop, stmt_label, stmt as stmt_def, is_control as is_control_def, control_value, control_flow, synchronize, caught as caught_def};
+ghost use Rattle.grammar.specs.Reading.Stmt.{loop as loop_def, lvalue_list, for_loop, stmt_label, stmt as stmt_def, control_value, control_flow, synchronize, caught as caught_def};
 ghost use Rattle.grammar.specs.Reading.Depth.{primary_expr, at_depth};
 ghost use Rattle.scan.specs.Post.{Ready, Lent, Reading, Crosses};
 ghost use Rattle.scan.specs.Parts.{until};
-ghost use Rattle.cycle.specs.Parts.{tail as tail_def, part as part_def, list_words, arm as arm_def, whiles as whiles_def, whiles_words, turn as turn_def};
+ghost use Rattle.cycle.specs.Parts.{Which, control_kind, tail as tail_def, part as part_def, list_words, arm as arm_def, whiles as whiles_def, whiles_words, turn as turn_def};
 ghost use Rattle.nodes.specs.Parts.{tuple_words, path_words, signature_words};
 ghost use Rattle.cycle.specs.Lists.{Lists, Enters};
 ghost use Rattle.nodes.specs.Parameters.{ParamsRead};
@@ -38,6 +38,26 @@ use scan::tokens::{
 use scan::{Cursor, Entry, Failure, Halt, Listed, Suite, Until, number};
 use token::kind;
 use tree::{emit, word};
+
+// What ends a statement list with its statement.
+#[derive(Clone, Copy)]
+enum Control {
+    Continue,
+    Break,
+    Return,
+}
+
+// The control that a token of this kind begins, if it begins one.
+fn which_control(kind: u64) -> Option<Control>
+    ensures { Which kind result }
+{
+    match kind {
+        kind::CONTINUE => Some(Control::Continue),
+        kind::BREAK => Some(Control::Break),
+        kind::RETURN => Some(Control::Return),
+        _ => None,
+    }
+}
 
 // Stays tokens, store, queue and depth apart: a struct that holds what is lent takes a name of its own in each of the 40 contracts for what it held before and after,
 // where `store.old` and `queue.new` stand now; and `Ready` says of a place what no place alone has, that the tokens and the store reach so far.
@@ -978,42 +998,45 @@ fn val(
     expr(tokens, store, queue, depth, cursor)
 }
 
-// `try_parse_control_flow`, behind its token, of the kind k.
+// `try_parse_control_flow`, behind its token.
 #[cycle(reading)]
 fn jump(
     tokens: &[u64],
     store: &mut [u64],
     queue: &mut Waiting,
     depth: usize,
-    k: u64,
+    control: Control,
     cursor: Cursor,
 ) -> Result<Cursor, Halt>
-    requires { Ready (length tokens.now) (length store.old) cursor.pos cursor.at × Lent (length tokens.now) (length store.old) cursor.pos cursor.at × (is_control_def k ≡ true) }
-    ensures { Reading records (control_flow (at_depth depth) k) tokens.now cursor.pos cursor.pos 4 cursor.at store.old queue.old store.new queue.new result }
+    requires { Ready (length tokens.now) (length store.old) cursor.pos cursor.at × Lent (length tokens.now) (length store.old) cursor.pos cursor.at }
+    ensures { Reading records (control_flow (at_depth depth) (control_kind control)) tokens.now cursor.pos cursor.pos 4 cursor.at store.old queue.old store.new queue.new result }
 {
-    if k == kind::RETURN {
-        let value = val(tokens, store, queue, depth, cursor)?;
-        return Ok(Cursor {
-            at: emit(store, value.at, word::RETURN, 0),
-            ..value
-        });
+    match control {
+        Control::Continue => {
+            let label = try_label(tokens, cursor.pos)?;
+            let at = emit(store, cursor.at, word::CONTINUE, label.number);
+            Ok(Cursor { pos: label.pos, at })
+        }
+        Control::Break => {
+            let label = try_label(tokens, cursor.pos)?;
+            let start = Cursor {
+                pos: label.pos,
+                ..cursor
+            };
+            let value = val(tokens, store, queue, depth, start)?;
+            Ok(Cursor {
+                at: emit(store, value.at, word::BREAK, label.number),
+                ..value
+            })
+        }
+        Control::Return => {
+            let value = val(tokens, store, queue, depth, cursor)?;
+            Ok(Cursor {
+                at: emit(store, value.at, word::RETURN, 0),
+                ..value
+            })
+        }
     }
-    let label = try_label(tokens, cursor.pos)?;
-    let start = Cursor {
-        pos: label.pos,
-        ..cursor
-    };
-    if k == kind::CONTINUE {
-        return Ok(Cursor {
-            at: emit(store, start.at, word::CONTINUE, label.number),
-            ..start
-        });
-    }
-    let value = val(tokens, store, queue, depth, start)?;
-    Ok(Cursor {
-        at: emit(store, value.at, word::BREAK, label.number),
-        ..value
-    })
 }
 
 // `synchronize_stmt`: an expression that reads is dropped and ends it; one that fails, and a lexer error, are passed over.
@@ -1091,12 +1114,12 @@ fn turn(
     ensures { Enters (turn_def (at_depth depth) (until end) kind (drop (suite.end.pos + 2) tokens.now) queue.old (drop suite.end.pos tokens.now)) tokens.now suite.end.pos suite.count suite.end.at store.old queue.old store.new queue.new result }
 {
     let place = suite.end;
-    if is_control(kind) {
+    if let Some(control) = which_control(kind) {
         let start = Cursor {
             pos: place.pos + 2,
             at: list_end(store, place.at, suite.count),
         };
-        return match jump(tokens, store, queue, depth, kind, start) {
+        return match jump(tokens, store, queue, depth, control, start) {
             Ok(next) => {
                 let pos = control_last(tokens, queue, end, kind, next.pos)?;
                 Ok(Entry::Control(Cursor { pos, ..next }))

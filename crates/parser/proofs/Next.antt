@@ -16,7 +16,7 @@ use Rattle.scan.specs.declared.Cursor.{Cursor}
 use Rattle.scan.specs.declared.Halt.{Halt}
 use Rattle.scan.specs.declared.Halt.TheVariants.{Stop}
 use Rattle.scan.proofs.Laws.{way, link, wins, undone, did_not, stops, onto, lose_as}
-use Rattle.scan.proofs.Waiting.{joins}
+use Rattle.scan.proofs.Waiting.{pushed}
 
 -- what follows the separators
 abbrev pub next_go : ℕ → Unit {0} → List Error → List ℕ → Res Tree
@@ -61,4 +61,4 @@ failed_push d e Q ts = refl
 
 pub failed_step : (d : ℕ) (ts : List ℕ) {e : ℕ} {Q q q' : List ℕ} {u : Unit {0}} {f : ℕ} → Pushes e Q q (Ok u) → q ≡ f ∷ q' → As Q (failed d e Q ts) q' (sync_fail d ts f q')
 failed_step d ts {e} {Q} {q} {q'} {f = f} p y =
-    link (way Q (failed_push d e Q ts)) (link (joins (λ q₁. front q₁ (sync_fail d ts)) p) (link (way q (front_of q (sync_fail d ts) y)) (lose_as q q' q' f (synchronize (at_depth d) false (length ts) q' ts))))
+    link (way Q (failed_push d e Q ts)) (link (pushed (λ q₁. front q₁ (sync_fail d ts)) p) (link (way q (front_of q (sync_fail d ts) y)) (lose_as q q' q' f (synchronize (at_depth d) false (length ts) q' ts))))

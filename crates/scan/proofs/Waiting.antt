@@ -21,14 +21,14 @@ pub other : {A : Type 0} {b : Bool} (f g : Unit {0} → A) → b ≡ false → i
 unfolding ifb
 other f g e = rw e
 
--- a push, as `push` answers it
-pub joins : {A : Type 0} {e : ℕ} {Q Q' : List Error} {u : Unit {0}} (k : List Error → Res A) → Pushes e Q Q' (Ok u) → As Q (push e Q k) Q' (k Q')
+-- from what `push` answered: D goes on, or stops
+pub pushed : {A : Type 0} {e : ℕ} {Q Q' : List Error} {u : Unit {0}} (k : List Error → Res A) → Pushes e Q Q' (Ok u) → As Q (push e Q k) Q' (k Q')
 unfolding push
-joins {e = e} {Q} k p = rw p.how.1 (link (way _ (other _ _ (ne_eqb _ _ (omega (arith, p.how.0))))) (as_unclean _ _))
+pushed {e = e} {Q} k p = rw p.how.1 (link (way _ (other _ _ (ne_eqb _ _ (omega (arith, p.how.0))))) (as_unclean _ _))
 
-pub overfull : {A : Type 0} {D : Res A} {e : ℕ} {Q Q' : List Error} {h : Halt} {T : List ℕ} {pos least at : ℕ} {S S' : List ℕ} (k : List Error → Res A) → As Q D Q (push e Q k) → Pushes e Q Q' (Err h) → Failed D T pos least at S Q S' Q' h
+pub unpushed : {A : Type 0} {D : Res A} {e : ℕ} {Q Q' : List Error} {h : Halt} {T : List ℕ} {pos least at : ℕ} {S S' : List ℕ} (k : List Error → Res A) → As Q D Q (push e Q k) → Pushes e Q Q' (Err h) → Failed D T pos least at S Q S' Q' h
 unfolding push
-overfull k on p = rw p.how.2 (record { how = link on (ends (chosen _ _ (eq-eqb _ _ p.how.0))) })
+unpushed k on p = rw p.how.2 (record { how = link on (ends (chosen _ _ (eq-eqb _ _ p.how.0))) })
 
 pub pops : {A : Type 0} (q : List Error) (r : List ℕ) {e : ℕ} {q' : List Error} → q ≡ e ∷ q' → pop {A = A} q r ≡ fail e q' r
 unfolding pop

@@ -332,23 +332,26 @@ item-returns-in_err-value = Rattle.cycle.proofs.+reading.Answers.Item.item-retur
 pub item-returns : goal.item-returns
 item-returns = Rattle.cycle.proofs.+reading.Answers.Item.item-returns
 
-pub jump-returns-in_err-value : goal.jump-returns-in_err-value
-jump-returns-in_err-value = Rattle.cycle.proofs.+reading.Answers.Jump.jump-returns-in_err-value
+pub jump-returns-in_err-label-in-Continue : goal.jump-returns-in_err-label-in-Continue
+jump-returns-in_err-label-in-Continue = Rattle.cycle.proofs.+reading.Answers.Jump.jump-returns-in_err-label-in-Continue
 
-pub jump-returns-then-k-eq-RETURN : goal.jump-returns-then-k-eq-RETURN
-jump-returns-then-k-eq-RETURN = Rattle.cycle.proofs.+reading.Answers.Jump.jump-returns-then-k-eq-RETURN
+pub jump-returns-in_ok-label-in-Continue : goal.jump-returns-in_ok-label-in-Continue
+jump-returns-in_ok-label-in-Continue = Rattle.cycle.proofs.+reading.Answers.Jump.jump-returns-in_ok-label-in-Continue
 
-pub jump-returns-then-k-eq-CONTINUE : goal.jump-returns-then-k-eq-CONTINUE
-jump-returns-then-k-eq-CONTINUE = Rattle.cycle.proofs.+reading.Answers.Jump.jump-returns-then-k-eq-CONTINUE
+pub jump-returns-in_err-label-in-Break : goal.jump-returns-in_err-label-in-Break
+jump-returns-in_err-label-in-Break = Rattle.cycle.proofs.+reading.Answers.Jump.jump-returns-in_err-label-in-Break
 
-pub jump-returns-in_err-value-2 : goal.jump-returns-in_err-value-2
-jump-returns-in_err-value-2 = Rattle.cycle.proofs.+reading.Answers.Jump.jump-returns-in_err-value-2
+pub jump-returns-in_err-value-in-Break : goal.jump-returns-in_err-value-in-Break
+jump-returns-in_err-value-in-Break = Rattle.cycle.proofs.+reading.Answers.Jump.jump-returns-in_err-value-in-Break
 
-pub jump-returns : goal.jump-returns
-jump-returns = Rattle.cycle.proofs.+reading.Answers.Jump.jump-returns
+pub jump-returns-in_ok-value-in-Break : goal.jump-returns-in_ok-value-in-Break
+jump-returns-in_ok-value-in-Break = Rattle.cycle.proofs.+reading.Answers.Jump.jump-returns-in_ok-value-in-Break
 
-pub jump-returns-in_err-label : goal.jump-returns-in_err-label
-jump-returns-in_err-label = Rattle.cycle.proofs.+reading.Answers.Jump.jump-returns-in_err-label
+pub jump-returns-in_err-value-in-Return : goal.jump-returns-in_err-value-in-Return
+jump-returns-in_err-value-in-Return = Rattle.cycle.proofs.+reading.Answers.Jump.jump-returns-in_err-value-in-Return
+
+pub jump-returns-in_ok-value-in-Return : goal.jump-returns-in_ok-value-in-Return
+jump-returns-in_ok-value-in-Return = Rattle.cycle.proofs.+reading.Answers.Jump.jump-returns-in_ok-value-in-Return
 
 pub key-returns-then-token-ne-OPEN_SQUARE : goal.key-returns-then-token-ne-OPEN_SQUARE
 key-returns-then-token-ne-OPEN_SQUARE = Rattle.cycle.proofs.+reading.Answers.Key.key-returns-then-token-ne-OPEN_SQUARE

@@ -3,13 +3,13 @@ use mathlib.Core.Path.{refl}
 use native.Mathlib.Omega.{arith}
 use lib.ListN.{drop}
 use Rattle.scan.proofs.Laws.{hands, way, goes, did_not, fails}
-use Rattle.scan.proofs.Waiting.{overfull, longer, fewer}
+use Rattle.scan.proofs.Waiting.{unpushed, longer, fewer}
 use Rattle.grammar.specs.Reading.Limit.{depth_limit}
 use Rattle.parser.proofs.Next.{failed_push, failed_step}
 use Rattle.parser.proofs.failed.Goals as goal
 
 pub returns-in_err-push : goal.returns-in_err-push
-returns-in_err-push c = hands c.from_residual.ensures.1 (overfull _ (way _ (failed_push depth_limit _ _ _)) c.in_err-push.ensures)
+returns-in_err-push c = hands c.from_residual.ensures.1 (unpushed _ (way _ (failed_push depth_limit _ _ _)) c.in_err-push.ensures)
 
 pub pop-error-requires : goal.pop-error-requires
 pop-error-requires c = omega (arith, longer c.in_ok-push.ensures)

@@ -6,7 +6,7 @@ use lib.ListN.{drop}
 use Rattle.grammar.specs.Reading.Result.{ok, then}
 use Rattle.grammar.specs.Reading.Stmt.{control_last}
 use Rattle.scan.proofs.Laws.{handed, way, here, link, taken, fails_unseen}
-use Rattle.scan.proofs.Waiting.{chosen, other, joins, overfull, longer}
+use Rattle.scan.proofs.Waiting.{chosen, other, pushed, unpushed, longer}
 use Rattle.scan.proofs.queue.control_last.Goals as goal
 
 pub returns-in_err-token : goal.returns-in_err-token
@@ -23,11 +23,11 @@ unfolding control_last then
 returns-in_err-push c = let tk = taken c.in_ok-token.ensures in
     let on = way _ (rw tk.same (other _ _ (sym c.ends.ensures ∙ c.if-ends.false))) in
     let e = c.not_last.ensures in
-    rw (handed c.from_residual-in_err-push.ensures.1) (record { how = overfull (λ q. ok tt (drop (c.args.pos + 2) c.args.tokens.now)) on (rw e at c.in_err-push.ensures) })
+    rw (handed c.from_residual-in_err-push.ensures.1) (record { how = unpushed (λ q. ok tt (drop (c.args.pos + 2) c.args.tokens.now)) on (rw e at c.in_err-push.ensures) })
 
 pub returns : goal.returns
 unfolding control_last then
 returns c = let tk = taken c.in_ok-token.ensures in
     let e = c.not_last.ensures in
     let u = rw e at c.in_ok-push.ensures in
-    record { how = record { what = tt; same = link (way _ (rw tk.same (other _ _ (sym c.ends.ensures ∙ c.if-ends.false)))) (joins (λ q. ok tt (drop (c.args.pos + 2) c.args.tokens.now)) u); moved = record { on = omega arith; within = tk.within; more = omega (arith, longer u) } } }
+    record { how = record { what = tt; same = link (way _ (rw tk.same (other _ _ (sym c.ends.ensures ∙ c.if-ends.false)))) (pushed (λ q. ok tt (drop (c.args.pos + 2) c.args.tokens.now)) u); moved = record { on = omega arith; within = tk.within; more = omega (arith, longer u) } } }
