@@ -30,14 +30,6 @@ pub enum Halt {
     Stop(u64),
 }
 
-// A number that was read, and past which word of the tokens.
-// Stays a number where it may be none (a label): 0, or 1 + it, is what the record has that it goes into, and nothing takes it apart before.
-#[derive(Clone, Copy)]
-pub struct Found {
-    pub pos: usize,
-    pub number: u64,
-}
-
 // The `MatchAction` that a keyword before an assignment stands for: `local`, `nonlocal`, `let` and `var`.
 #[derive(Clone, Copy)]
 pub enum Action {
@@ -61,6 +53,14 @@ impl From<Action> for u64 {
 pub struct Keyword {
     pub pos: usize,
     pub action: Option<Action>,
+}
+
+// A number that was read, and past which word of the tokens.
+// Stays a number where it may be none (a label): 0, or 1 + it, is what the record has that it goes into, and nothing takes it apart before.
+#[derive(Clone, Copy)]
+pub struct Found {
+    pub pos: usize,
+    pub number: u64,
 }
 
 // The statements of a list without control: past which words they end, how many they are, and where the last one starts, if it is an expression statement.
