@@ -39,7 +39,7 @@ use scan::{Cursor, Entry, Failure, Halt, Listed, Suite, Until, number};
 use token::kind;
 use tree::{emit, word};
 
-// What ends a statement list with its statement.
+// A control, the last of a statement list.
 #[derive(Clone, Copy)]
 enum Control {
     Continue,

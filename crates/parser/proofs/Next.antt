@@ -10,7 +10,8 @@ use Rattle.grammar.specs.Reading.Result.{Res, ok, fail, either, then, push, Erro
 use Rattle.grammar.specs.Reading.Stmt.{synchronize, stmt}
 use Rattle.grammar.specs.Reading.Depth.{at_depth}
 use Rattle.grammar.specs.Reading.Next.{start, front, failed, next}
-use Rattle.scan.specs.Post.{As, Agrees, Pushes}
+use Rattle.std.specs.Result.{IsErrAnd}
+use Rattle.scan.specs.Post.{As, Failed, Agrees, Pushes}
 use Rattle.std.proofs.Common.{Result, Ok, Err}
 use Rattle.scan.specs.declared.Cursor.{Cursor}
 use Rattle.scan.specs.declared.Halt.{Halt}
@@ -38,14 +39,10 @@ module _ {D d : Res Tree} (or : ℕ → List Error → List ℕ → Res Tree) {T
   pub halted : {n : ℕ} {h : Halt} → h ≡ Stop n → Agrees records d T p (p + 2) 14 0 S Q S' Q' (Err h) → Agrees records D T 0 0 8 0 S Q S' Q' (Err (Stop n))
   halted e f = did_not (stops _ or e x (undone f))
 
--- D is at last d, a reading further on
-pub at_last : {D d : Res Tree} {T : List ℕ} {p : ℕ} {S Q S₁ Q₁ S' Q' : List ℕ} {r : Result Cursor Halt} → As Q D Q₁ d → Agrees records d T p p 8 0 S₁ Q₁ S' Q' r → length Q ≤ length Q₁ → Agrees records D T 0 0 8 0 S Q S' Q' r
-at_last {r = Ok c} x h more =
-    let u = h.how in
-    let m = u.moved in
-    let k = u.room in
-    record { how = record { what = u.what; same = link x u.same; moved = omega arith; room = omega arith; text = u.text } }
-at_last {r = Err h} x f more = did_not (onto x f.how refl (omega arith))
+-- D is at last d, a statement that failed
+pub at_last : {D d : Res Tree} {T : List ℕ} (p : ℕ) {S Q : List ℕ} (S₁ : List ℕ) {Q₁ S' Q' : List ℕ} {r : Result Cursor Halt} → As Q D Q₁ d → IsErrAnd r (λ h. Failed d T p p 0 S₁ Q₁ S' Q' h) → length Q ≤ length Q₁ → Agrees records D T 0 0 8 0 S Q S' Q' r
+at_last p S₁ {r = Ok c} x f more = absurd f
+at_last p S₁ {r = Err h} x f more = did_not (onto x f refl (omega arith))
 
 -- the resynchronization, before the answer f
 abbrev pub sync_fail : ℕ → List ℕ → ℕ → List Error → Res Tree

@@ -6,7 +6,8 @@ ghost use Rattle.tree.specs.Tree.{records};
 ghost use Rattle.grammar.specs.Reading.Limit.{depth_limit, length_limit, queue_limit};
 ghost use Rattle.grammar.specs.Reading.Next.{is_stop as is_stop_def, queue_fits as queue_fits_def, reader_at, halted, error_answer as error_answer_def, called, failed as failed_def, next};
 ghost use Rattle.grammar.specs.Contract.{Returns};
-ghost use Rattle.scan.specs.Post.{Ready, Agrees};
+ghost use Rattle.std.specs.Result.{IsErrAnd};
+ghost use Rattle.scan.specs.Post.{Ready, Failed, Agrees};
 
 pub mod host;
 pub mod kept;
@@ -26,7 +27,7 @@ fn failed(
     f: Failure,
 ) -> Result<Cursor, Halt>
     requires { Ready (length tokens.now) (length store.old) f.pos 0 }
-    ensures { Agrees records (failed_def depth_limit f.error queue.old (drop f.pos tokens.now)) tokens.now f.pos f.pos 8 0 store.old queue.old store.new queue.new result }
+    ensures { IsErrAnd result (λ h. Failed (failed_def depth_limit f.error queue.old (drop f.pos tokens.now)) tokens.now f.pos f.pos 0 store.old queue.old store.new queue.new h) }
 {
     queue.push(f.error)?;
     let error = queue.pop();

@@ -19,7 +19,7 @@ pub returns-in-Err-Fail : goal.returns-in-Err-Fail
 returns-in-Err-Fail c =
     let path = gets (next_go depth_limit) (passed c.in_ok-pos.ensures) (way _ (next_step depth_limit _ c.args.tokens.now)) in
     let m = missed c.in-Err-Fail.field-0-is (undone c.in-Err-Fail.ensures) in
-    at_last (loses _ _ path m.same) c.failed.ensures (omega (arith, m.moved))
+    at_last _ _ (loses _ _ path m.same) c.failed.ensures (omega (arith, m.moved))
 
 pub returns-in-Err-Stop : goal.returns-in-Err-Stop
 returns-in-Err-Stop c =
