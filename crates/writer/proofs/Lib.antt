@@ -4,6 +4,7 @@ mod Shaping
 mod Texts
 mod Spots
 mod Keeping
+mod Classes
 mod Places
 mod Kids
 mod Fitted
