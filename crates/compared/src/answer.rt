@@ -1,4 +1,8 @@
 // What calls answer, as the input of `replay` writes it and as a difference prints it: a letter for the case, and a number.
+ghost use Rattle.std.specs.Prelude.{◌≡◌, Some, [], ◌∷◌};
+ghost use Rattle.grammar.specs.Reading.Next.{reader_at};
+ghost use Rattle.compared.specs.Said.{letter, said_text, said, said_of_answer, said_of_written, expects, no_tree, a_tree};
+
 use grammar::limit::QUEUE;
 use grammar::{Answer, Reader, Written};
 use std::fmt;
@@ -16,6 +20,8 @@ pub enum Case {
 }
 
 impl fmt::Display for Case {
+    ghost output = { λ c. Some (letter c ∷ []) };
+
     fn fmt<W: fmt::Write>(&self, f: &mut fmt::Formatter<W>) -> fmt::Result {
         f.write_str(match self {
             Case::Tree => "t",
@@ -38,18 +44,24 @@ pub struct Said {
 }
 
 impl Said {
-    pub fn new(case: Case, number: u64) -> Said {
+    pub fn new(case: Case, number: u64) -> Said
+        ensures { result ≡ said case number }
+    {
         Said { case, number }
     }
 }
 
 impl fmt::Display for Said {
+    ghost output = { λ s. Some (said_text s) };
+
     fn fmt<W: fmt::Write>(&self, f: &mut fmt::Formatter<W>) -> fmt::Result {
         write!(f, "{} {}", self.case, self.number)
     }
 }
 
 impl From<Answer> for Said {
+    ghost from_gives = { λ answer s. s ≡ said_of_answer answer };
+
     fn from(answer: Answer) -> Said {
         match answer {
             Answer::Tree(nodes) => Said::new(Case::Tree, nodes as u64),
@@ -62,6 +74,8 @@ impl From<Answer> for Said {
 }
 
 impl From<Written> for Said {
+    ghost from_gives = { λ written s. s ≡ said_of_written written };
+
     fn from(answer: Written) -> Said {
         match answer {
             Written::Tokens(count) => Said::new(Case::Text, count as u64),
@@ -81,7 +95,9 @@ pub struct Want<'a> {
 
 impl<'a> Want<'a> {
     // An answer that is no tree.
-    pub fn answer(case: Case, number: u64, reader: Reader) -> Want<'a> {
+    pub fn answer(case: Case, number: u64, reader: Reader) -> Want<'a>
+        ensures { expects result ≡ no_tree case number reader }
+    {
         Want {
             said: Said::new(case, number),
             reader,
@@ -90,7 +106,9 @@ impl<'a> Want<'a> {
     }
 
     // A tree by its records, of two words each.
-    pub fn tree(tree: &'a [u64], reader: Reader) -> Want<'a> {
+    pub fn tree(tree: &'a [u64], reader: Reader) -> Want<'a>
+        ensures { expects result ≡ a_tree tree.now reader }
+    {
         Want {
             said: Said::new(Case::Tree, (tree.len() / 2) as u64),
             reader,
@@ -100,19 +118,13 @@ impl<'a> Want<'a> {
 }
 
 // A reader at a position, nothing waiting.
-pub fn fresh_at(position: usize) -> Reader {
+pub fn fresh_at(position: usize) -> Reader
+    ensures { result ≡ reader_at position [] }
+{
     Reader {
         position,
         waiting: 0,
         errors: [0; QUEUE],
         stopped: 0,
     }
-}
-
-// Whether two readers are the same, unused places of the queue included.
-pub fn same_reader(a: &Reader, b: &Reader) -> bool {
-    a.position == b.position
-        && a.waiting == b.waiting
-        && a.stopped == b.stopped
-        && a.errors == b.errors
 }

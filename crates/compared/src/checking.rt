@@ -1,4 +1,10 @@
 // A call of the check of labels held to what is expected of it: its number, and the record number.
+ghost use Rattle.std.specs.Prelude.{◌≡◌, OnOk};
+ghost use Rattle.labels.specs.Contract.{flat_labels};
+ghost use Rattle.labels.specs.Offences.{check_labels as check_labels_def};
+ghost use Rattle.compared.specs.Calls.{said_by, verdict, verdict_of, with_verdict};
+ghost use Rattle.compared.specs.Trials.{Counts};
+
 use crate::answer::{Case, Said};
 use crate::tally::count_one;
 use crate::trial::{Host, Outcome, Place, Trial};
@@ -10,22 +16,29 @@ use std::io;
 #[derive(Clone, Copy)]
 pub struct Verdict {
     number: u64,
-    record: u64,
+    record_number: u64,
 }
 
 // Nothing is wrong.
 pub const FINE: Verdict = Verdict {
     number: 0,
-    record: 0,
+    record_number: 0,
 };
 
 impl Verdict {
-    pub fn new(number: u64, record: u64) -> Verdict {
-        Verdict { number, record }
+    pub fn new(number: u64, record_number: u64) -> Verdict
+        ensures { result ≡ verdict number record_number }
+    {
+        Verdict {
+            number,
+            record_number,
+        }
     }
 
     // One of the two numbers, as an answer where nothing is wrong or as a refusal.
-    fn said(self, number: u64) -> Said {
+    fn said(self, number: u64) -> Said
+        ensures { result ≡ said_by self number }
+    {
         let case = if self.number == 0 {
             Case::Fine
         } else {
@@ -36,6 +49,8 @@ impl Verdict {
 }
 
 impl From<FlatLabels> for Verdict {
+    ghost from_gives = { λ answer v. v ≡ verdict_of answer };
+
     fn from(answer: FlatLabels) -> Verdict {
         Verdict::new(answer.number, answer.record_number)
     }
@@ -43,7 +58,9 @@ impl From<FlatLabels> for Verdict {
 
 impl<R: Host> Trial<'_, R> {
     // Records get this answer.
-    pub fn is_checked(&mut self, place: Place, records: &[u64], want: Verdict) -> io::Result<()> {
+    pub fn is_checked(&mut self, place: Place, records: &[u64], want: Verdict) -> io::Result<()>
+        ensures { OnOk result (Counts (with_verdict (verdict_of (flat_labels (check_labels_def records.now))) want) self.old self.new) }
+    {
         let got = Verdict::from(FlatLabels::from(check_labels(records)));
         count_one(&mut self.group.checks);
         let number = Outcome {
@@ -53,8 +70,8 @@ impl<R: Host> Trial<'_, R> {
         };
         let record = Outcome {
             place,
-            said: got.said(got.record),
-            want: want.said(want.record),
+            said: got.said(got.record_number),
+            want: want.said(want.record_number),
         };
         self.part("number", number.is_expected(), number)?;
         self.part("record number", record.is_expected(), record)

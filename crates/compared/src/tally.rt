@@ -1,4 +1,7 @@
 // The counts of a run.
+ghost use Rattle.std.specs.Prelude.{◌≡◌, Some};
+ghost use Rattle.compared.specs.Tally.{plus, sum_of, tally_text};
+
 use std::fmt;
 use std::ops::AddAssign;
 
@@ -13,11 +16,15 @@ pub struct Tally {
 }
 
 // A counter does not wrap in any run; to wrap spares a bound that nothing would use.
-pub fn count_one(counter: &mut u64) {
+pub fn count_one(counter: &mut u64)
+    ensures { counter.new ≡ plus counter.old 1 }
+{
     *counter = counter.wrapping_add(1);
 }
 
 impl AddAssign for Tally {
+    ghost add_assign_gives = { λ a b sum. sum ≡ sum_of a b };
+
     fn add_assign(&mut self, more: Tally) {
         self.sheets = self.sheets.wrapping_add(more.sheets);
         self.answers = self.answers.wrapping_add(more.answers);
@@ -28,6 +35,8 @@ impl AddAssign for Tally {
 }
 
 impl fmt::Display for Tally {
+    ghost output = { λ t. Some (tally_text t) };
+
     fn fmt<W: fmt::Write>(&self, f: &mut fmt::Formatter<W>) -> fmt::Result {
         write!(
             f,

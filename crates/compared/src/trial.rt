@@ -1,4 +1,9 @@
 // A run of compared calls: where it prints what differs, and what it counts.
+ghost use Rattle.std.specs.Prelude.{◌≡◌, ◌↔◌, length, replicate, IsTrue, OnOk, Some};
+ghost use Rattle.compared.specs.Calls.{holds as holds_def, same_said};
+ghost use Rattle.compared.specs.Tally.{nothing, with_sheet, with_difference, with_part};
+ghost use Rattle.compared.specs.Trials.{place_text, Counts, Ends};
+
 use crate::answer::Said;
 use crate::tally::{Tally, count_one};
 use std::alloc::Global;
@@ -21,12 +26,17 @@ pub struct Place<'a> {
 }
 
 impl Place<'_> {
-    pub fn new(name: &str, at: u64) -> Place<'_> {
+    pub fn new(name: &str, at: u64) -> Place<'_>
+        ensures name { result.name.now ≡ name.now }
+        ensures at { result.at ≡ at }
+    {
         Place { name, at }
     }
 }
 
 impl fmt::Display for Place<'_> {
+    ghost output = { λ p. Some (place_text p) };
+
     fn fmt<W: fmt::Write>(&self, f: &mut fmt::Formatter<W>) -> fmt::Result {
         write!(f, "{} {}", self.name, self.at)
     }
@@ -41,7 +51,9 @@ pub(crate) struct Outcome<'a> {
 }
 
 impl Outcome<'_> {
-    pub(crate) fn is_expected(&self) -> bool {
+    pub(crate) fn is_expected(&self) -> bool
+        ensures { result ≡ same_said self.now.said self.now.want }
+    {
         self.said == self.want
     }
 }
@@ -55,7 +67,10 @@ pub struct Trial<'a, R> {
 }
 
 impl<'a, R: Host> Trial<'a, R> {
-    pub fn new(rt: &'a R) -> Trial<'a, R> {
+    pub fn new(rt: &'a R) -> Trial<'a, R>
+        ensures group { result.group ≡ nothing }
+        ensures total { result.total ≡ nothing }
+    {
         Trial {
             rt,
             group: Tally::default(),
@@ -68,29 +83,39 @@ impl<'a, R: Host> Trial<'a, R> {
     }
 
     // One sheet more is begun.
-    pub fn begin_sheet(&mut self) {
+    pub fn begin_sheet(&mut self)
+        ensures { Counts with_sheet self.old self.new }
+    {
         count_one(&mut self.group.sheets);
     }
 
     // A difference is printed and counted.
-    fn differ<T: fmt::Display>(&mut self, difference: &T) -> io::Result<()> {
+    fn differ<T: fmt::Display>(&mut self, difference: &T) -> io::Result<()>
+        ensures { OnOk result (Counts with_difference self.old self.new) }
+    {
         println!(self.rt; "difference at {difference}")?;
         count_one(&mut self.group.differences);
         Ok(())
     }
 
     // A line of the input that can't be one.
-    pub fn malformed(&mut self, at: u64) -> io::Result<()> {
+    pub fn malformed(&mut self, at: u64) -> io::Result<()>
+        ensures { OnOk result (Counts with_difference self.old self.new) }
+    {
         self.differ(&format_args!("line {at}: malformed"))
     }
 
     // A call that asks for a longer store or output than there is.
-    pub(crate) fn no_room(&mut self, place: Place) -> io::Result<()> {
+    pub(crate) fn no_room(&mut self, place: Place) -> io::Result<()>
+        ensures { OnOk result (Counts with_difference self.old self.new) }
+    {
         self.differ(&format_args!("{place}: no room of that length"))
     }
 
     // A part of a call, the answer, the reader, the store, the output or the record number, is the same as expected, or differs.
-    pub(crate) fn part(&mut self, what: &str, same: bool, outcome: Outcome) -> io::Result<()> {
+    pub(crate) fn part(&mut self, what: &str, same: bool, outcome: Outcome) -> io::Result<()>
+        ensures { OnOk result (Counts (with_part same) self.old self.new) }
+    {
         if same {
             return Ok(());
         }
@@ -99,7 +124,9 @@ impl<'a, R: Host> Trial<'a, R> {
     }
 
     // A group ends: its counts are printed behind its name.
-    pub fn end_group<N: AsSlice<u8> + Drop>(&mut self, name: N) -> io::Result<()> {
+    pub fn end_group<N: AsSlice<u8> + Drop>(&mut self, name: N) -> io::Result<()>
+        ensures { OnOk result (Ends self.old self.new) }
+    {
         self.rt.write_all(name.as_slice())?;
         println!(self.rt; ": {}", self.group)?;
         self.total += self.group;
@@ -115,9 +142,19 @@ impl<'a, R: Host> Trial<'a, R> {
     }
 }
 
+// Whether each word is 0.
+fn is_zero(words: &[u64]) -> bool
+    ensures { IsTrue result ↔ (words.now ≡ replicate (length words.now) 0) }
+{
+    words.iter().all(|word| *word == 0)
+}
+
 // Whether a store holds a tree's records, or an output a text, and 0 behind them.
-pub(crate) fn holds(store: &[u64], words: &[u64]) -> bool {
-    store
-        .strip_prefix(words)
-        .is_some_and(|rest| rest.iter().all(|word| *word == 0))
+pub(crate) fn holds(store: &[u64], words: &[u64]) -> bool
+    ensures { result ≡ holds_def store.now words.now }
+{
+    match store.strip_prefix(words) {
+        Some(rest) => is_zero(rest),
+        None => false,
+    }
 }

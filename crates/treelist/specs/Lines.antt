@@ -1,8 +1,7 @@
 -- The format of a sheet's lines: of the bytes of the input, the words of its tokens, or none where a line is malformed or a 501st comes.
 -- A line is `token=K newline=N value=V`, to the byte: no other blank, no sign, no carriage return, no empty line. K, N and V are decimal digits, at least one,
 -- leading zeros among them: 01 asks for decimal numbers and sets no length. The line end of the last line may be missing. Definitions; they assume nothing.
-use Rattle.std.specs.Prelude.{◌≡◌, refl, Bool, true, false, cond, ◌&&◌, ◌||◌, List, [], ◌∷◌, ◌++◌, ℕ, ◌+◌, ◌*◌, ◌-◌, eqb, leb, ltb, get_or}
-use Rattle.std.proofs.Math.Option.{Option, none, some}
+use Rattle.std.specs.Prelude.{◌≡◌, refl, Bool, true, false, cond, ◌&&◌, ◌||◌, List, [], ◌∷◌, ◌++◌, ℕ, ◌+◌, ◌*◌, ◌-◌, eqb, leb, ltb, get_or, Option, Some, None}
 use Rattle.treelist.specs.Text.{bytes}
 
 -- where the reading of the lines stands: how many are whole; in the present one how many bytes of the text were met, whether the number
@@ -112,7 +111,7 @@ start = record { scan = at_line 0; words = [] }
 
 -- the words of the tokens that were read, or none where a line was malformed
 abbrev pub said : Progress → Option (List ℕ)
-said p = cond p.scan.malformed none (some p.words)
+said p = cond p.scan.malformed None (Some p.words)
 
 -- the words of the tokens that the bytes of an input say
 abbrev pub sheet_of : List ℕ → Option (List ℕ)
@@ -120,58 +119,58 @@ sheet_of input = said (closed (read start input))
 
 -- examples
 
-nothing : sheet_of [] ≡ some []
+nothing : sheet_of [] ≡ Some []
 unfolding digit number_end letter line_end step read closed
 nothing = refl
 
-one_line : sheet_of (bytes "token=69 newline=1 value=7\n") ≡ some (325 ∷ 7 ∷ [])
+one_line : sheet_of (bytes "token=69 newline=1 value=7\n") ≡ Some (325 ∷ 7 ∷ [])
 unfolding digit number_end letter line_end step read closed
 one_line = refl
 
-no_line_end : sheet_of (bytes "token=11 newline=0 value=0\ntoken=75 newline=1 value=0") ≡ some (11 ∷ 0 ∷ 331 ∷ 0 ∷ [])
+no_line_end : sheet_of (bytes "token=11 newline=0 value=0\ntoken=75 newline=1 value=0") ≡ Some (11 ∷ 0 ∷ 331 ∷ 0 ∷ [])
 unfolding digit number_end letter line_end step read closed
 no_line_end = refl
 
-leading_zeros : sheet_of (bytes "token=0069 newline=01 value=007\n") ≡ some (325 ∷ 7 ∷ [])
+leading_zeros : sheet_of (bytes "token=0069 newline=01 value=007\n") ≡ Some (325 ∷ 7 ∷ [])
 unfolding digit number_end letter line_end step read closed
 leading_zeros = refl
 
-greatest : sheet_of (bytes "token=76 newline=0 value=18446744073709551615\n") ≡ some (76 ∷ 18446744073709551615 ∷ [])
+greatest : sheet_of (bytes "token=76 newline=0 value=18446744073709551615\n") ≡ Some (76 ∷ 18446744073709551615 ∷ [])
 unfolding digit number_end letter line_end step read closed
 greatest = refl
 
-too_great : sheet_of (bytes "token=76 newline=0 value=18446744073709551616\n") ≡ none
+too_great : sheet_of (bytes "token=76 newline=0 value=18446744073709551616\n") ≡ None
 unfolding digit number_end letter line_end step read closed
 too_great = refl
 
-no_kind : sheet_of (bytes "token=77 newline=0 value=0\n") ≡ none
+no_kind : sheet_of (bytes "token=77 newline=0 value=0\n") ≡ None
 unfolding digit number_end letter line_end step read closed
 no_kind = refl
 
-no_newline : sheet_of (bytes "token=1 newline=2 value=0\n") ≡ none
+no_newline : sheet_of (bytes "token=1 newline=2 value=0\n") ≡ None
 unfolding digit number_end letter line_end step read closed
 no_newline = refl
 
-no_digit : sheet_of (bytes "token=1 newline=0 value=\n") ≡ none
+no_digit : sheet_of (bytes "token=1 newline=0 value=\n") ≡ None
 unfolding digit number_end letter line_end step read closed
 no_digit = refl
 
-sign : sheet_of (bytes "token=1 newline=0 value=+1\n") ≡ none
+sign : sheet_of (bytes "token=1 newline=0 value=+1\n") ≡ None
 unfolding digit number_end letter line_end step read closed
 sign = refl
 
-blank : sheet_of (bytes "token=1 newline=0 value=1 \n") ≡ none
+blank : sheet_of (bytes "token=1 newline=0 value=1 \n") ≡ None
 unfolding digit number_end letter line_end step read closed
 blank = refl
 
-carriage_return : sheet_of (bytes "token=1 newline=0 value=1\r\n") ≡ none
+carriage_return : sheet_of (bytes "token=1 newline=0 value=1\r\n") ≡ None
 unfolding digit number_end letter line_end step read closed
 carriage_return = refl
 
-empty_line : sheet_of (bytes "token=1 newline=0 value=1\n\n") ≡ none
+empty_line : sheet_of (bytes "token=1 newline=0 value=1\n\n") ≡ None
 unfolding digit number_end letter line_end step read closed
 empty_line = refl
 
-half_a_line : sheet_of (bytes "token=1 newline") ≡ none
+half_a_line : sheet_of (bytes "token=1 newline") ≡ None
 unfolding digit number_end letter line_end step read closed
 half_a_line = refl

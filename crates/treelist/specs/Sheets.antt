@@ -1,7 +1,7 @@
 -- What a line and a sheet that are being read are in the definitions of the lines. Definitions; they assume nothing.
 use Rattle.std.specs.Prelude.{◌≡◌, ℕ, true, false, cond, ◌-◌, ◌+◌, ◌*◌, ◌&&◌, List, [], ◌∷◌, length, is_some, unwrap_or, Option, Some, None, eqb}
 use Rattle.std.specs.Int.{from_bool}
-use Rattle.std.proofs.Math.Option.{Option as Maybe, none, some}
+use Rattle.std.specs.Option.{option_map}
 use Rattle.treelist.specs.Lines.{Scan, Progress, bad, digit, letter, is_digit, value_at}
 use Rattle.treelist.specs.declared.line.Line.{Line}
 use Rattle.treelist.specs.declared.lines.Sheet.{Sheet}
@@ -37,6 +37,5 @@ abbrev pub progress : Sheet → Progress
 progress s = record { scan = scan_of (length s.tokens.items) s.line; words = words s.tokens }
 
 -- the words of tokens, if there are any
-abbrev pub words_of : Option (ArrayVec (List ℕ)) → Maybe (List ℕ)
-words_of None = none
-words_of (Some t) = some (words t)
+abbrev pub words_of : Option (ArrayVec (List ℕ)) → Option (List ℕ)
+words_of = option_map words

@@ -12,6 +12,7 @@ pub fn read_sheet<R: Read>(input: &mut R) -> io::Result<Option<Tokens>>
     ensures { IfOk result (Reads (R.remaining input.old) (R.remaining input.new)) }
 {
     let mut sheet = Sheet::new();
+    // Stays an array, as the store in main.rt does.
     let mut bytes = [0u8; 4096];
     // A proved loop has to end: this one has more turns than any input takes.
     for _ in 0..u64::MAX {

@@ -75,6 +75,7 @@ fn print_answers(rt: &impl Print, tokens: &[u64], store: &mut [u64]) -> io::Resu
 fn list(rt: &impl Print, sheet: Option<Tokens>) -> io::Result<()> {
     match sheet {
         Some(tokens) => {
+            // Stays an array: on the heap the program would rest on three assumptions more about C's functions.
             let mut store = [0u64; 8000];
             print_answers(rt, tokens.as_slice().as_flattened(), &mut store)
         }

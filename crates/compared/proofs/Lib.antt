@@ -1,0 +1,3 @@
+-- What several proofs share.
+mod Behind
+mod Counted
