@@ -1,9 +1,10 @@
 // The reading functions that call one another: words of tokens in, records of trees out, and errors that wait.
 #![tactic(auto)]
 
-ghost use Rattle.std.specs.Prelude.{◌+◌, ◌≤◌, length, drop};
+ghost use Rattle.std.specs.Prelude.{◌≡◌, ◌+◌, ◌≤◌, length, drop};
 ghost use Rattle.operator.specs.Operator.{level_count};
 ghost use Rattle.tree.specs.Tree.{none, records};
+ghost use Rattle.grammar.specs.Reading.Look.{action as action_def};
 ghost use Rattle.grammar.specs.Reading.Expr.{binop_expr, tuple_expr, expr as expr_def};
 ghost use Rattle.grammar.specs.Reading.Primary.{group_expr, atom as atom_def, indexing_expr, table_field, table_item, table_literal, invocation, path as path_def, primary as primary_def, unpack_expr};
 ghost use Rattle.grammar.specs.Reading.Block.{body as body_def, block_expr, expr_label, if_expr as if_expr_def};
@@ -11,7 +12,7 @@ ghost use Rattle.grammar.specs.Reading.Function.{param as param_def, function_pa
 ghost use Rattle.grammar.specs.Reading.Stmt.{loop as loop_def, lvalue_list, for_loop, stmt_label, stmt as stmt_def, control_value, control_flow, synchronize, caught as caught_def};
 ghost use Rattle.grammar.specs.Reading.Depth.{primary_expr, at_depth};
 ghost use Rattle.scan.specs.Post.{Ready, Lent, Reading, Crosses};
-ghost use Rattle.scan.specs.Parts.{until};
+ghost use Rattle.scan.specs.Parts.{action_number, keyword_code, until};
 ghost use Rattle.cycle.specs.Parts.{Which, control_kind, tail as tail_def, part as part_def, list_words, arm as arm_def, whiles as whiles_def, whiles_words, turn as turn_def};
 ghost use Rattle.nodes.specs.Parts.{tuple_words, path_words, signature_words};
 ghost use Rattle.cycle.specs.Lists.{Lists, Enters};
@@ -32,10 +33,10 @@ use operator::{
 };
 use scan::queue::{Waiting, control_last, synchronized};
 use scan::tokens::{
-    action, assign_keyword, continues, ends_control, expect, halts, is_control, look, not_allowed,
-    past, try_label, unassigned,
+    assign_keyword, continues, ends_control, expect, halts, is_control, look, not_allowed, past,
+    try_label, unassigned,
 };
-use scan::{Cursor, Entry, Failure, Halt, Listed, Suite, Until, number};
+use scan::{Action, Cursor, Entry, Failure, Halt, Listed, Suite, Until, number};
 use token::kind;
 use tree::{emit, word};
 
@@ -57,6 +58,13 @@ fn which_control(kind: u64) -> Option<Control>
         kind::RETURN => Some(Control::Return),
         _ => None,
     }
+}
+
+// The action of an assignment: `AssignLocal` without a keyword.
+fn action(keyword: Option<Action>) -> Action
+    ensures { action_number result ≡ action_def (keyword_code keyword) }
+{
+    keyword.unwrap_or(Action::AssignLocal)
 }
 
 // Stays tokens, store, queue and depth apart: a struct that holds what is lent takes a name of its own in each of the 40 contracts for what it held before and after,

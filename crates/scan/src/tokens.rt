@@ -1,7 +1,7 @@
 // What stands at a place of the tokens, and what is read of them without recursion.
 ghost use Rattle.std.specs.Prelude.{◌≡◌, ◌&&◌, ◌||◌, suc, ◌+◌, ◌≤◌, eqb, length, drop};
 ghost use Rattle.token.specs.Kind;
-ghost use Rattle.grammar.specs.Reading.Look.{expect as expect_def, try_label as try_label_def, keyword as keyword_def, try_assign_keyword, action as action_def};
+ghost use Rattle.grammar.specs.Reading.Look.{expect as expect_def, try_label as try_label_def, keyword as keyword_def, try_assign_keyword};
 ghost use Rattle.grammar.specs.Reading.Expr.{keyword_alone as keyword_alone_def};
 ghost use Rattle.grammar.specs.Reading.Primary.{atom_error as atom_error_def};
 ghost use Rattle.grammar.specs.Reading.Stmt.{ends as ends_def, is_control as is_control_def, not_last as not_last_def, starts_stmt};
@@ -101,13 +101,6 @@ pub fn assign_keyword(tokens: &[u64], pos: usize) -> Result<Keyword, Halt>
         }),
         None => Ok(Keyword { pos, action: None }),
     }
-}
-
-// The action of an assignment: `AssignLocal` without a keyword.
-pub fn action(keyword: Option<Action>) -> Action
-    ensures { action_number result ≡ action_def (keyword_code keyword) }
-{
-    keyword.unwrap_or(Action::AssignLocal)
 }
 
 // The error of a keyword that no assignment follows.
