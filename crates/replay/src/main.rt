@@ -11,6 +11,7 @@ use std::io;
 use std::io::{BufRead, BufReader, Read};
 
 // The whole input, line by line.
+// Stays a buffer of its own: `rt.reader()`, which has one, also rests on what is assumed of `lseek`.
 fn replay<R: Host, I: Read + Drop>(rt: &R, input: I) -> io::Result<()> {
     let mut run = Run::new(rt);
     let lines = BufReader::new(rt.alloc(), input)?.split(rt.alloc(), b'\n');
