@@ -8,12 +8,13 @@ mod run;
 use crate::run::Run;
 use compared::trial::Host;
 use std::io;
-use std::io::{BufRead, BufReader};
+use std::io::{BufRead, BufReader, Read};
 
 // The whole input, line by line.
-fn replay<R: Input + Host>(rt: &R) -> io::Result<()> {
+// Stays a buffer of its own: `rt.reader()`, which has one, also rests on what is assumed of `lseek`.
+fn replay<R: Host, I: Read + Drop>(rt: &R, input: I) -> io::Result<()> {
     let mut run = Run::new(rt);
-    let lines = BufReader::new(rt.alloc(), rt.reader())?.split(rt.alloc(), b'\n');
+    let lines = BufReader::new(rt.alloc(), input)?.split(rt.alloc(), b'\n');
     for (at, line) in (1..u64::MAX).zip(lines) {
         run.line_read(at, &line?)?;
     }
@@ -21,5 +22,5 @@ fn replay<R: Input + Host>(rt: &R) -> io::Result<()> {
 }
 
 fn main(rt: HostRuntime) -> io::Result<()> {
-    replay(&rt)
+    replay(&rt, rt.stdin())
 }
