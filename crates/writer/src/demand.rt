@@ -297,6 +297,7 @@ impl Classes {
         requires { Small self × (0 < class) }
         ensures { result ≡ fits_def (demand_number self) class }
     {
-        self.2 == Some(class) || (self.0 <= class && class <= self.1)
+        let Classes(first, last, other) = self;
+        other == Some(class) || (first <= class && class <= last)
     }
 }
