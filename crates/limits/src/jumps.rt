@@ -1,7 +1,13 @@
-// The records of loops one in the other, and of a break or continue, a jump, in or beside them.
-ghost use Rattle.std.specs.Prelude.{◌≤◌};
+// The records of loops one in the other, and of a break or continue, a jump, in or beside them. What puts records says of those that it put; where memory
+// runs out, some of them may be missing. That it doesn't is shown by the program's own run.
+ghost use Rattle.std.specs.Prelude.{◌≡◌, ◌+◌, ◌*◌, ◌-◌, ◌≤◌, [], ◌∷◌, ◌++◌, OnOk};
+ghost use Rattle.tree.specs.Tree.{records};
+ghost use Rattle.tree.specs.Node.{expression};
+ghost use Rattle.limits.specs.declared.jumps.Form.TheVariants.{Among, Condition};
+ghost use Rattle.limits.specs.Nests.{record_number, parts, if_continue, jump_in, innermost, loop_ends, nest, function, before, behind};
 
 use std::alloc::{AllocError, Global};
+use std::marker::Model;
 use tree::word;
 
 // The label of the outermost loop, and one that no loop round a jump has. The loops inside have the labels from 1 on, the innermost the first.
@@ -30,7 +36,7 @@ pub enum Form {
 impl Form {
     // The number of the jump's record.
     pub fn record(self) -> u64
-        ensures { result ≤ 4 }
+        ensures { result ≡ record_number self }
     {
         match self {
             Form::Break | Form::Condition => 2,
@@ -40,7 +46,9 @@ impl Form {
     }
 
     // The same in a function, behind the four records of its signature.
-    pub fn record_in_function(self) -> u64 {
+    pub fn record_in_function(self) -> u64
+        ensures { result ≡ record_number self + 4 }
+    {
         self.record() + 4
     }
 }
@@ -58,42 +66,63 @@ pub struct Records {
     words: Vec<u64>,
 }
 
+impl Model for Records {
+    ghost use Rattle.std.specs.Prelude.{List, ℕ};
+
+    ghost Value = { List ℕ };
+
+    ghost view = { λ r. r.words.items };
+}
+
 impl Records {
-    pub fn new(alloc: Global) -> Records {
+    pub fn new(alloc: Global) -> Records
+        ensures { result ≡ [] }
+    {
         Records {
             words: Vec::new(alloc),
         }
     }
 
-    pub fn words(&self) -> &[u64] {
+    pub fn words(&self) -> &[u64]
+        ensures { result.now ≡ self.now }
+    {
         &self.words
     }
 
-    fn put(&mut self, words: &[u64]) -> Result<(), AllocError> {
+    fn put(&mut self, words: &[u64]) -> Result<(), AllocError>
+        ensures { OnOk result (self.new ≡ self.old ++ words.now) }
+    {
         self.words.extend_from_slice(words)
     }
 
     // A list of so many statements, and no control.
     fn put_list(&mut self, statements: u64) -> Result<(), AllocError>
         requires { statements ≤ 3 }
+        ensures { OnOk result (self.new ≡ self.old ++ (1 + 256 * statements) ∷ 0 ∷ 0 ∷ 0 ∷ []) }
     {
         self.put(&[word::LIST + statements * word::CHILD, 0, word::ABSENT, 0])
     }
 
     // The expression `if a then continue LABEL end`.
-    fn put_if(&mut self, label: u64) -> Result<(), AllocError> {
+    fn put_if(&mut self, label: u64) -> Result<(), AllocError>
+        ensures { OnOk result (self.new ≡ self.old ++ records (if_continue label)) }
+    {
         self.put(&[word::IDENTIFIER, 7, word::LIST, 0, word::CONTINUE, label])?;
         self.put(&IF_END)
     }
 
     // The same as a statement.
-    fn put_statement(&mut self, label: u64) -> Result<(), AllocError> {
+    fn put_statement(&mut self, label: u64) -> Result<(), AllocError>
+        ensures { OnOk result (self.new ≡ self.old ++ records (expression (if_continue label))) }
+    {
         self.put_if(label)?;
         self.put(&[word::EXPRESSION, 0])
     }
 
     // A list of `a`, such a statement and `a`, and no control.
-    fn put_among(&mut self, label: u64) -> Result<(), AllocError> {
+    fn put_among(&mut self, label: u64) -> Result<(), AllocError>
+        ensures { OnOk result (self.new ≡ self.old ++ parts (jump_in Among label)) }
+    {
         let name = [word::IDENTIFIER, 7, word::EXPRESSION, 0];
         self.put(&name)?;
         self.put_statement(label)?;
@@ -102,7 +131,9 @@ impl Records {
     }
 
     // A list of a while with the other label and such an if as its condition, and no control.
-    fn put_condition(&mut self, label: u64) -> Result<(), AllocError> {
+    fn put_condition(&mut self, label: u64) -> Result<(), AllocError>
+        ensures { OnOk result (self.new ≡ self.old ++ parts (jump_in Condition label)) }
+    {
         self.put_if(label)?;
         self.put_list(0)?;
         self.put(&[word::STMT_LIST, 0, word::WHILE_LOOP, OTHER])?;
@@ -110,7 +141,9 @@ impl Records {
     }
 
     // A list of statements and its control, with this jump.
-    fn put_jump(&mut self, jump: Jump) -> Result<(), AllocError> {
+    fn put_jump(&mut self, jump: Jump) -> Result<(), AllocError>
+        ensures { OnOk result (self.new ≡ self.old ++ parts (jump_in jump.form jump.label)) }
+    {
         let label = jump.label;
         match jump.form {
             Form::Break => self.put(&[word::LIST, 0, word::ABSENT, 0, word::BREAK, label]),
@@ -121,12 +154,16 @@ impl Records {
     }
 
     // The end of a loop behind its list and control.
-    pub fn put_loop(&mut self, label: u64) -> Result<(), AllocError> {
+    pub fn put_loop(&mut self, label: u64) -> Result<(), AllocError>
+        ensures { OnOk result (self.new ≡ self.old ++ 519 ∷ 0 ∷ 259 ∷ label ∷ []) }
+    {
         self.put(&[word::STMT_LIST, 0, word::LOOP, label])
     }
 
     // The ends of so many loops but the outermost, and behind each the list and control that it stands in.
-    pub fn put_loops(&mut self, times: u64) -> Result<(), AllocError> {
+    pub fn put_loops(&mut self, times: u64) -> Result<(), AllocError>
+        ensures { OnOk result (self.new ≡ self.old ++ loop_ends (times - 1)) }
+    {
         for label in 1..times {
             self.put_loop(label)?;
             self.put_list(1)?;
@@ -134,18 +171,29 @@ impl Records {
         Ok(())
     }
 
-    // So many loops, with a jump in them or none.
-    pub fn put_nest(&mut self, jump: Option<Jump>, times: u64) -> Result<(), AllocError> {
+    // The list and control in the innermost loop, with a jump or none.
+    fn put_innermost(&mut self, jump: Option<Jump>) -> Result<(), AllocError>
+        ensures { OnOk result (self.new ≡ self.old ++ parts (innermost jump)) }
+    {
         match jump {
-            Some(jump) => self.put_jump(jump)?,
-            None => self.put_list(0)?,
+            Some(jump) => self.put_jump(jump),
+            None => self.put_list(0),
         }
+    }
+
+    // So many loops, with a jump in them or none.
+    pub fn put_nest(&mut self, jump: Option<Jump>, times: u64) -> Result<(), AllocError>
+        ensures { OnOk result (self.new ≡ self.old ++ records (nest times (innermost jump))) }
+    {
+        self.put_innermost(jump)?;
         self.put_loops(times)?;
         self.put_loop(OUTERMOST)
     }
 
     // A jump in a function, with so many loops but the outermost between them, and the list and control that the function stands in.
-    pub fn put_function(&mut self, jump: Jump, inside: u64) -> Result<(), AllocError> {
+    pub fn put_function(&mut self, jump: Jump, inside: u64) -> Result<(), AllocError>
+        ensures { OnOk result (self.new ≡ self.old ++ parts (function jump.form jump.label inside)) }
+    {
         self.put(&SIGNATURE)?;
         self.put_jump(jump)?;
         self.put_loops(inside)?;
@@ -153,7 +201,9 @@ impl Records {
     }
 
     // A loop without a label, in which an if with a continue stands before so many loops.
-    pub fn put_before(&mut self, label: u64, times: u64) -> Result<(), AllocError> {
+    pub fn put_before(&mut self, label: u64, times: u64) -> Result<(), AllocError>
+        ensures { OnOk result (self.new ≡ self.old ++ records (before label times)) }
+    {
         self.put_statement(label)?;
         self.put_nest(None, times)?;
         self.put_list(2)?;
@@ -161,7 +211,9 @@ impl Records {
     }
 
     // A loop without a label, in which a continue stands in so many loops, and one to the same label behind them.
-    pub fn put_behind(&mut self, label: u64, times: u64) -> Result<(), AllocError> {
+    pub fn put_behind(&mut self, label: u64, times: u64) -> Result<(), AllocError>
+        ensures { OnOk result (self.new ≡ self.old ++ records (behind label times)) }
+    {
         let jump = Jump {
             form: Form::Continue,
             label,

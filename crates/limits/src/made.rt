@@ -1,4 +1,7 @@
 // What the limits are tried on: words laid down many times, readers with errors waiting and with a stop, and a sheet that stops.
+ghost use Rattle.std.specs.Prelude.{◌≡◌, IfOk};
+ghost use Rattle.limits.specs.Laid.{laid};
+
 use compared::answer::{Case, Want, fresh_at};
 use compared::call::Call;
 use compared::trial::{Host, Place, Trial};
@@ -18,7 +21,10 @@ pub struct Layers {
 }
 
 impl Layers {
-    pub fn words(self, alloc: Global, times: usize) -> Result<Vec<u64>, AllocError> {
+    // That there is memory for them is shown by the program's own run.
+    pub fn words(self, alloc: Global, times: usize) -> Result<Vec<u64>, AllocError>
+        ensures { IfOk result (λ v. v.items ≡ laid self times) }
+    {
         let mut words = self.before.repeat(alloc, times)?;
         words.extend_from_slice(self.middle)?;
         words.extend_from_slice(&self.behind.repeat(alloc, times)?)?;

@@ -1,0 +1,3 @@
+-- What the contracts of limits cite.
+pub mod Laid
+pub mod Nests
