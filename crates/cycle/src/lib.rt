@@ -69,6 +69,7 @@ fn action(keyword: Option<Action>) -> Action
 
 // Stays tokens, store, queue and depth apart: a struct that holds what is lent takes a name of its own in each of the 40 contracts for what it held before and after,
 // where `store.old` and `queue.new` stand now; and `Ready` says of a place what no place alone has, that the tokens and the store reach so far.
+// Stays `loop`, where one is written: what is read says how far it goes, and `n` counts members for a record and is no index.
 // A member is called with the depths that are left: `unop`, `rhs` and `list` may begin where one is left,
 // and go on with one less; the others hand on what they are given.
 

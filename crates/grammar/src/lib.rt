@@ -74,6 +74,7 @@ pub struct Stepped {
 }
 
 // What the writer answers: so many tokens written, or a stop or a refusal by its number.
+// Stays an enum of its own and no Result, as `Answer` does: C gets a number for each of its cases, and the definitions give the paper's number for each.
 #[derive(Clone, Copy, PartialEq, Eq)]
 pub enum Written {
     Tokens(usize),

@@ -35,6 +35,7 @@ fn is_last(n: u64, h: u64) -> bool
 }
 
 // The nearest node that has the tree before these records in its last child.
+// Stays `while let`, here and in `any_behind`: what was found says where it goes on.
 fn next_above(records: &[u64]) -> Option<Above>
     ensures { Next records.now result }
 {

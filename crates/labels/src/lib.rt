@@ -79,6 +79,7 @@ fn checked(records: &[u64], kept: &mut [u64]) -> Result<(), Refusal>
 }
 
 // The check with so many words of its own.
+// Stays an array: what C links has no heap.
 fn checked_in<const N: usize>(records: &[u64]) -> Result<(), Refusal>
     requires { N * 8 < 2 ^ 63 }
     ensures { Checks records.now result }

@@ -46,6 +46,7 @@ pub const PRECEDENCE_END: u64 = 0;
 pub const PRECEDENCE_START: u64 = 10;
 
 // An assignment is plain, or with the operator that is applied first.
+// Stays an enum of its own and no Option: `which_assignment_op` would answer an Option of one, which says less.
 #[derive(Clone, Copy)]
 pub enum AssignmentOp {
     Plain,
@@ -167,6 +168,7 @@ pub fn operators() -> Table
 }
 
 // What the table has for a token kind; 0 where the kind is above the last.
+// Stays a number with 0 for none, as in the four functions below: so the table has it (document 02, P9).
 fn entry(table: &Table, kind: u64, column: usize) -> u64
     requires { (faults table.now ≡ 0) × (column < column_count) }
     ensures { result ≡ decision kind column }

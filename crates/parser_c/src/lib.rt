@@ -9,6 +9,7 @@ use parser::host;
 
 // `next_stmt` on a reader that the host keeps. `Exports` is the equation of answer, reader and store with the definition `next_stmt`, for all inputs
 // (grammar's specs/Contract.antt).
+// Stays the reader's fields one by one: an exported function takes no reference to a struct.
 #[unsafe(no_mangle)]
 pub extern "C" fn leatherlava_next_stmt(
     position: &mut usize,

@@ -15,6 +15,7 @@ fn has_members(word: u64) -> bool
 
 // Whether the expression from `from` to `to` can be a pattern: exactly if the definition makes one of it.
 // It is decided over the whole: each part that is to be a pattern is met, the last one first, and the first that cannot be one ends it.
+// Stays `while`, here and in `move_to_pattern`: a record says how many are passed at once.
 pub fn can_be_pattern(store: &[u64], from: usize, to: usize) -> bool
     requires { ATree store.now from to }
     ensures { (t : Tree) → Whole t store.now from to → result ≡ can_be_pattern_def t }

@@ -250,6 +250,7 @@ pub fn past(tokens: &[u64], list: Listed) -> Result<Listed, Halt>
 
 // At the top level separators are passed over; `EOF`, which stays unread, or no token is the end, here as the error `END`. Answers past which word a
 // statement begins.
+// Stays `loop`: the tokens say how far it goes.
 pub fn start(tokens: &[u64], pos: usize) -> Result<usize, Halt>
     requires { pos ≤ length tokens.now }
     ensures { Reads (λ q. start_def (length (drop pos tokens.now)) q (drop pos tokens.now)) tokens.now pos pos result }

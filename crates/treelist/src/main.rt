@@ -54,6 +54,7 @@ fn goes_on(answer: Answer) -> bool
 }
 
 // Prints every answer, up to an end or a stop.
+// Stays `loop`: the answers say when it ends.
 fn print_answers(rt: &impl Print, tokens: &[u64], store: &mut [u64]) -> io::Result<()> {
     let mut reader = Reader {
         position: 0,
