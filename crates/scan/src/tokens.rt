@@ -196,6 +196,7 @@ pub fn not_allowed(kind: u64) -> u64
 }
 
 // The error of a control that is not last in its list.
+// Stays beside `not_allowed`: they are two columns of the table of errors, and one function over both would take the column's number.
 pub fn not_last(kind: u64) -> u64
     ensures { result ≡ not_last_def kind }
 {
