@@ -12,7 +12,8 @@ pub enum JumpKind {
     Continue,
 }
 
-// A break or a continue, with its label: 0, or 1 + its name.
+// A break or a continue, with its label.
+// Stays 0, or 1 + the name, for the label: it is the value of a record, and is compared with others' alone.
 #[derive(Clone, Copy, Debug, PartialEq, Eq)]
 pub struct Jump {
     pub kind: JumpKind,
@@ -90,6 +91,7 @@ impl Entries<'_> {
         ensures stands { Stands self.old.words.now self.old.count pending self.new.count }
         ensures same { self.new.words.now ≡ self.old.words.now }
     {
+        // Stays `while`: entries are given up from the last on, until one stands.
         while 0 < self.count && pending < self.words[ENTRY * self.count - 1] {
             self.count -= 1;
         }

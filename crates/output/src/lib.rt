@@ -6,7 +6,8 @@ ghost use Rattle.output.specs.Text.{Held, Fronted};
 use grammar::{Written, limit};
 use tree::clear;
 
-// What was written up to the output's end, from the word b - 2 on, goes to its front, with zeros behind.
+// What was written up to the output's end, from the word b - 2 on, goes to its front, with zeros behind. Where b is below 2 there was no room.
+// Stays a number: it is what the writer has, and as an Option it misses a bar there (`put` in crates/writer/src/text.rt).
 pub fn written(output: &mut [u64], b: usize) -> Written
     requires { Held b output.old }
     ensures { Fronted b output.old output.new result }

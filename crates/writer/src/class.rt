@@ -10,8 +10,8 @@
 //
 // The rest is tested apart: a record's own numbers (sound.rt), and what no class says: the token that a tree begins with, and whether it ends
 // in a tuple of one member (edges.rt).
-// Stays a number: a class is computed (from a level, of a list), compared by order and kept in lent words. So does a mode, which for most kinds is a count, a
-// kind, a name or an action of the records, and a demand, which is computed.
+// Stays a number: a class is computed (from a level, of a list), compared by order and kept in lent words. So does a mode, for most kinds a count, a kind, a name
+// or an action of the records.
 ghost use Rattle.std.specs.Prelude.{◌≡◌};
 ghost use Rattle.tables.specs.Class.{binary_class as binary_class_def, keyword_class as keyword_class_def, named_class as named_class_def, assignment_class as assignment_class_def, body_class as body_class_def, later_class as later_class_def, class as class_def, default_list as default_list_def, plain_list as plain_list_def, argument_list as argument_list_def, list_class as list_class_def};
 

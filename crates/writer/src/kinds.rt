@@ -33,6 +33,7 @@ pub fn target_item(kind: u64) -> bool
     }
 }
 
+// Stays 0 for none, here and in target.rt: both are values of records, and nothing is done with them but this.
 // Whether a signature's name, 0 or 1 + it, is 1 + this one.
 #[tactic(auto, unfolding(tables::specs::Kinds::name_is))]
 fn name_is(value: u64, name: u64) -> bool

@@ -68,6 +68,7 @@ fn write_tree(
     requires { Here records.now from.records × Held from.words output.old }
     ensures { WroteTree records.now depth (place_number place) from.records from.words output.old output.new result }
 {
+    // Stays `while`: the chain's records say how far it goes, and nothing is counted.
     let mut at = place;
     let mut step = from;
     while records[step.records - 2] == BINARY_OP {

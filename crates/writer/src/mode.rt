@@ -11,6 +11,8 @@ use crate::records::{count_at, kid_of, kind_at, last_of, value_at};
 use crate::target::{NOT_GIVEN, function_form};
 use tree::node;
 
+// Stays numbers, here and in target.rt: a mode is one number for nodes of all kinds, and that of most is a count, a kind, a name or an action of the records. An enum for these
+// would be made a number where it is found, and be taken from one again where `class` and `demand` use it.
 // A statement list: without control, whose last statement is an expression; any other without control; with control.
 pub const OPEN: u64 = 0;
 

@@ -13,6 +13,7 @@ pub const LEVELS: u64 = PRECEDENCE_START;
 
 pub const LAST_BINARY: u64 = 17;
 
+// Stays a function and no From: the type is crate operator's, which knows no numbers behind the last one; the tables take them for `or`.
 #[tactic(auto, unfolding(tables::specs::Operators::binary_of))]
 fn binary_of(number: u64) -> BinaryOp
     ensures { result ≡ binary_of_def number }

@@ -11,6 +11,7 @@ use crate::mode::class_at;
 use crate::records::skip;
 use crate::target::serves_at;
 
+// Stays one word for a tree, and no struct: what is kept lies in words that are lent, which are the output's or the check of labels' own, one for each tree.
 // Of a tree its class, below LABELLED; LABELLED more where it begins with a label; SERVES more where it serves a `fun` with a target; and BEGIN
 // times the place where it begins.
 const LABELLED: u64 = 128;

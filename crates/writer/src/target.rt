@@ -14,7 +14,7 @@ use crate::kinds::{gives_name, target_atom, target_item};
 use crate::records::{count_at, kid_of, kind_at, skip, value_at};
 use tree::node;
 
-// The modes of an assignment: `fun` with a target can't give it, whatever its action; it can, and the signature has no name; it can, and the signature has one.
+// The modes of an assignment, which stay numbers (mode.rt): `fun` with a target can't give it, whatever its action; it can, and the signature has no name; it can, and the signature has one.
 pub const NOT_GIVEN: u64 = 0;
 
 pub const UNNAMED: u64 = 1;

@@ -34,10 +34,7 @@ fn access_token(value: u64) -> Option<u64>
 fn modifier_token(value: u64) -> Option<u64>
     ensures { result ≡ token_in (modifier_token_def value) }
 {
-    if value == 0 {
-        return None;
-    }
-    Some(keyword_of(value - 1))
+    Some(keyword_of(value.checked_sub(1)?))
 }
 
 // What an assignment begins with: `fun`, or its keyword where it stands by itself and its action has one.
@@ -107,8 +104,6 @@ fn label_in(value: u64) -> u64
 {
     value.saturating_sub(1)
 }
-
-// The same; the value of no token is 0.
 
 impl Head {
     // The first token before the children, of atoms, access items and patterns.
@@ -299,6 +294,7 @@ impl Head {
         }
     }
 
+    // The same of a token, if there is one; that of none is 0.
     pub fn carried(self, token: Option<u64>) -> u64
         ensures { ForToken token (λ c. result ≡ carried_def self.kind self.value c) }
     {
