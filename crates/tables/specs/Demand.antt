@@ -1,4 +1,4 @@
--- Which classes the place of each child takes, as least + 100 × most + 10,000 × other, where other is 0 if none stands apart. Definitions; they assume nothing.
+-- Which classes the place of each child takes, as least + 100 × most + 10,000 × other: src/demand.rt says how. Definitions; they assume nothing.
 use Rattle.std.specs.Prelude.{Bool, true, false, ℕ, ◌+◌, ◌-◌, ◌*◌, ◌/◌, ◌%◌, eqb, ltb, leb}
 use Rattle.tree.specs.NodeKind
 use Rattle.tables.specs.Choice.{when◌then◌else◌, where_zero}

@@ -4,7 +4,6 @@ mod Shaping
 mod Texts
 mod Spots
 mod Keeping
-mod Classes
 mod Places
 mod Kids
 mod Fitted

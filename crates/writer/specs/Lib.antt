@@ -1,7 +1,6 @@
 pub mod Stack
 pub mod Text
 pub mod Form
-pub mod Demand
 pub mod Standing
 pub mod Verdict
 pub mod Post

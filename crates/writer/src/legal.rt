@@ -4,13 +4,12 @@ ghost use Rattle.std.specs.Prelude.{◌&&◌};
 ghost use Rattle.tables.specs.Children.{kind_in};
 ghost use Rattle.tables.specs.Kinds.{target_item as target_item_def, unlabelled as unlabelled_def};
 ghost use Rattle.tables.specs.Check.{begins_labelled};
-ghost use Rattle.writer.specs.Demand.{demand_number, Small};
 ghost use Rattle.writer.specs.Stack.{Here};
 ghost use Rattle.writer.specs.Standing.{TreeAt, NodeAt, Tells};
 ghost use Rattle.writer.specs.Verdict.{KidFits, KidsFit, Visited, Whole, Legal};
 
 use crate::class::{STATEMENT, class};
-use crate::demand::{Classes, demand};
+use crate::demand::{demand, fits};
 use crate::edges::ends_wrong;
 use crate::kinds::{target_item, unlabelled};
 use crate::records::{count_at, kind_at, value_at};
@@ -44,11 +43,11 @@ impl Standing<'_> {
     }
 
     // Whether the tree number i, which ends at q, may stand as a child of a node that a class is demanded of.
-    fn kid_fits(&self, i: usize, q: usize, kind: u64, value: u64, asked: Classes) -> bool
-        requires { TreeAt self.now i q × Small asked }
-        ensures { KidFits self.now.records.now kind value (demand_number asked) q result }
+    fn kid_fits(&self, i: usize, q: usize, kind: u64, value: u64, asked: u64) -> bool
+        requires { TreeAt self.now i q }
+        ensures { KidFits self.now.records.now kind value asked q result }
     {
-        asked.fits(self.class_of(i, q))
+        fits(asked, self.class_of(i, q))
             && !self.starts_wrong(i, q, kind, value)
             && !ends_wrong(self.records, kind, q)
     }

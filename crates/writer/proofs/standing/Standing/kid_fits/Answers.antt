@@ -4,15 +4,11 @@ use Rattle.grammar.proofs.Laws.Facts.{clash}
 use Rattle.writer.proofs.Places.{stands}
 use Rattle.writer.proofs.Validity.{kid_is}
 use Rattle.writer.proofs.Keeping.{on_place}
-use Rattle.writer.proofs.Classes.{some_class}
 use Rattle.writer.proofs.standing.Standing.kid_fits.Goals.{then-fits, else-fits}
 use Rattle.writer.proofs.standing.Standing.kid_fits.Goals as goal
 
 pub ends_wrong-requires : goal.ends_wrong-requires
-ends_wrong-requires c = on_place c.requires.0
-
-pub fits-requires : goal.fits-requires
-fits-requires c = (c.requires.1, rw (c.class_of.ensures.how _ _ c.requires.0.here) (some_class c.requires.0.top))
+ends_wrong-requires c = search on_place
 
 pub returns-then-not-starts_wrong : goal.returns-then-not-starts_wrong
 returns-then-not-starts_wrong c = elim c.if-fits.branch [

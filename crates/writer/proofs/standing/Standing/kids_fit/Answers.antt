@@ -30,10 +30,10 @@ loop-j-init c = let y = c.requires in
     walk_start _ y (c.kind_at-kind.ensures.how _ _ (stands y.here)) (c.value_at-value.ensures.how _ _ (stands y.here)) (c.count_at-n.ensures.how _ _ (stands y.here))
 
 pub kid_fits-requires : goal.kid_fits-requires
-kid_fits-requires c = (child (goal.at.kid_fits-requires c).In-loop-j, c.demand-asked.ensures.1)
+kid_fits-requires c = child (goal.at.kid_fits-requires c).In-loop-j
 
 pub returns-then-not-kid_fits : goal.returns-then-not-kid_fits
-returns-then-not-kid_fits c = walk_bad c.loop-j.invariant c.loop-j-test.true c.demand-asked.ensures.0 c.kid_fits.ensures c.if-not-kid_fits.true
+returns-then-not-kid_fits c = walk_bad c.loop-j.invariant c.loop-j-test.true c.demand-asked.ensures c.kid_fits.ensures c.if-not-kid_fits.true
 
 pub item_too-items-requires : goal.item_too-items-requires
 item_too-items-requires c = on_here (child (goal.at.item_too-items-requires c).In-loop-j)
@@ -42,7 +42,7 @@ pub begin_of-q-requires : goal.begin_of-q-requires
 begin_of-q-requires c = child (goal.at.begin_of-q-requires c).In-loop-j
 
 pub loop-j-preserved : goal.loop-j-preserved
-loop-j-preserved c = walk_next c.loop-j.invariant c.loop-j-test.true c.demand-asked.ensures.0 c.kid_fits.ensures c.if-not-kid_fits.false c.begin_of-q.ensures c.item_too-items.ensures
+loop-j-preserved c = walk_next c.loop-j.invariant c.loop-j-test.true c.demand-asked.ensures c.kid_fits.ensures c.if-not-kid_fits.false c.begin_of-q.ensures c.item_too-items.ensures
 
 pub returns : goal.returns
 returns c = walk_end c.loop-j.invariant (omega arith)
