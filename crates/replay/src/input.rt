@@ -123,6 +123,7 @@ impl Numbers {
 }
 
 // A number with a digit more, if that is one and the number stays below 2^64.
+// Stays beside treelist's `Line::digit`: the two programs share no crate for text, and that one is proved of a definition of its own.
 fn with_digit(number: u64, digit: u8) -> Option<u64> {
     let digit = digit.checked_sub(b'0').filter(|d| *d < 10)?;
     number.checked_mul(10)?.checked_add(u64::from(digit))

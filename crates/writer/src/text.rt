@@ -7,7 +7,7 @@ use crate::form::Head;
 
 // A token before the text that begins at a - 2. Where a is below 2 the text had no room, and where this one has none the answer is 0.
 // Stays a number, here and in crate output: tried as `Option<usize>`, the deepest trees take 266,960 bytes of stack in place of 198,200, which is more than bench/write allows, and
-// writing takes 4 to 9 % more instructions.
+// writing takes 3 to 10 % more instructions.
 pub fn put(output: &mut [u64], a: usize, token: Option<u64>, value: u64) -> usize
     requires { a ≤ length output.old + 2 }
     ensures { ForToken token (λ c. Put c value a result output.old output.new) }
