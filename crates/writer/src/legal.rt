@@ -43,7 +43,7 @@ impl Standing<'_> {
     }
 
     // Whether the tree number i, which ends at q, may stand as a child of a node that a class is demanded of.
-    // Stays six: a tree's number and place, and the node's kind and value, are each handed to two of the three that are asked, never all four.
+    // Stays six: one place calls it, and a struct would be made there and taken apart here.
     fn kid_fits(&self, i: usize, q: usize, kind: u64, value: u64, asked: u64) -> bool
         requires { TreeAt self.now i q }
         ensures { KidFits self.now.records.now kind value asked q result }
