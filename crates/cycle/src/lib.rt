@@ -49,6 +49,7 @@ enum Control {
 }
 
 // The control that a token of this kind begins, if it begins one.
+// Stays a function and no TryFrom: that a kind is none is an answer here, and no error.
 fn which_control(kind: u64) -> Option<Control>
     ensures { Which kind result }
 {
@@ -69,6 +70,7 @@ fn action(keyword: Option<Action>) -> Action
 
 // Stays tokens, store, queue and depth apart: a struct that holds what is lent takes a name of its own in each of the 40 contracts for what it held before and after,
 // where `store.old` and `queue.new` stand now; and `Ready` says of a place what no place alone has, that the tokens and the store reach so far.
+// Stays a number, for a label and for a signature's name, 0 or 1 + it: it goes into a record as it was read.
 // Stays `loop`, where one is written: what is read says how far it goes, and `n` counts members for a record and is no index.
 // A member is called with the depths that are left: `unop`, `rhs` and `list` may begin where one is left,
 // and go on with one less; the others hand on what they are given.
@@ -1102,7 +1104,7 @@ fn catch(
     if f.error == number::END_OF_TOKENS {
         return Err(Halt::Fail(f));
     }
-    queue.push(f.error)?;
+    queue.try_push(f.error)?;
     let pos = sync(tokens, store, queue, depth, true, Cursor { pos: f.pos, at })?;
     synchronized(tokens, queue, pos)?;
     Ok(pos)

@@ -58,6 +58,7 @@ pub type Queue = [u64; limit::QUEUE];
 
 // Where a reading stands: the tokens taken so far, how many errors wait, which they are, and the number of the stop, 0 for none.
 // Stays an array with a count, and a number with 0 for none: C keeps these words, and hands in any.
+// Stays without a constructor: a host writes the four fields, in C as in Rattle.
 #[derive(Clone, Copy, PartialEq, Eq)]
 pub struct Reader {
     pub position: usize,
@@ -74,7 +75,7 @@ pub struct Stepped {
 }
 
 // What the writer answers: so many tokens written, or a stop or a refusal by its number.
-// Stays an enum of its own and no Result, as `Answer` does: C gets a number for each of its cases, and the definitions give the paper's number for each.
+// Stays an enum of its own and no Result, as `Answer` does: document 01 names its cases, and a Result would have two of the three one level deeper, in an enum of errors.
 #[derive(Clone, Copy, PartialEq, Eq)]
 pub enum Written {
     Tokens(usize),

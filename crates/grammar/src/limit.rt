@@ -1,5 +1,5 @@
 // The limits, and the numbers of stops and refusals. specs/Reading/Limit.antt has the same.
-// Stays numbers: a stop lies in the reader that C keeps, and C gets both by number.
+// Stays numbers: a stop lies in the reader that C keeps, which may hold any; and `Answer` has a stop and a refusal by the number that the papers' table gives them.
 
 // Operand readings, right sides of assignments and statement lists begun and unfinished.
 pub const DEPTH: usize = 37;

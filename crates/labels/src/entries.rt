@@ -13,7 +13,7 @@ pub enum JumpKind {
 }
 
 // A break or a continue, with its label.
-// Stays 0, or 1 + the name, for the label: it is the value of a record, and is compared with others' alone.
+// Stays 0, or 1 + the name, for the label: it is the value of a record, of which is asked only whether it is 0 and whether it is another's.
 #[derive(Clone, Copy, Debug, PartialEq, Eq)]
 pub struct Jump {
     pub kind: JumpKind,
@@ -91,7 +91,7 @@ impl Entries<'_> {
         ensures stands { Stands self.old.words.now self.old.count pending self.new.count }
         ensures same { self.new.words.now ≡ self.old.words.now }
     {
-        // Stays `while`: entries are given up from the last on, until one stands.
+        // Stays `while`: the struct's own count goes down with each entry that is given up.
         while 0 < self.count && pending < self.words[ENTRY * self.count - 1] {
             self.count -= 1;
         }

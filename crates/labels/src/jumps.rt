@@ -10,6 +10,7 @@ use crate::{Offence, Refusal};
 use tree::node;
 use tree::word::CHILD;
 
+// Stays a function and no TryFrom: that a kind is none is an answer here, and no error.
 fn jump_kind(kind: u64) -> Option<JumpKind>
     ensures { MatchOption result (is_jump_def kind ≡ false) (λ j. (is_jump_def kind ≡ true) × (kind ≡ kind_of j)) }
 {

@@ -75,7 +75,7 @@ pub fn named_field(
 }
 
 // What must stand behind a table item, and is taken: a comma, 0; or `}`, 1.
-// Stays a number, as in `param_mode` and `separator`: a `Found` with a bool would be a second type with relation and laws of its own.
+// Stays a number, as in `param_mode` and `separator`: the definition has a number too, and a bool would be made of it here and a number again in each law.
 pub fn item_end(tokens: &[u64], pos: usize) -> Result<Found, Halt>
     requires { pos ≤ length tokens.now }
     ensures { Finds itself (λ q. item_end_def q (drop pos tokens.now)) tokens.now pos (pos + 2) (pos + 2) 2 result }

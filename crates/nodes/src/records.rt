@@ -317,6 +317,7 @@ pub fn block_under(store: &mut [u64], list: Listed, word: u64, value: u64) -> Cu
 }
 
 // A list that was read as a statement list, and the node over it.
+// Stays beside `block_under`: what ends the list is another in both arms, and the rest is one line.
 pub fn list_under(store: &mut [u64], list: Listed, word: u64, value: u64) -> Cursor
     requires { Closable (length store.old) 8 list }
     ensures { Unders stmt_list_of word value 8 store.old store.new list result }

@@ -53,6 +53,7 @@ pub enum AssignmentOp {
     With(BinaryOp),
 }
 
+// Stays a function and no TryFrom, as the two below: the Rust names the three, and that a kind is none is an answer and no error.
 #[tactic(auto, unfolding(crate::specs::Operator::which_unary_op))]
 pub fn which_unary_op(kind: u64) -> Option<UnaryOp>
     ensures { result ≡ which_unary_op_def kind }

@@ -1,6 +1,7 @@
 // The operators in one table: a line for each token kind, from 0 to 76. Its four numbers are the unary operator that the kind is, the binary one, the level of the
 // binary one, and the assignment operator. 0 is none. An operator is 1 + its number in a tree's record; an assignment operator is 1 for the plain `=`, and 2 + the
 // number of its binary operator for the others. A level is from 1, which binds the tightest, to PRECEDENCE_START. docs/OPERATORS.md has the table for people.
+// Stays rows of four numbers: document 02, P9, has the table so.
 
 // The numbers of a line.
 pub const UNARY: usize = 0;

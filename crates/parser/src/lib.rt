@@ -29,7 +29,7 @@ fn failed(
     requires { Ready (length tokens.now) (length store.old) f.pos 0 }
     ensures { IsErrAnd result (λ h. Failed (failed_def depth_limit f.error queue.old (drop f.pos tokens.now)) tokens.now f.pos f.pos 0 store.old queue.old store.new queue.new h) }
 {
-    queue.push(f.error)?;
+    queue.try_push(f.error)?;
     let error = queue.pop();
     let place = Cursor { pos: f.pos, at: 0 };
     let pos = sync(tokens, store, queue, limit::DEPTH, false, place)?;

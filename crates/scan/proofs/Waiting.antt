@@ -21,7 +21,7 @@ pub other : {A : Type 0} {b : Bool} (f g : Unit {0} → A) → b ≡ false → i
 unfolding ifb
 other f g e = rw e
 
--- from what `push` answered: D goes on, or stops
+-- from what `try_push` answered: D goes on, or stops
 pub pushed : {A : Type 0} {e : ℕ} {Q Q' : List Error} {u : Unit {0}} (k : List Error → Res A) → Pushes e Q Q' (Ok u) → As Q (push e Q k) Q' (k Q')
 unfolding push
 pushed {e = e} {Q} k p = rw p.how.1 (link (way _ (other _ _ (ne_eqb _ _ (omega (arith, p.how.0))))) (as_unclean _ _))

@@ -1,5 +1,5 @@
 // The errors that wait, the oldest first.
-ghost use Rattle.std.specs.Prelude.{◌≡◌, ◌≤◌, ◌&&◌, ◌∷◌, [], eqb, length, take, drop};
+ghost use Rattle.std.specs.Prelude.{◌≡◌, ◌≤◌, ◌<◌, ◌&&◌, ◌++◌, ◌∷◌, [], eqb, length, take, drop};
 ghost use Rattle.std.specs.List.{list_all};
 ghost use Rattle.grammar.specs.Reading.Limit.{queue_limit};
 ghost use Rattle.grammar.specs.Reading.Stmt.{control_last as control_last_def, synchronized as synchronized_def};
@@ -14,6 +14,7 @@ use std::marker::Model;
 use token::kind;
 
 // A contract sees the errors that wait as a list. They stand in the first places of an array, as in the reader that C keeps.
+// Stays an array with its count: the reader's array is taken and given back whole, with 0 behind the errors, which an `ArrayVec` has no method for.
 #[derive(Drop)]
 pub struct Waiting {
     errors: Queue,
@@ -56,15 +57,23 @@ impl Waiting {
         self.count
     }
 
+    // An error joins the back, where there is a place.
+    pub fn push(&mut self, error: u64)
+        requires { length self.old < queue_limit }
+        ensures { self.new ≡ self.old ++ error ∷ [] }
+    {
+        self.errors[self.count] = error;
+        self.count += 1;
+    }
+
     // An error joins the back. Where the queue is full it stays, and the reading stops.
-    pub fn push(&mut self, error: u64) -> Result<(), Halt>
+    pub fn try_push(&mut self, error: u64) -> Result<(), Halt>
         ensures { Pushes error self.old self.new result }
     {
         if self.count == limit::QUEUE {
             return Err(Halt::Stop(limit::QUEUE_FULL));
         }
-        self.errors[self.count] = error;
-        self.count += 1;
+        self.push(error);
         Ok(())
     }
 
@@ -105,7 +114,7 @@ pub fn control_last(
     if end.ends(token.kind) {
         return Ok(pos);
     }
-    queue.push(not_last(k))?;
+    queue.try_push(not_last(k))?;
     Ok(pos + 2)
 }
 

@@ -1,4 +1,5 @@
 // What stands at a place of the tokens, and what is read of them without recursion.
+// Stays tokens and a place, two parameters, as in crates/cycle: the tokens are lent whole, and each function answers a place in them.
 ghost use Rattle.std.specs.Prelude.{◌≡◌, ◌&&◌, ◌||◌, suc, ◌+◌, ◌≤◌, eqb, length, drop};
 ghost use Rattle.token.specs.Kind;
 ghost use Rattle.grammar.specs.Reading.Look.{expect as expect_def, try_label as try_label_def, keyword as keyword_def, try_assign_keyword};
@@ -77,6 +78,7 @@ pub fn try_label(tokens: &[u64], pos: usize) -> Result<Found, Halt>
 }
 
 // The action that a token of this kind stands for before an assignment.
+// Stays a function and no TryFrom: that a kind is none is an answer here, and no error.
 fn keyword(kind: u64) -> Option<Action>
     ensures { keyword_code result ≡ keyword_def kind }
 {

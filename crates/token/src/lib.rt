@@ -7,7 +7,7 @@ ghost use Rattle.token.specs.Look.{value_fits as value_fits_def, seen};
 pub mod kind;
 
 // A token: its kind, 1 if it is the first of its line and else 0, and the name number or bits that it carries.
-// Stays a number for the line's first: it is what the word of the token has beside the kind, and what the definition of a call tests.
+// Stays a number for the line's first: the word has it so and the definition tests it so; a bool would be made of it here and a number again in each law.
 #[derive(Clone, Copy)]
 pub struct Token {
     pub kind: u64,

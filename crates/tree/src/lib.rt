@@ -42,7 +42,7 @@ pub fn block_result(store: &mut [u64], last: usize, end: usize, n: u64)
 }
 
 // Where the n trees start that end at `to`: each record that is passed is a tree less, and its children more.
-// Stays `while`: the records say how far it goes.
+// Stays `while`: `need` counts trees, and only the records say how many turns that makes.
 pub fn skip(store: &[u64], to: usize, n: u64) -> usize
     requires { (to ≤ length store.now) × Ended (take to store.now) n }
     ensures { (B : List ℕ) → Trees B (take to store.now) n → Starts B store.now result }

@@ -10,6 +10,7 @@
 //
 // The rest is tested apart: a record's own numbers (sound.rt), and what no class says: the token that a tree begins with, and whether it ends
 // in a tuple of one member (edges.rt).
+// Stays kind and value apart, here and where a table is asked: the definitions take them so, and where a place is asked too there is `Head`.
 // Stays a number: a class is computed (from a level, of a list), compared by order and kept in lent words. So does a mode, for most kinds a count, a kind, a name
 // or an action of the records.
 ghost use Rattle.std.specs.Prelude.{◌≡◌};

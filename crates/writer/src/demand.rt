@@ -1,7 +1,7 @@
 // Which classes a place takes. A demand is least + 100 × most + 10,000 × other: it takes the classes from least to most, and the class
 // «other» where that is not 0 (Absent, the empty list, or another that stands apart).
-// Stays a number: tried as a struct of the two and an Option, proved, the check of labels takes 0.96 to 1.05 of the time before this pass for sums, the mean of six layouts in
-// several runs; with the number 0.90 to 0.94.
+// Stays a number: tried as a struct of the two and an Option, proved, the check of labels of sums takes 0.96 to 1.05 of the time of commit 1d7870e, where 1 is the bar (the mean of
+// six layouts, several runs); with the number 0.90 to 0.94.
 ghost use Rattle.std.specs.Prelude.{◌≡◌};
 ghost use Rattle.tables.specs.Demand.{of_members as of_members_def, left_side as left_side_def, right_side as right_side_def, assigned as assigned_def, inside as inside_def, defaults as defaults_def, first_demand as first_demand_def, second_demand as second_demand_def, third_demand as third_demand_def, demand as demand_def, fits as fits_def};
 

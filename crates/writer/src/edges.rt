@@ -10,6 +10,7 @@ use crate::records::{count_at, kid_of, kind_at, last_of, value_at};
 use tree::node;
 
 // Stays `while`, here and in ends_single: it goes from tree to tree down to one of another kind, and nothing is counted.
+
 // Whether the tree that ends at p begins with a label: down the first children to a labelled block.
 pub fn begins_labelled(records: &[u64], p: usize) -> bool
     requires { Somewhere records.now p }

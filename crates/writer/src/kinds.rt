@@ -5,7 +5,8 @@ ghost use Rattle.tables.specs.Kinds.{target_item as target_item_def, name_is as 
 
 use tree::node;
 
-// Stays an arm for each kind, here and in the other tables: joined by `|`, or in `matches!`, they make the writer take a tenth more time.
+// Stays an arm for each kind, here and in most of the other tables: joined by `|`, or in `matches!`, they make the writer take a tenth more time.
+
 // An atom that is no group can begin a target.
 pub fn target_atom(kind: u64) -> bool
     ensures { result ≡ target_atom_def kind }
@@ -33,8 +34,8 @@ pub fn target_item(kind: u64) -> bool
     }
 }
 
-// Stays 0 for none, here and in target.rt: both are values of records, and nothing is done with them but this.
 // Whether a signature's name, 0 or 1 + it, is 1 + this one.
+// Stays 0 for none, here and in target.rt: both are values of records, and nothing is done with them but this.
 #[tactic(auto, unfolding(tables::specs::Kinds::name_is))]
 fn name_is(value: u64, name: u64) -> bool
     ensures { result ≡ name_is_def value name }

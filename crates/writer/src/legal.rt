@@ -55,6 +55,7 @@ impl Standing<'_> {
 
     // Whether the children of the node that ends at p and has the mode m may stand where they stand, from the last tree to the first child; if so,
     // what is found of them.
+    // Stays counted by hand, the trees' numbers beside the children's: a zip of two ranges that go down is no plainer.
     fn kids_fit(&self, p: usize, m: u64) -> Option<Kids>
         requires { NodeAt self.now p }
         ensures { KidsFit self.now.records.now p m result }

@@ -142,6 +142,7 @@ fn decided_alone(records: &[u64]) -> bool
     requires { Whole records.now }
     ensures { Legal records.now result }
 {
+    // Stays an array: what C links has no heap.
     let mut kept = [0u64; ROOM];
     legal(records, &mut kept)
 }

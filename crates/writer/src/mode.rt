@@ -13,6 +13,7 @@ use tree::node;
 
 // Stays numbers, here and in target.rt: a mode is one number for nodes of all kinds, and that of most is a count, a kind, a name or an action of the records. An enum for these
 // would be made a number where it is found, and be taken from one again where `class` and `demand` use it.
+
 // A statement list: without control, whose last statement is an expression; any other without control; with control.
 pub const OPEN: u64 = 0;
 

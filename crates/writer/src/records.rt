@@ -2,6 +2,7 @@
 // ends two words before the node, and a child's next older sibling ends where the child's records begin. 0 is the end of no tree, and
 // stands for a child that is not there: its kind, the count of its children and its value are 0.
 // Stays 0 and no Option: each of the three is asked of a child that may not be there, and would be written with 0 at each place.
+// Stays the records and a place, two parameters, and no slice up to it: a place is what is kept of a tree in a word, what each function answers, and what others go on from.
 ghost use Rattle.std.specs.Prelude.{◌≤◌};
 ghost use Rattle.writer.specs.Stack.{Here, Somewhere, Shape, Skipped, Says, LastOf, KidOf};
 ghost use Rattle.tables.specs.Children.{kind_in, count_in, value_in};

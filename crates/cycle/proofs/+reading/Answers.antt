@@ -143,8 +143,8 @@ call-returns-in_err-token = Rattle.cycle.proofs.+reading.Answers.Call.call-retur
 pub catch-returns-then-f-eq-END_OF_TOKENS : goal.catch-returns-then-f-eq-END_OF_TOKENS
 catch-returns-then-f-eq-END_OF_TOKENS = Rattle.cycle.proofs.+reading.Answers.Catch.catch-returns-then-f-eq-END_OF_TOKENS
 
-pub catch-returns-in_err-push : goal.catch-returns-in_err-push
-catch-returns-in_err-push = Rattle.cycle.proofs.+reading.Answers.Catch.catch-returns-in_err-push
+pub catch-returns-in_err-try_push : goal.catch-returns-in_err-try_push
+catch-returns-in_err-try_push = Rattle.cycle.proofs.+reading.Answers.Catch.catch-returns-in_err-try_push
 
 pub catch-returns-in_err-pos : goal.catch-returns-in_err-pos
 catch-returns-in_err-pos = Rattle.cycle.proofs.+reading.Answers.Catch.catch-returns-in_err-pos

@@ -18,16 +18,16 @@ unfolding control_last then
 returns-then-ends c = let tk = taken c.in_ok-token.ensures in
     record { how = record { what = tt; same = way _ (rw tk.same (chosen _ _ (sym c.ends.ensures ∙ c.if-ends.true))); moved = omega arith } }
 
-pub returns-in_err-push : goal.returns-in_err-push
+pub returns-in_err-try_push : goal.returns-in_err-try_push
 unfolding control_last then
-returns-in_err-push c = let tk = taken c.in_ok-token.ensures in
+returns-in_err-try_push c = let tk = taken c.in_ok-token.ensures in
     let on = way _ (rw tk.same (other _ _ (sym c.ends.ensures ∙ c.if-ends.false))) in
     let e = c.not_last.ensures in
-    rw (handed c.from_residual-in_err-push.ensures.1) (record { how = unpushed (λ q. ok tt (drop (c.args.pos + 2) c.args.tokens.now)) on (rw e at c.in_err-push.ensures) })
+    rw (handed c.from_residual-in_err-try_push.ensures.1) (record { how = unpushed (λ q. ok tt (drop (c.args.pos + 2) c.args.tokens.now)) on (rw e at c.in_err-try_push.ensures) })
 
 pub returns : goal.returns
 unfolding control_last then
 returns c = let tk = taken c.in_ok-token.ensures in
     let e = c.not_last.ensures in
-    let u = rw e at c.in_ok-push.ensures in
+    let u = rw e at c.in_ok-try_push.ensures in
     record { how = record { what = tt; same = link (way _ (rw tk.same (other _ _ (sym c.ends.ensures ∙ c.if-ends.false)))) (pushed (λ q. ok tt (drop (c.args.pos + 2) c.args.tokens.now)) u); moved = record { on = omega arith; within = tk.within; more = omega (arith, longer u) } } }
