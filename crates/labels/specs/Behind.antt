@@ -1,5 +1,5 @@
 -- What encloses a tree, by the words that stand behind it, and the offences of the records of some words. Definitions; they assume nothing.
-use Rattle.std.specs.Prelude.{◌≡◌, Bool, false, List, [], ◌∷◌, ℕ, ◌+◌, ◌-◌, ◌/◌, ◌%◌, ◌<◌, eqb, ltb, length}
+use Rattle.std.specs.Prelude.{◌≡◌, Bool, false, List, [], ◌∷◌, ℕ, ◌+◌, ◌-◌, ◌/◌, ◌%◌, ◌≤◌, eqb, ltb, length, get_or, drop}
 use Rattle.tree.specs.Tree.{Tree}
 use Rattle.grammar.specs.Reading.Result.{ifb}
 use Rattle.tables.specs.Choice.{when◌then◌else◌}
@@ -32,10 +32,18 @@ behind [] = []
 behind (w ∷ []) = []
 behind (w ∷ v ∷ r) = offence (enclosing 1 r) (w % 256) v ∷ behind r
 
--- the nearest node that has the tree before the words in its last child, if there is one: what it encloses it with, and fewer words stand behind it
+-- the nearest node that has the tree before the words in its last child: from r on stands what is behind it, and right before r its record
+pub record Nearest (L : List ℕ) (a : Above) (r : ℕ) : Type 0 where
+  pub rest : a.behind.now ≡ drop r L
+  pub above : (2 ≤ r) × (r ≤ length L)
+  pub kind : a.kind ≡ get_or L (r - 2) 0 % 256
+  pub label : a.label ≡ get_or L (r - 1) 0
+  pub here : enclosing 1 L ≡ inside a.kind a.label (enclosing 1 a.behind.now)
+
+-- that node, if there is one
 abbrev pub NextAs : List ℕ → Option Above → Type 0
 NextAs L None = enclosing 1 L ≡ []
-NextAs L (Some a) = (enclosing 1 L ≡ inside a.kind a.label (enclosing 1 a.behind.now)) × (length a.behind.now < length L)
+NextAs L (Some a) = Nearest L a (length L - length a.behind.now)
 
 pub record Next (L : List ℕ) (r : Option Above) : Type 0 where
   pub how : NextAs L r

@@ -11,7 +11,7 @@ use Rattle.labels.proofs.behind.any_behind.Goals as goal
 module _ (c : In-Some) where
   whole : any_serves (kind_of c.args.jump.kind) c.args.jump.label (enclosing 1 c.args.records.now)
       ≡ any_serves (kind_of c.args.jump.kind) c.args.jump.label (inside c.in-Some.node.kind c.in-Some.node.label (enclosing 1 c.in-Some.node.behind.now))
-  whole = c.loop-node.invariant ∙ ap (any_serves (kind_of c.args.jump.kind) c.args.jump.label) c.in-Some.ensures.how.0
+  whole = c.loop-node.invariant ∙ ap (any_serves (kind_of c.args.jump.kind) c.args.jump.label) c.in-Some.ensures.how.here
 
 pub returns-then-node-eq-FUNCTION_DEF : goal.returns-then-node-eq-FUNCTION_DEF
 returns-then-node-eq-FUNCTION_DEF c = sym (whole (goal.at.returns-then-node-eq-FUNCTION_DEF c).In-Some ∙ none_serves _ _ _ _ _ c.if-node-eq-FUNCTION_DEF.true)
