@@ -44,7 +44,7 @@ pub struct Said {
 }
 
 impl Said {
-    pub fn new(case: Case, number: u64) -> Said
+    pub(crate) fn new(case: Case, number: u64) -> Said
         ensures { result ≡ said case number }
     {
         Said { case, number }

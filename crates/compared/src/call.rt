@@ -92,6 +92,7 @@ impl<R: Host> Trial<'_, R> {
         ensures { OnOk result (Counts (with_short call.entry.reader call.entry.tokens.now) self.old self.new) }
     {
         match call.needed().checked_sub(1) {
+            // Stays 63, the paper's number: what tries a refusal takes none of the code's constants.
             Some(room) => self.called(call, room, Want::answer(Case::Refused, 63, call.reader)),
             None => Ok(()),
         }

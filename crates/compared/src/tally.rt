@@ -16,7 +16,7 @@ pub struct Tally {
 }
 
 // A counter does not wrap in any run; to wrap spares a bound that nothing would use.
-pub fn count_one(counter: &mut u64)
+pub(crate) fn count_one(counter: &mut u64)
     ensures { counter.new ≡ plus counter.old 1 }
 {
     *counter = counter.wrapping_add(1);

@@ -69,6 +69,7 @@ impl<R: Host> Trial<'_, R> {
         self.on_output(writing, length, want, text)?;
         self.on_output(writing, writing.room, want, text)?;
         match length.checked_sub(1) {
+            // Stays 66, the paper's number, and 62 below: what tries a refusal or a stop takes none of the code's constants.
             Some(short) => self.on_output(writing, short, Said::new(Case::Refused, 66), &[]),
             None => Ok(()),
         }

@@ -47,6 +47,7 @@ fn long_sum<R: Host>(trial: &mut Trial<R>) -> io::Result<()> {
 fn no_tree<R: Host>(trial: &mut Trial<R>, which: u64, records: &[u64]) -> io::Result<()> {
     let place = Place::new("damaged signs", which);
     let writing = Writing::new(place, records, ROOM);
+    // Stays 65, the paper's number, and 62 below: what tries a refusal or a stop takes none of the code's constants.
     trial.is_not_written(writing, 65)?;
     trial.is_checked(place, records, Verdict::new(65, 0))
 }

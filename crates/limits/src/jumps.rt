@@ -1,5 +1,5 @@
-// The records of loops one in the other, and of a break or continue, a jump, in or beside them. What puts records says of those that it put; where memory
-// runs out, some of them may be missing. That it doesn't is shown by the program's own run.
+// The records of loops one in the other, and of a break or continue, a jump, in or beside them. Each contract holds where memory sufficed; where
+// it runs out, some of the records may be missing. That it doesn't is shown by the program's own run.
 ghost use Rattle.std.specs.Prelude.{◌≡◌, ◌+◌, ◌*◌, ◌-◌, ◌≤◌, [], ◌∷◌, ◌++◌, OnOk};
 ghost use Rattle.tree.specs.Tree.{records};
 ghost use Rattle.tree.specs.Node.{expression};
@@ -35,7 +35,7 @@ pub enum Form {
 
 impl Form {
     // The number of the jump's record.
-    pub fn record(self) -> u64
+    pub(crate) fn record(self) -> u64
         ensures { result ≡ record_number self }
     {
         match self {
@@ -46,7 +46,7 @@ impl Form {
     }
 
     // The same in a function, behind the four records of its signature.
-    pub fn record_in_function(self) -> u64
+    pub(crate) fn record_in_function(self) -> u64
         ensures { result ≡ record_number self + 4 }
     {
         self.record() + 4
@@ -75,7 +75,7 @@ impl Model for Records {
 }
 
 impl Records {
-    pub fn new(alloc: Global) -> Records
+    pub(crate) fn new(alloc: Global) -> Records
         ensures { result ≡ [] }
     {
         Records {
@@ -83,7 +83,7 @@ impl Records {
         }
     }
 
-    pub fn words(&self) -> &[u64]
+    pub(crate) fn words(&self) -> &[u64]
         ensures { result.now ≡ self.now }
     {
         &self.words
@@ -154,14 +154,14 @@ impl Records {
     }
 
     // The end of a loop behind its list and control.
-    pub fn put_loop(&mut self, label: u64) -> Result<(), AllocError>
+    pub(crate) fn put_loop(&mut self, label: u64) -> Result<(), AllocError>
         ensures { OnOk result (self.new ≡ self.old ++ 519 ∷ 0 ∷ 259 ∷ label ∷ []) }
     {
         self.put(&[word::STMT_LIST, 0, word::LOOP, label])
     }
 
     // The ends of so many loops but the outermost, and behind each the list and control that it stands in.
-    pub fn put_loops(&mut self, times: u64) -> Result<(), AllocError>
+    pub(crate) fn put_loops(&mut self, times: u64) -> Result<(), AllocError>
         ensures { OnOk result (self.new ≡ self.old ++ loop_ends (times - 1)) }
     {
         for label in 1..times {
@@ -182,7 +182,7 @@ impl Records {
     }
 
     // So many loops, with a jump in them or none.
-    pub fn put_nest(&mut self, jump: Option<Jump>, times: u64) -> Result<(), AllocError>
+    pub(crate) fn put_nest(&mut self, jump: Option<Jump>, times: u64) -> Result<(), AllocError>
         ensures { OnOk result (self.new ≡ self.old ++ records (nest times (innermost jump))) }
     {
         self.put_innermost(jump)?;
@@ -191,7 +191,7 @@ impl Records {
     }
 
     // A jump in a function, with so many loops but the outermost between them, and the list and control that the function stands in.
-    pub fn put_function(&mut self, jump: Jump, inside: u64) -> Result<(), AllocError>
+    pub(crate) fn put_function(&mut self, jump: Jump, inside: u64) -> Result<(), AllocError>
         ensures { OnOk result (self.new ≡ self.old ++ parts (function jump.form jump.label inside)) }
     {
         self.put(&SIGNATURE)?;
@@ -201,7 +201,7 @@ impl Records {
     }
 
     // A loop without a label, in which an if with a continue stands before so many loops.
-    pub fn put_before(&mut self, label: u64, times: u64) -> Result<(), AllocError>
+    pub(crate) fn put_before(&mut self, label: u64, times: u64) -> Result<(), AllocError>
         ensures { OnOk result (self.new ≡ self.old ++ records (before label times)) }
     {
         self.put_statement(label)?;
@@ -211,7 +211,7 @@ impl Records {
     }
 
     // A loop without a label, in which a continue stands in so many loops, and one to the same label behind them.
-    pub fn put_behind(&mut self, label: u64, times: u64) -> Result<(), AllocError>
+    pub(crate) fn put_behind(&mut self, label: u64, times: u64) -> Result<(), AllocError>
         ensures { OnOk result (self.new ≡ self.old ++ records (behind label times)) }
     {
         let jump = Jump {

@@ -18,6 +18,7 @@ fn from_start<R: Host>(trial: &mut Trial<R>, tokens: &[u64]) -> io::Result<()> {
         reader,
         tokens,
     );
+    // Stays 63, the paper's number, and 60 and 62 below: what tries a refusal or a stop takes none of the code's constants.
     let want = Want::answer(Case::Refused, 63, reader);
     trial.called(call, 4000, want)
 }

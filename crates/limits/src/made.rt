@@ -61,7 +61,7 @@ pub fn stopped_at(position: usize, stopped: u64) -> Reader {
 }
 
 // A sheet that stops the reader, by this number, and once more the stopped reader.
-pub fn stops<R: Host>(
+pub(crate) fn stops<R: Host>(
     trial: &mut Trial<R>,
     place: Place,
     tokens: &[u64],

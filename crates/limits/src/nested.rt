@@ -33,6 +33,7 @@ fn in_loops<R: Host>(
 
 // A jump in so many loops: to the outermost one, without a label, and to the other label.
 fn jump_in_loops<R: Host>(trial: &mut Trial<R>, form: Form, times: u64) -> io::Result<()> {
+    // Stays 67, the paper's number, and 68 below: what tries the check takes none of the code's constants.
     let offence = Verdict::new(67, form.record());
     for (label, want) in [(OUTERMOST, FINE), (0, FINE), (OTHER, offence)] {
         in_loops(trial, Some(Jump { form, label }), times, want)?;

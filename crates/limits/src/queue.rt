@@ -2,7 +2,7 @@
 ghost use Rattle.std.specs.Prelude.{◌<◌};
 
 use crate::made::{Layers, stops, waiting_at};
-use compared::answer::{Case, Said, Want, fresh_at};
+use compared::answer::{Case, Want, fresh_at};
 use compared::call::Call;
 use compared::trial::{Host, Place, Trial};
 use grammar::Reader;
@@ -68,6 +68,7 @@ fn full<R: Host>(trial: &mut Trial<R>) -> io::Result<()> {
 // A block with 97 errors.
 fn over<R: Host>(trial: &mut Trial<R>) -> io::Result<()> {
     let tokens = BLOCK.words(trial.alloc(), 97)?;
+    // Stays 64, the paper's number: what tries a stop takes none of the code's constants.
     stops(trial, Place::new("errors in a block", 97), &tokens, 64)
 }
 

@@ -2,7 +2,7 @@
 ghost use Rattle.std.specs.Prelude.{◌<◌};
 
 use crate::made::{stopped_at, waiting_at};
-use compared::answer::{Case, Said, Want, fresh_at};
+use compared::answer::{Case, Want, fresh_at};
 use compared::call::Call;
 use compared::trial::{Host, Place, Trial};
 use grammar::Reader;
@@ -11,6 +11,7 @@ use token::kind;
 
 // A reader that is refused, on a store of each of two lengths.
 fn refused<R: Host>(trial: &mut Trial<R>, call: Call) -> io::Result<()> {
+    // Stays 61, the paper's number, and the stops and errors below: what tries a refusal, a stop or an error takes none of the code's constants.
     let want = Want::answer(Case::Refused, 61, call.reader);
     trial.called(call, 80, want)?;
     trial.called(call, 0, want)

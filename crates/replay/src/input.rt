@@ -11,7 +11,7 @@ const NUMBERS: usize = 8192;
 
 // What goes wrong with a line: it is malformed, or what it asks for fails.
 #[derive(Debug, Drop)]
-pub enum LineError {
+pub(crate) enum LineError {
     Malformed,
     Failed(io::Error),
 }
@@ -31,7 +31,7 @@ impl<T: Drop> From<AllocFailed<T>> for LineError {
 // What a line with numbers is: a sheet; an answer of the reader to it; records for the writer and the check; a text or the number of a reason, which
 // the writer answers; what the check of labels answers.
 #[derive(Clone, Copy)]
-pub enum Letter {
+pub(crate) enum Letter {
     Sheet,
     Answer(Case),
     Records,
@@ -61,7 +61,7 @@ impl TryFrom<u8> for Letter {
 
 // The numbers of a line, and how many of them stand before `=`.
 #[derive(Drop)]
-pub struct Numbers {
+pub(crate) struct Numbers {
     all: Vec<u64>,
     mark: usize,
     ghost in_range: { mark ≤ vec_len all },
@@ -69,7 +69,7 @@ pub struct Numbers {
 
 impl Numbers {
     // Reads the bytes behind a line's letter. A number that `=` stands in is one that stands behind it.
-    pub fn read(alloc: Global, text: &[u8]) -> Result<Numbers, LineError> {
+    pub(crate) fn read(alloc: Global, text: &[u8]) -> Result<Numbers, LineError> {
         let mut numbers = Numbers {
             all: Vec::new(alloc),
             mark: 0,
@@ -112,12 +112,12 @@ impl Numbers {
         Ok(())
     }
 
-    pub fn all(&self) -> &[u64] {
+    pub(crate) fn all(&self) -> &[u64] {
         &self.all
     }
 
     // The numbers before `=`, and those behind it.
-    pub fn parts(&self) -> (&[u64], &[u64]) {
+    pub(crate) fn parts(&self) -> (&[u64], &[u64]) {
         self.all.split_at(self.mark)
     }
 }

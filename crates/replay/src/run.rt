@@ -1,7 +1,7 @@
 // The sheets of the input and the answers that the published parser gave: a line `s` begins a sheet, each line after it expects an answer.
 // A line `w` or `n` expects what the writer makes of the tree before it, or of the records of a line `a`, and a line `l` what the check of labels answers of them.
 use crate::input::{Letter, LineError, Numbers};
-use compared::answer::{Case, Said, Want, fresh_at};
+use compared::answer::{Case, Want, fresh_at};
 use compared::call::Call;
 use compared::checking::Verdict;
 use compared::trial::{Host, Place, Trial};
@@ -19,7 +19,7 @@ const HELD: usize = 9192;
 
 // Where the replay stands: the counts, the present sheet, the records for the writer and the check, and the reader that the next call gets.
 #[derive(Drop)]
-pub struct Run<'a, R> {
+pub(crate) struct Run<'a, R> {
     trial: Trial<'a, R>,
     sheet: Vec<u64>,
     records: Vec<u64>,
@@ -28,7 +28,7 @@ pub struct Run<'a, R> {
 
 impl<'a, R: Host> Run<'a, R> {
     // Before the first line.
-    pub fn new(rt: &'a R) -> Run<'a, R> {
+    pub(crate) fn new(rt: &'a R) -> Run<'a, R> {
         Run {
             trial: Trial::new(rt),
             sheet: Vec::new(rt.alloc()),
@@ -38,7 +38,7 @@ impl<'a, R: Host> Run<'a, R> {
     }
 
     // A line by its number. One that can't be one counts as a difference.
-    pub fn line_read(&mut self, at: u64, text: &[u8]) -> io::Result<()> {
+    pub(crate) fn line_read(&mut self, at: u64, text: &[u8]) -> io::Result<()> {
         match self.text_read(at, text) {
             Ok(()) => Ok(()),
             Err(LineError::Malformed) => self.trial.malformed(at),
@@ -47,7 +47,7 @@ impl<'a, R: Host> Run<'a, R> {
     }
 
     // The counts of all groups.
-    pub fn end(&self) -> io::Result<()> {
+    pub(crate) fn end(&self) -> io::Result<()> {
         self.trial.end()
     }
 
