@@ -1,6 +1,6 @@
 // What is said of one record: whether it is a break or continue that leads nowhere.
 ghost use Rattle.std.specs.Prelude.{◌≡◌, ◌-◌, ◌%◌, true, false, get_or, drop, MatchOption};
-ghost use Rattle.labels.specs.Offences.{Labels, offence as offence_def, any_serves as any_serves_def, noted as noted_def, is_jump as is_jump_def, offender as offender_def};
+ghost use Rattle.labels.specs.Offences.{offence as offence_def, any_serves as any_serves_def, noted as noted_def, is_jump as is_jump_def, offender as offender_def};
 ghost use Rattle.labels.specs.Behind.{enclosing};
 ghost use Rattle.labels.specs.Entries.{kind_of, Round};
 

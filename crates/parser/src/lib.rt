@@ -1,7 +1,7 @@
 // The entries of the statement reader: the next answer, with the reader by value.
 #![tactic(auto)]
 
-ghost use Rattle.std.specs.Prelude.{◌≡◌, not, ◌&&◌, ◌||◌, [], ◌+◌, ◌*◌, ◌/◌, ◌%◌, ◌≤◌, eqb, ltb, length, take, drop};
+ghost use Rattle.std.specs.Prelude.{◌≡◌, not, ◌&&◌, ◌||◌, [], ◌+◌, ◌*◌, ◌/◌, ◌%◌, ◌≤◌, eqb, ltb, length, drop};
 ghost use Rattle.tree.specs.Tree.{records};
 ghost use Rattle.grammar.specs.Reading.Limit.{depth_limit, length_limit, queue_limit};
 ghost use Rattle.grammar.specs.Reading.Next.{is_stop as is_stop_def, queue_fits as queue_fits_def, reader_at, halted, error_answer as error_answer_def, called, failed as failed_def, next};

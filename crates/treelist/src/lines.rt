@@ -1,6 +1,6 @@
 // The lines of a sheet, read byte by byte into the words of its tokens.
 // Stays a reading of bytes: zeros may lead a number without end, so no buffer holds every line, and `parse` takes a sign.
-ghost use Rattle.std.specs.Prelude.{◌≡◌, ◌<◌, ℕ, Some, true, false, MatchOption};
+ghost use Rattle.std.specs.Prelude.{◌≡◌, ◌<◌, ℕ, Some, false, MatchOption};
 ghost use Rattle.treelist.specs.Lines.{at_line as at_line_def, digit as digit_def, letter as letter_def, line_end as line_end_def, step, read, closed, start, said};
 ghost use Rattle.treelist.specs.Sheets.{scan, scan_of, within_line, Whole, NotWhole, progress, words_of};
 

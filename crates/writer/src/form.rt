@@ -1,6 +1,5 @@
 // How a node is written, and the depth that it takes.
 ghost use Rattle.std.specs.Prelude.{◌≡◌};
-ghost use Rattle.tree.specs.NodeKind;
 ghost use Rattle.tables.specs.Form.{fun_gives as fun_gives_def, first_place as first_place_def, second_place as second_place_def, place_of as place_of_def, base as base_def, first_deeper as first_deeper_def, second_deeper as second_deeper_def, deeper as deeper_def};
 ghost use Rattle.writer.specs.Form.{place_number, form_of_head};
 
