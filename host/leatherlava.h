@@ -20,7 +20,7 @@ extern "C" {
 #endif
 
 /* The stack to give a call, in bytes below the frame that calls. It does not grow with a sheet or a tree: a reading is at most 37 deep and then stops with 62, and so
- * does the writing; the check does not recurse. The deepest that was found takes 135,512 bytes in the reader, 198,200 in the writer and 52,472 in the check, of these libraries, for x86-64; it is
+ * does the writing; the check does not recurse. The deepest that was found takes 130,728 bytes in the reader, 198,200 in the writer and 52,472 in the check, of these libraries, for x86-64; it is
  * measured, not proved (docs/BENCHMARK.md, docs/WRITER.md, docs/LABELS.md). Built for another machine they have other frames: measure them there. */
 enum leatherlava_stack {
     LEATHERLAVA_READER_STACK = 256 * 1024,
