@@ -167,7 +167,7 @@ def callers(page, wrong):
         wrong.append("the two steps are called so: %s" % steps)
     ours, theirs = sorted((f, n) for _, f, n in rows), sorted((d, n) for d, _, n in rows)
     for title, files, function, expected, call, constant in (
-            ("code", code, fn, ours, r"\bexpect_pattern\(store, at, number::(\w+)", r"number::(CANNOT_ASSIGN|FUNCTION_TARGET)"),
+            ("code", code, fn, ours, r"\bexpect_pattern\(store, cursor\.at, number::(\w+)", r"number::(CANNOT_ASSIGN|FUNCTION_TARGET)"),
             ("definition", reading, definition, theirs, r"expect_pattern Number\.(\w+)", r"Number\.(cannot_assign|function_target)")):
         for pattern in (call, constant):
             found = sorted((name, number[constant]) for name, constant in uses(files, pattern, function))

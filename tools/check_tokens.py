@@ -43,8 +43,8 @@ def definitions():
 
 def values():
     """what `value_fits` says of each kind that it names, and of the others"""
-    found = re.findall(r"^ +(?:kind::)?(\w+) => (.*),$", text_of(ROOT, "crates", "token", "src", "lib.rt"), re.MULTILINE)
-    return {name.replace("_", "") or "OTHER": VALUES[test] for name, test in found}
+    found = re.findall(r"^ +(kind::[\w: |]+|_) => (.*),$", text_of(ROOT, "crates", "token", "src", "lib.rt"), re.MULTILINE)
+    return {name.replace("kind::", "").replace("_", "") or "OTHER": VALUES[test] for names, test in found for name in names.split(" | ")}
 
 
 def published_names(sources):
