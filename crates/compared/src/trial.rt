@@ -143,6 +143,7 @@ impl<'a, R: Host> Trial<'a, R> {
 }
 
 // Whether each word is 0.
+// Stays beside scan's `all_zeros`: that one is private to its crate, and both are a line.
 fn is_zero(words: &[u64]) -> bool
     ensures { IsTrue result ↔ (words.now ≡ replicate (length words.now) 0) }
 {

@@ -1,4 +1,5 @@
 // The records that end a tree, behind those of its children, and what is looked for in the store.
+// Stays a store and a place, two parameters, here and in fields.rt: the store is lent whole, and each function answers a place in it.
 ghost use Rattle.std.specs.Prelude.{◌≡◌, List, [], ◌∷◌, ◌++◌, ℕ, ◌+◌, ◌-◌, ◌*◌, ◌%◌, ◌≤◌, ◌<◌, length, take, drop, get_or};
 ghost use Rattle.tree.specs.NodeKind;
 ghost use Rattle.tree.specs.Tree.{Tree, none, records, all_records};

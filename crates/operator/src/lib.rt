@@ -169,7 +169,8 @@ pub fn operators() -> Table
 }
 
 // What the table has for a token kind; 0 where the kind is above the last.
-// Stays a number with 0 for none, as in the four functions below: so the table has it (document 02, P9).
+// Stays a number with 0 for none, as in the four functions below: so the table has it (document 02, P9). That it has no fault stays in each contract: it is lent, an
+// array and no type of its own.
 fn entry(table: &Table, kind: u64, column: usize) -> u64
     requires { (faults table.now ≡ 0) × (column < column_count) }
     ensures { result ≡ decision kind column }

@@ -180,6 +180,7 @@ pub fn ends_control(kind: u64) -> bool
     kind == kind::SEMICOLON || Until::Branch.ends(kind)
 }
 
+// Stays beside cycle's `which_control`: here is asked only whether, and no control is made.
 pub fn is_control(kind: u64) -> bool
     ensures { result ≡ is_control_def kind }
 {

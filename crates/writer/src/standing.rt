@@ -24,6 +24,7 @@ const BEGIN: u64 = 512;
 const FAR: usize = 18014398509481984;
 
 // The trees that stand: the records, what is kept from the number `base` on, and how many there are.
+// Stays a tree's number and its place, two parameters: the number tells where its word is, the place where its records end, and a loop comes by them apart.
 #[derive(Drop)]
 pub struct Standing<'a> {
     pub records: &'a [u64],

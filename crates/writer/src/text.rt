@@ -1,4 +1,5 @@
 // The text, right-aligned in the output: a token before it, and the tokens around a node's children.
+// Stays an output and a place, two parameters: the output is lent whole, and each function answers a place in it.
 ghost use Rattle.std.specs.Prelude.{◌+◌, ◌≤◌, length};
 ghost use Rattle.writer.specs.Form.{form_of_head};
 ghost use Rattle.writer.specs.Text.{ForToken, Put, Opened, Closed};
