@@ -17,6 +17,10 @@ pub record Copied (from to dest : ℕ) (S S' : List ℕ) : Type 0 where
 abbrev pub leading : ℕ → List ℕ
 leading n = (1 + 256 * n) ∷ 0 ∷ 0 ∷ 0 ∷ 519 ∷ 0 ∷ []
 
+-- the first m words stand behind these records
+pub record Led (m n : ℕ) (S S' : List ℕ) : Type 0 where
+  pub text : take (m + 6) S' ≡ leading n ++ take m S
+
 -- the words from «last» to «end» stand behind these records
 pub record Result (last end n : ℕ) (S S' : List ℕ) : Type 0 where
   pub text : take (end + 6) S' ≡ take last S ++ (leading n ++ drop last (take end S))

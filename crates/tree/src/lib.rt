@@ -3,7 +3,7 @@
 
 ghost use Rattle.std.specs.Prelude.{◌≡◌, List, ℕ, ◌++◌, ◌+◌, ◌-◌, ◌≤◌, length, take, replicate};
 ghost use Rattle.tree.specs.Rows.{Trees, Ended, Starts};
-ghost use Rattle.tree.specs.Store.{Emitted, Result};
+ghost use Rattle.tree.specs.Store.{Emitted, Led, Result};
 
 pub mod node;
 pub mod word;
@@ -27,18 +27,25 @@ pub fn clear(store: &mut [u64], from: usize)
     }
 }
 
-// A block's last statement becomes its result: the words from `last` to `end` move right by three records, and in front of them
-// stand the list of the n statements before it, no control, and their statement list.
+// The first m words move right by three records: in front of them stand a list of n statements, no control, and their statement list.
+fn lead(part: &mut [u64], m: usize, n: u64)
+    requires { (m + 6 ≤ length part.old) × (n ≤ 65536) }
+    ensures { Led m n part.old part.new }
+{
+    part.copy_within(0..m, 6);
+    let a = emit(part, 0, word::LIST + word::CHILD * n, 0);
+    let b = emit(part, a, word::ABSENT, 0);
+    emit(part, b, word::STMT_LIST, 0);
+}
+
+// A block's last statement becomes its result: the words from `last` to `end` move behind the list of the n statements before it.
 // Out of line, so that the loops of `copy_within` make no frame larger of the reader's functions, which recurse.
 #[inline(never)]
 pub fn block_result(store: &mut [u64], last: usize, end: usize, n: u64)
     requires { (last ≤ end) × (end + 6 ≤ length store.old) × (n ≤ 65536) }
     ensures { Result last end n store.old store.new }
 {
-    store.copy_within(last..end, last + 6);
-    let a = emit(store, last, word::LIST + word::CHILD * n, 0);
-    let b = emit(store, a, word::ABSENT, 0);
-    emit(store, b, word::STMT_LIST, 0);
+    lead(&mut store[last..], end - last, n);
 }
 
 // Where the n trees start that end at `to`: each record that is passed is a tree less, and its children more.
