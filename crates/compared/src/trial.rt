@@ -1,7 +1,7 @@
 // A run of compared calls: where it prints what differs, and what it counts.
 ghost use Rattle.std.specs.Prelude.{◌≡◌, ◌↔◌, length, replicate, IsTrue, OnOk, Some};
 ghost use Rattle.compared.specs.Calls.{holds as holds_def, same_said};
-ghost use Rattle.compared.specs.Tally.{nothing, with_sheet, with_difference, with_part};
+ghost use Rattle.compared.specs.Tally.{nothing, sum_of, with_sheet, with_difference, with_part};
 ghost use Rattle.compared.specs.Trials.{place_text, Counts, Ends};
 
 use crate::answer::Said;
@@ -134,11 +134,18 @@ impl<'a, R: Host> Trial<'a, R> {
         Ok(())
     }
 
-    // The counts of all groups.
-    pub fn end(&self) -> io::Result<()> {
+    // The counts of all groups so far, the present one among them.
+    pub fn tally(&self) -> Tally
+        ensures { result ≡ sum_of self.now.total self.now.group }
+    {
         let mut all = self.total;
         all += self.group;
-        println!(self.rt; "all: {all}")
+        all
+    }
+
+    // The counts of all groups are printed.
+    pub fn end(&self) -> io::Result<()> {
+        println!(self.rt; "all: {}", self.tally())
     }
 }
 

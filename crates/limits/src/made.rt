@@ -1,5 +1,6 @@
 // What the limits are tried on: words laid down many times, readers with errors waiting and with a stop, and a sheet that stops.
-ghost use Rattle.std.specs.Prelude.{◌≡◌, IfOk};
+ghost use Rattle.std.specs.Prelude.{◌≡◌, ◌++◌, IfOk, OnOk};
+ghost use Rattle.std.specs.List.{repeat};
 ghost use Rattle.limits.specs.Laid.{laid};
 
 use compared::answer::{Case, Want, fresh_at};
@@ -20,14 +21,25 @@ pub struct Layers {
     pub end: &'static [u64],
 }
 
+// Words are laid down so many times behind others. One at a time, since a whole layer beside them would lie in memory twice.
+fn lay(words: &mut Vec<u64>, layer: &[u64], times: usize) -> Result<(), AllocError>
+    ensures { OnOk result (words.new.items ≡ words.old.items ++ repeat times layer.now) }
+{
+    for _ in 0..times {
+        words.extend_from_slice(layer)?;
+    }
+    Ok(())
+}
+
 impl Layers {
     // That there is memory for them is shown by the program's own run.
     pub fn words(self, alloc: Global, times: usize) -> Result<Vec<u64>, AllocError>
         ensures { IfOk result (λ v. v.items ≡ laid self times) }
     {
-        let mut words = self.before.repeat(alloc, times)?;
+        let mut words = Vec::new(alloc);
+        lay(&mut words, self.before, times)?;
         words.extend_from_slice(self.middle)?;
-        words.extend_from_slice(&self.behind.repeat(alloc, times)?)?;
+        lay(&mut words, self.behind, times)?;
         words.extend_from_slice(self.end)?;
         Ok(words)
     }

@@ -1,4 +1,4 @@
-// The input's lines: a letter, then numbers, with `=` behind some of them. A line `#` is a comment; what follows `>` is printed.
+// The input's lines, byte by byte: a letter, then numbers, with `=` behind some of them. A line `#` is a comment; what follows `>` is printed.
 ghost use Rattle.std.specs.Prelude.{◌≤◌, vec_len};
 
 use compared::answer::Case;
@@ -59,56 +59,50 @@ impl TryFrom<u8> for Letter {
     }
 }
 
-// The numbers of a line, and how many of them stand before `=`.
+// The numbers of a line, how many of them stand before `=`, and the number that is begun.
 #[derive(Drop)]
 pub(crate) struct Numbers {
     all: Vec<u64>,
     mark: usize,
+    begun: Option<u64>,
     ghost in_range: { mark ≤ vec_len all },
 }
 
 impl Numbers {
-    // Reads the bytes behind a line's letter. A number that `=` stands in is one that stands behind it.
-    pub(crate) fn read(alloc: Global, text: &[u8]) -> Result<Numbers, LineError> {
-        let mut numbers = Numbers {
+    fn new(alloc: Global) -> Numbers {
+        Numbers {
             all: Vec::new(alloc),
             mark: 0,
-        };
-        let mut begun = None;
-        for byte in text {
-            begun = numbers.byte_read(begun, *byte)?;
+            begun: None,
         }
-        numbers.end(begun)?;
-        Ok(numbers)
     }
 
-    // One byte more, and the number that is begun then.
-    fn byte_read(&mut self, begun: Option<u64>, byte: u8) -> Result<Option<u64>, LineError> {
+    // One byte more. A number that `=` stands in is one that stands behind it.
+    fn byte_read(&mut self, byte: u8) -> Result<(), LineError> {
         match byte {
-            b' ' => {
-                self.end(begun)?;
-                Ok(None)
-            }
+            b' ' => self.end(),
             b'=' => {
                 self.mark = self.all.len();
-                Ok(begun)
+                Ok(())
             }
             digit => {
-                let number = with_digit(begun.unwrap_or(0), digit);
-                Ok(Some(number.ok_or(LineError::Malformed)?))
+                let number = with_digit(self.begun.unwrap_or(0), digit);
+                self.begun = Some(number.ok_or(LineError::Malformed)?);
+                Ok(())
             }
         }
     }
 
     // A number that was begun is whole.
-    fn end(&mut self, begun: Option<u64>) -> Result<(), LineError> {
-        let Some(number) = begun else {
+    fn end(&mut self) -> Result<(), LineError> {
+        let Some(number) = self.begun else {
             return Ok(());
         };
         if NUMBERS <= self.all.len() {
             return Err(LineError::Malformed);
         }
         self.all.push(number)?;
+        self.begun = None;
         Ok(())
     }
 
@@ -119,6 +113,58 @@ impl Numbers {
     // The numbers before `=`, and those behind it.
     pub(crate) fn parts(&self) -> (&[u64], &[u64]) {
         self.all.split_at(self.mark)
+    }
+}
+
+// A line so far: its number from 1, its first byte, and its numbers, none once they are malformed. No more of it is kept, so that a line of any length is read.
+#[derive(Drop)]
+pub(crate) struct Line {
+    pub at: u64,
+    pub first: Option<u8>,
+    numbers: Option<Numbers>,
+}
+
+impl Line {
+    // Before the first byte of a line.
+    pub(crate) fn start(alloc: Global, at: u64) -> Line {
+        Line {
+            at,
+            first: None,
+            numbers: Some(Numbers::new(alloc)),
+        }
+    }
+
+    // One byte more, which ends no line. Bytes 0 in front of a line are passed over.
+    pub(crate) fn byte_read(&mut self, rt: &impl Print, byte: u8) -> io::Result<()> {
+        match self.first {
+            None => self.first = Some(byte).filter(|first| *first != 0),
+            Some(b'#') => {}
+            Some(b'>') => rt.write_all(&[byte])?,
+            Some(_) => self.number_byte(byte)?,
+        }
+        Ok(())
+    }
+
+    // A byte of the numbers.
+    fn number_byte(&mut self, byte: u8) -> io::Result<()> {
+        let Some(numbers) = &mut self.numbers else {
+            return Ok(());
+        };
+        match numbers.byte_read(byte) {
+            Ok(()) => Ok(()),
+            Err(LineError::Malformed) => {
+                self.numbers = None;
+                Ok(())
+            }
+            Err(LineError::Failed(error)) => Err(error),
+        }
+    }
+
+    // Its numbers, where the line is whole.
+    pub(crate) fn numbers(self) -> Result<Numbers, LineError> {
+        let mut numbers = self.numbers.ok_or(LineError::Malformed)?;
+        numbers.end()?;
+        Ok(numbers)
     }
 }
 

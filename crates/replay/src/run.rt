@@ -1,6 +1,6 @@
 // The sheets of the input and the answers that the published parser gave: a line `s` begins a sheet, each line after it expects an answer.
 // A line `w` or `n` expects what the writer makes of the tree before it, or of the records of a line `a`, and a line `l` what the check of labels answers of them.
-use crate::input::{Letter, LineError, Numbers};
+use crate::input::{Letter, Line, LineError, Numbers};
 use compared::answer::{Case, Want, fresh_at};
 use compared::call::Call;
 use compared::checking::Verdict;
@@ -37,9 +37,10 @@ impl<'a, R: Host> Run<'a, R> {
         }
     }
 
-    // A line by its number. One that can't be one counts as a difference.
-    pub(crate) fn line_read(&mut self, at: u64, text: &[u8]) -> io::Result<()> {
-        match self.text_read(at, text) {
+    // A whole line. One that can't be one counts as a difference.
+    pub(crate) fn line_read(&mut self, line: Line) -> io::Result<()> {
+        let at = line.at;
+        match self.first_read(line) {
             Ok(()) => Ok(()),
             Err(LineError::Malformed) => self.trial.malformed(at),
             Err(LineError::Failed(error)) => Err(error),
@@ -51,15 +52,16 @@ impl<'a, R: Host> Run<'a, R> {
         self.trial.end()
     }
 
-    // A line by its first byte.
-    fn text_read(&mut self, at: u64, text: &[u8]) -> Result<(), LineError> {
-        match text {
-            [] => Err(LineError::Malformed),
-            [b'#', ..] => Ok(()),
-            [b'>', name @ ..] => Ok(self.trial.end_group(name)?),
-            [letter, numbers @ ..] => {
-                let letter = Letter::try_from(*letter)?;
-                let numbers = Numbers::read(self.trial.alloc(), numbers)?;
+    // A line by its first byte. The name of a group that ends is printed already.
+    fn first_read(&mut self, line: Line) -> Result<(), LineError> {
+        match line.first {
+            None => Err(LineError::Malformed),
+            Some(b'#') => Ok(()),
+            Some(b'>') => Ok(self.trial.end_group("")?),
+            Some(first) => {
+                let at = line.at;
+                let letter = Letter::try_from(first)?;
+                let numbers = line.numbers()?;
                 Ok(self.numbers_read(at, letter, &numbers)?)
             }
         }

@@ -8,6 +8,7 @@ use borrow.Author.Tests.{eq-eqb, ne_eqb, ltb-true}
 use native.Mathlib.Omega.{arith}
 use lib.Dec.{eqb}
 use lib.ListN.{length, drop}
+use Rattle.std.proofs.Common.{Err}
 use Rattle.token.specs.Kind
 use Rattle.token.specs.Look.{value_fits}
 use Rattle.token.specs.declared.Token.{Token}
@@ -15,7 +16,7 @@ use Rattle.grammar.specs.Reading.Number
 use Rattle.grammar.specs.Reading.Result.{Res, ok, fail, stop, then, ifb, Error}
 use Rattle.grammar.specs.Reading.Look.{look, expect, try_label, keyword, try_assign_keyword}
 use Rattle.scan.specs.Parts.{action_number}
-use Rattle.scan.specs.Post.{Unread, Taken}
+use Rattle.scan.specs.Post.{Reads, Unread, Taken}
 use Rattle.scan.specs.declared.Action.{Action}
 use Rattle.scan.specs.declared.Action.TheVariants.{AssignLocal, AssignNonLocal, DeclImmutable, DeclMutable}
 use Rattle.scan.specs.declared.Halt.{Halt}
@@ -28,6 +29,10 @@ through k {h = Fail failure} e u =
     let l = u.how in
     record { how = record { same = λ q. e q ∙ rw (l.same q); on = l.on; within = l.within; far = l.far } }
 through k {h = Stop n} e u = record { how = λ q. e q ∙ rw (u.how q) }
+
+-- a function that reads answers an error or a stop by it
+pub unread : {A : Type 0} {d : List Error → Res A} {T : List ℕ} {pos least : ℕ} {h : Halt} → Unread d T pos least h → Reads d T pos least (Err h)
+unread u = record { how = u }
 
 -- a loop whose count is at least as long as the list looks, for with a count of 0 the list is empty; and it stops where the look does
 pub counted : {A : Type 0} (q : List Error) (ts : List ℕ) (loop : ℕ → Res A) (go : ℕ → Token → List Error → List ℕ → Res A) → loop 0 ≡ fail Number.end_of_tokens q ts → ((n : ℕ) → loop (suc n) ≡ then q (look q ts) (go n)) → (fuel : ℕ) → length ts ≤ fuel → loop fuel ≡ then q (look q ts) (go (fuel - 1))

@@ -51,8 +51,10 @@ impl Waiting {
         Waiting { errors, count }
     }
 
+    // How many wait: no more than there is room for.
     pub fn len(&self) -> usize
-        ensures { result ≡ length self.now }
+        ensures few { result ≤ queue_limit }
+        ensures count { result ≡ length self.now }
     {
         self.count
     }

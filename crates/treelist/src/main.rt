@@ -11,6 +11,7 @@ mod listing;
 
 ghost use Rattle.std.specs.Prelude.{◌≡◌, ◌*◌, ◌≤◌, length};
 ghost use Rattle.grammar.specs.Reading.Kept.{goes_on as goes_on_def};
+ghost use Rattle.treelist.specs.Input.{ASheet};
 ghost use Rattle.treelist.specs.Printing.{Holds};
 
 use crate::input::read_sheet;
@@ -73,7 +74,9 @@ fn print_answers(rt: &impl Print, tokens: &[u64], store: &mut [u64]) -> io::Resu
 }
 
 // Lists a sheet that was read to its end, or that a line of it is malformed.
-fn list(rt: &impl Print, sheet: Option<Tokens>) -> io::Result<()> {
+fn list(rt: &impl Print, sheet: Option<Tokens>) -> io::Result<()>
+    requires { ASheet sheet }
+{
     match sheet {
         Some(tokens) => {
             // Stays an array: on the heap the program would rest on three assumptions more about C's functions.

@@ -1,15 +1,18 @@
 -- `read_sheet`: the bytes of the reads, one after the other, come to what the sheet says. Assumes nothing.
 use Rattle.std.proofs.Common.{rules}
-use Rattle.treelist.proofs.Inputs.{begun, more, ended}
+use Rattle.treelist.proofs.Inputs.{begun, fed, over, ended}
 use Rattle.treelist.proofs.input.read_sheet.Goals as goal
 
 pub loop-init : goal.loop-init
 loop-init g c = begun _ _ c.new-sheet.ensures
 
-pub returns-then-came-eq0 : goal.returns-then-came-eq0
-returns-then-came-eq0 g c =
-    let (came, at_end) = c.in_ok-came.ensures.bytes in
-    ended _ _ _ _ _ _ c.loop.invariant came (rw c.if-came-eq0.true) (at_end c.if-came-eq0.true (search rules)) c.finish.ensures
+pub returns-then-not-goes_on : goal.returns-then-not-goes_on
+returns-then-not-goes_on g c =
+    let read = c.read-got.ensures in
+    let feeds = c.in_ok-goes_on.ensures in
+    ended _ _ _ _ (fed _ _ _ _ _ _ _ _ c.loop.invariant read.bound read.bytes feeds) (over _ _ _ _ _ _ (search rules) read.bytes (rw c.if-not-goes_on.true at feeds)) c.finish.ensures
 
 pub loop-preserved : goal.loop-preserved
-loop-preserved g c = more _ _ _ _ _ _ c.loop.invariant c.in_ok-came.ensures.bytes.0 c.read-in-loop.ensures
+loop-preserved g c =
+    let read = c.read-got.ensures in
+    fed _ _ _ _ _ _ _ _ c.loop.invariant read.bound read.bytes c.in_ok-goes_on.ensures
