@@ -21,7 +21,7 @@ pub struct Layers {
     pub end: &'static [u64],
 }
 
-// Words are laid down so many times behind others. One at a time, since a whole layer beside them would lie in memory twice.
+// Words are laid down so many times behind others. One at a time, since all of them beside the others would lie in memory twice.
 fn lay(words: &mut Vec<u64>, layer: &[u64], times: usize) -> Result<(), AllocError>
     ensures { OnOk result (words.new.items ≡ words.old.items ++ repeat times layer.now) }
 {

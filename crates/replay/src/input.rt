@@ -6,7 +6,7 @@ use std::alloc::{AllocFailed, Global};
 use std::io;
 
 // Numbers of a line, at most.
-// Stays a limit, though a line on the heap needs none: a longer line is printed as malformed.
+// Stays a limit, though numbers on the heap need none: a line with more is printed as malformed.
 const NUMBERS: usize = 8192;
 
 // What goes wrong with a line: it is malformed, or what it asks for fails.

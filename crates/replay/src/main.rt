@@ -17,6 +17,7 @@ fn replay<R: Host, I: Read + Drop>(rt: &R, input: I) -> io::Result<()> {
     let mut run = Run::new(rt);
     let mut line = Line::start(rt.alloc(), 1);
     let bytes = BufReader::new(rt.alloc(), input)?.bytes();
+    // A proved loop has to end: this one has more turns than any input has bytes.
     for (_, byte) in (0..u64::MAX).zip(bytes) {
         match byte? {
             b'\n' => {

@@ -27,7 +27,7 @@ pub begun : (old : Option (List ℕ)) (p : Progress) → p ≡ start → Reading
 unfolding read
 begun old p e = ([], Consumes-nil old, e)
 
-pub more : (old mid new : Option (List ℕ)) (p q : Progress) (bytes : List ℕ) → Reading old mid p → Consumes mid new bytes → q ≡ read p bytes → Reading old new q
+more : (old mid new : Option (List ℕ)) (p q : Progress) (bytes : List ℕ) → Reading old mid p → Consumes mid new bytes → q ≡ read p bytes → Reading old new q
 more old mid new p q bytes (so_far, c, e) d f =
     (so_far ++ bytes, Consumes-trans old mid new so_far bytes c d, f ∙ (ap (λ r. read r bytes) e ∙ sym (read_append start so_far bytes)))
 
@@ -38,6 +38,7 @@ fed old mid new p q got bytes goes_on r b c (n, is, m, e) =
     let came : Consumes mid new (take n bytes) × (n ≡ 0 → 0 < length bytes → IsAtEnd new) = rw is at c in
     more old mid new p q (take n bytes) r came.0 (e ∙ ap (λ (k : ℕ). read p (take k bytes)) (min-eq_left most.0))
 
+-- what is not above 0
 none : (n : ℕ) → false ≡ ltb 0 n → n ≡ 0
 none n e = let l = ltb-false 0 n (sym e) in omega arith
 
