@@ -1,7 +1,5 @@
 -- What the parts of a call count together. Assumes nothing.
-use Rattle.std.proofs.Common.{◌≡◌, ℕ, ◌≤◌, Bool, List, ◌++◌, length}
-use Rattle.std.proofs.Math.ListN.{take}
-use Rattle.std.proofs.Math.Seq.{take-append_seam}
+use Rattle.std.proofs.Common.{◌≡◌, ℕ, ◌≤◌, Bool, List}
 use borrow.Author.Tests.{le-ltb}
 use Rattle.std.specs.Prelude.{OnOk, Result}
 use Rattle.grammar.specs.Canonical.Writing.{Wrote, write_stmt}
@@ -15,18 +13,14 @@ use Rattle.compared.specs.declared.call.Call.{Call}
 use Rattle.compared.specs.declared.trial.Trial.{Trial}
 
 -- a call on a store that is lent: what its parts count
-pub counted : {R A E : Type 0} (call : Call) {room : ℕ} (want : Want) {r : Called} {n : ℕ} {got : Said} {reader store : Bool} {lent : List ℕ} (res : Result A E) (old new : Trial R) → room ≤ 8000 → n ≡ room
-    → r ≡ next_stmt call.reader call.tokens.now n → got ≡ said_of_answer r.step.answer → reader ≡ same_reader r.step.reader want.reader → store ≡ holds lent want.tree.now → lent ≡ r.store
+pub counted : {R A E : Type 0} (call : Call) {room : ℕ} (want : Want) {r : Called} {n : ℕ} {got : Said} {reader store : Bool} (res : Result A E) (old new : Trial R) → room ≤ 8000 → n ≡ room
+    → r ≡ next_stmt call.reader call.tokens.now n → got ≡ said_of_answer r.step.answer → reader ≡ same_reader r.step.reader want.reader → store ≡ holds r.store want.tree.now
     → OnOk res (Counts (with_parts (same_said got want.said) reader store) old new) → OnOk res (Counts (with_call call.reader call.tokens.now room (expects want)) old new)
-counted call {room} want res old new l n e f a b s h =
-    rw (le-ltb 8000 room l, ← n, ← e, ← s, ← b, ← a, ← f) h
+counted call {room} want res old new l n e f a b h =
+    rw (le-ltb 8000 room l, ← n, ← e, ← b, ← a, ← f) h
 
 -- the same of the writer
-pub outputs : {R A E : Type 0} (records : List ℕ) {most room n : ℕ} (want : Said) {got : Said} (text : List ℕ) {w : Wrote} {output : Bool} {lent : List ℕ} (res : Result A E) (old new : Trial R) → room ≤ most → n ≡ room
-    → w ≡ write_stmt records n → got ≡ said_of_written w.answer → output ≡ holds lent text → lent ≡ w.output
+pub outputs : {R A E : Type 0} (records : List ℕ) {most room n : ℕ} (want : Said) {got : Said} (text : List ℕ) {w : Wrote} {output : Bool} (res : Result A E) (old new : Trial R) → room ≤ most → n ≡ room
+    → w ≡ write_stmt records n → got ≡ said_of_written w.answer → output ≡ holds w.output text
     → OnOk res (Counts (with_outputs (same_said got want) output) old new) → OnOk res (Counts (with_output records most room want text) old new)
-outputs records {most} {room} want text res old new l n e f b s h = rw (le-ltb most room l, ← n, ← e, ← s, ← b, ← f) h
-
--- a store that was lent whole is what the borrower left
-pub lent_again : {n : ℕ} (left behind : List ℕ) → length left ≡ n → take n (left ++ behind) ≡ left
-lent_again left behind e = rw (← e) (take-append_seam left behind)
+outputs records {most} {room} want text res old new l n e f b h = rw (le-ltb most room l, ← n, ← e, ← b, ← f) h

@@ -6,7 +6,7 @@ ghost use Rattle.compared.specs.Trials.{Counts};
 
 use crate::answer::{Case, Said, Want, fresh_at};
 use crate::tally::count_one;
-use crate::trial::{Host, Outcome, Place, RUBBISH, Trial, holds};
+use crate::trial::{Outcome, Place, RUBBISH, Trial, holds};
 use grammar::Reader;
 use parser::next_stmt;
 use std::io;
@@ -15,7 +15,6 @@ use std::io;
 const SHARE: usize = 16;
 
 // Words of the longest store that is lent: that of 500 tokens.
-// Stays a limit, though a store on the heap needs none: a call that asks for more is printed as a difference.
 const ROOM: usize = 8000;
 
 // Tokens of a sheet, at most.
@@ -51,7 +50,7 @@ impl<'a> Call<'a> {
     }
 }
 
-impl<R: Host> Trial<'_, R> {
+impl<R: Print> Trial<'_, R> {
     // A call on a store of so many words, compared. A store longer than there is room for counts as a difference.
     pub fn called(&mut self, call: Call, room: usize, want: Want) -> io::Result<()>
         ensures { OnOk result (Counts (with_call call.entry.reader call.entry.tokens.now room (expects want.entry)) self.old self.new) }
@@ -59,15 +58,16 @@ impl<R: Host> Trial<'_, R> {
         if ROOM < room {
             return self.no_room(call.place);
         }
-        let mut store = vec![in self.alloc(); RUBBISH; room]?;
-        let step = next_stmt(call.reader, call.tokens, &mut store);
+        let mut longest = [RUBBISH; ROOM];
+        let store = &mut longest[..room];
+        let step = next_stmt(call.reader, call.tokens, store);
         let outcome = Outcome {
             place: call.place,
             said: Said::from(step.answer),
             want: want.said,
         };
         let reader = step.reader == want.reader;
-        self.parts(outcome, reader, holds(&store, want.tree))
+        self.parts(outcome, reader, holds(store, want.tree))
     }
 
     // One call more is compared, by its parts: its answer, its reader, its store.

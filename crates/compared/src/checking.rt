@@ -7,7 +7,7 @@ ghost use Rattle.compared.specs.Trials.{Counts};
 
 use crate::answer::{Case, Said};
 use crate::tally::count_one;
-use crate::trial::{Host, Outcome, Place, Trial};
+use crate::trial::{Outcome, Place, Trial};
 use labels::{FlatLabels, check_labels};
 use std::io;
 
@@ -56,7 +56,7 @@ impl From<FlatLabels> for Verdict {
     }
 }
 
-impl<R: Host> Trial<'_, R> {
+impl<R: Print> Trial<'_, R> {
     // Records get this answer.
     pub fn is_checked(&mut self, place: Place, records: &[u64], want: Verdict) -> io::Result<()>
         ensures { OnOk result (Counts (with_verdict (verdict_of (flat_labels (check_labels_def records.now))) want) self.old self.new) }

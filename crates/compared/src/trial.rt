@@ -6,17 +6,11 @@ ghost use Rattle.compared.specs.Trials.{place_text, Counts, Ends};
 
 use crate::answer::Said;
 use crate::tally::{Tally, count_one};
-use std::alloc::Global;
 use std::convert::AsSlice;
 use std::{fmt, io};
 
 // What a store or an output holds before a call: rubbish, so that a word that the call leaves as it was is seen.
 pub(crate) const RUBBISH: u64 = 11400714819323198485;
-
-// What a trial asks of the runtime: to print, and memory.
-pub trait Host: Print + AllocGlobal {}
-
-impl<R: Print + AllocGlobal> Host for R {}
 
 // Where a call stands: the name of what is tried, and a number.
 #[derive(Clone, Copy)]
@@ -66,7 +60,7 @@ pub struct Trial<'a, R> {
     total: Tally,
 }
 
-impl<'a, R: Host> Trial<'a, R> {
+impl<'a, R: Print> Trial<'a, R> {
     pub fn new(rt: &'a R) -> Trial<'a, R>
         ensures group { result.group ≡ nothing }
         ensures total { result.total ≡ nothing }
@@ -76,10 +70,6 @@ impl<'a, R: Host> Trial<'a, R> {
             group: Tally::default(),
             total: Tally::default(),
         }
-    }
-
-    pub fn alloc(&self) -> Global {
-        self.rt.alloc()
     }
 
     // One sheet more is begun.

@@ -1,54 +1,50 @@
 // A call of the writer held to what is expected of it: the answer, and every word of the output.
-ghost use Rattle.std.specs.Prelude.{◌≡◌, OnOk};
+ghost use Rattle.std.specs.Prelude.{◌≡◌, length, OnOk};
 ghost use Rattle.compared.specs.Calls.{same_said, with_outputs, with_output, with_written, with_not_written};
 ghost use Rattle.compared.specs.Trials.{Counts};
 
 use crate::answer::{Case, Said};
 use crate::tally::count_one;
-use crate::trial::{Host, Outcome, Place, RUBBISH, Trial, holds};
+use crate::trial::{Outcome, Place, RUBBISH, Trial, holds};
 use std::io;
 use writer::write_stmt;
 
-// A call of the writer on a tree's records, and the words of the longest output that is lent.
+// A call of the writer on a tree's records.
 #[derive(Clone, Copy)]
 pub struct Writing<'a> {
     pub place: Place<'a>,
     pub records: &'a [u64],
-    pub room: usize,
 }
 
 impl<'a> Writing<'a> {
-    pub fn new(place: Place<'a>, records: &'a [u64], room: usize) -> Writing<'a>
+    pub fn new(place: Place<'a>, records: &'a [u64]) -> Writing<'a>
         ensures place { result.place ≡ place.entry }
         ensures records { result.records.now ≡ records.now }
-        ensures room { result.room ≡ room }
     {
-        Writing {
-            place,
-            records,
-            room,
-        }
+        Writing { place, records }
     }
 }
 
-impl<R: Host> Trial<'_, R> {
-    // A call on an output of so many words, compared. An output longer than there is room for counts as a difference.
+impl<R: Print> Trial<'_, R> {
+    // A call on so many of the lent words, compared. An output longer than those counts as a difference.
     fn on_output(
         &mut self,
         writing: Writing,
-        length: usize,
+        longest: &mut [u64],
+        room: usize,
         want: Said,
         text: &[u64],
     ) -> io::Result<()>
-        ensures { OnOk result (Counts (with_output writing.entry.records.now writing.entry.room length want text.now) self.old self.new) }
+        ensures { OnOk result (Counts (with_output writing.entry.records.now (length longest.old) room want text.now) self.old self.new) }
     {
         let place = writing.place;
-        if writing.room < length {
+        if longest.len() < room {
             return self.no_room(place);
         }
-        let mut output = vec![in self.alloc(); RUBBISH; length]?;
-        let said = Said::from(write_stmt(writing.records, &mut output));
-        self.outputs(Outcome { place, said, want }, holds(&output, text))
+        let output = &mut longest[..room];
+        output.fill(RUBBISH);
+        let said = Said::from(write_stmt(writing.records, output));
+        self.outputs(Outcome { place, said, want }, holds(output, text))
     }
 
     // One call more is compared, by its parts: its answer, its output.
@@ -61,23 +57,39 @@ impl<R: Host> Trial<'_, R> {
     }
 
     // A text is written: to an output that is exactly long enough, to the longest one, not to one that is one word short, which is zero then.
-    pub fn is_written(&mut self, writing: Writing, text: &[u64]) -> io::Result<()>
-        ensures { OnOk result (Counts (with_written writing.entry.records.now writing.entry.room text.now) self.old self.new) }
+    pub fn is_written(
+        &mut self,
+        writing: Writing,
+        longest: &mut [u64],
+        text: &[u64],
+    ) -> io::Result<()>
+        ensures { OnOk result (Counts (with_written writing.entry.records.now (length longest.old) text.now) self.old self.new) }
     {
-        let length = text.len();
-        let want = Said::new(Case::Text, (length / 2) as u64);
-        self.on_output(writing, length, want, text)?;
-        self.on_output(writing, writing.room, want, text)?;
-        match length.checked_sub(1) {
+        let (full, words) = (longest.len(), text.len());
+        let want = Said::new(Case::Text, (words / 2) as u64);
+        self.on_output(writing, longest, words, want, text)?;
+        self.on_output(writing, longest, full, want, text)?;
+        match words.checked_sub(1) {
             // Stays 66, the paper's number, and 62 below: what tries a refusal or a stop takes none of the code's constants.
-            Some(short) => self.on_output(writing, short, Said::new(Case::Refused, 66), &[]),
+            Some(short) => self.on_output(
+                writing,
+                longest,
+                short,
+                Said::new(Case::Refused, 66),
+                &[],
+            ),
             None => Ok(()),
         }
     }
 
     // Nothing is written, for this reason: to the longest output, nor to an empty one.
-    pub fn is_not_written(&mut self, writing: Writing, number: u64) -> io::Result<()>
-        ensures { OnOk result (Counts (with_not_written writing.entry.records.now writing.entry.room number) self.old self.new) }
+    pub fn is_not_written(
+        &mut self,
+        writing: Writing,
+        longest: &mut [u64],
+        number: u64,
+    ) -> io::Result<()>
+        ensures { OnOk result (Counts (with_not_written writing.entry.records.now (length longest.old) number) self.old self.new) }
     {
         let case = if number == 62 {
             Case::Stopped
@@ -85,7 +97,8 @@ impl<R: Host> Trial<'_, R> {
             Case::Refused
         };
         let want = Said::new(case, number);
-        self.on_output(writing, writing.room, want, &[])?;
-        self.on_output(writing, 0, want, &[])
+        let full = longest.len();
+        self.on_output(writing, longest, full, want, &[])?;
+        self.on_output(writing, longest, 0, want, &[])
     }
 }

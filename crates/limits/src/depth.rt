@@ -1,7 +1,7 @@
 // The depth: 37 begun and unfinished are read and written, a 38th stops reader and writer, by operands, by right sides and by statement
 // lists. The numbers are document 02's, and not made of the limit in the code.
-use crate::made::{Layers, SIGNS_TREE, stops};
-use compared::trial::{Host, Place, Trial};
+use crate::made::{Layers, SIGNS_TREE, Words, both, stops};
+use compared::trial::{Place, Trial};
 use compared::writing::Writing;
 use std::io;
 use token::kind;
@@ -83,7 +83,7 @@ const LISTS: Nest = Nest {
 };
 
 // A tree that is as deep as may be: its tokens are read to it, and it is written as them.
-fn both_ways<R: Host>(
+fn both_ways<R: Print>(
     trial: &mut Trial<R>,
     place: Place,
     tokens: &[u64],
@@ -91,35 +91,31 @@ fn both_ways<R: Host>(
 ) -> io::Result<()> {
     trial.begin_sheet();
     trial.read_whole(place, tokens, tree)?;
-    let writing = Writing::new(place, tree, ROOM);
-    trial.is_written(writing, tokens)
+    trial.is_written(Writing::new(place, tree), &mut [0; ROOM], tokens)
 }
 
 // One deeper: neither read nor written.
-fn neither_way<R: Host>(
+fn neither_way<R: Print>(
     trial: &mut Trial<R>,
     place: Place,
     tokens: &[u64],
     tree: &[u64],
 ) -> io::Result<()> {
     stops(trial, place, tokens, 62)?;
-    let writing = Writing::new(place, tree, ROOM);
-    trial.is_not_written(writing, 62)
+    trial.is_not_written(Writing::new(place, tree), &mut [0; ROOM], 62)
 }
 
 // What is begun 37 times, and 38 times: one of them in the middle.
-fn tried<R: Host>(trial: &mut Trial<R>, nest: Nest) -> io::Result<()> {
-    let sheet = nest.sheet.words(trial.alloc(), 36)?;
-    let tree = nest.tree.words(trial.alloc(), 36)?;
-    both_ways(trial, Place::new(nest.name, 37), &sheet, &tree)?;
-    let sheet = nest.sheet.words(trial.alloc(), 37)?;
-    let tree = nest.tree.words(trial.alloc(), 37)?;
-    neither_way(trial, Place::new(nest.name, 38), &sheet, &tree)
+fn tried<R: Print>(trial: &mut Trial<R>, words: &mut Words, nest: Nest) -> io::Result<()> {
+    let (sheet, tree) = both(words, nest.sheet, nest.tree, 36)?;
+    both_ways(trial, Place::new(nest.name, 37), sheet, tree)?;
+    let (sheet, tree) = both(words, nest.sheet, nest.tree, 37)?;
+    neither_way(trial, Place::new(nest.name, 38), sheet, tree)
 }
 
-pub fn depths<R: Host>(trial: &mut Trial<R>) -> io::Result<()> {
+pub fn depths<R: Print>(trial: &mut Trial<R>, words: &mut Words) -> io::Result<()> {
     for nest in [OPERANDS, RIGHT_SIDES, LISTS] {
-        tried(trial, nest)?;
+        tried(trial, words, nest)?;
     }
     Ok(())
 }

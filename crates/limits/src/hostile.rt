@@ -1,8 +1,8 @@
 // Records of a size that no input of this program has: a sum of 30,000 terms, 200,000 signs one in the other, 50,000 loops.
-use crate::made::{Layers, SIGNS_TREE};
+use crate::made::{Layers, SIGNS_TREE, Words, both, put};
 use crate::nested::nests;
 use compared::checking::{FINE, Verdict};
-use compared::trial::{Host, Place, Trial};
+use compared::trial::{Place, Trial};
 use compared::writing::Writing;
 use std::io;
 use token::kind;
@@ -34,56 +34,74 @@ const SUM_TEXT: Layers = Layers {
 };
 
 // A sum is one statement however long it is.
-fn long_sum<R: Host>(trial: &mut Trial<R>) -> io::Result<()> {
-    let tree = SUM_TREE.words(trial.alloc(), 29999)?;
-    let text = SUM_TEXT.words(trial.alloc(), 29999)?;
+fn long_sum<R: Print>(
+    trial: &mut Trial<R>,
+    words: &mut Words,
+    output: &mut [u64],
+) -> io::Result<()> {
+    let (tree, text) = both(words, SUM_TREE, SUM_TEXT, 29999)?;
     let place = Place::new("terms of a sum", 30000);
-    let writing = Writing::new(place, &tree, ROOM);
-    trial.is_written(writing, &text)?;
-    trial.is_checked(place, &tree, FINE)
+    trial.is_written(Writing::new(place, tree), output, text)?;
+    trial.is_checked(place, tree, FINE)
 }
 
 // Damaged signs, by number: no clean reading gives them.
-fn no_tree<R: Host>(trial: &mut Trial<R>, which: u64, records: &[u64]) -> io::Result<()> {
+fn no_tree<R: Print>(
+    trial: &mut Trial<R>,
+    which: u64,
+    records: &[u64],
+    output: &mut [u64],
+) -> io::Result<()> {
     let place = Place::new("damaged signs", which);
-    let writing = Writing::new(place, records, ROOM);
     // Stays 65, the paper's number, and 62 below: what tries a refusal or a stop takes none of the code's constants.
-    trial.is_not_written(writing, 65)?;
+    trial.is_not_written(Writing::new(place, records), output, 65)?;
     trial.is_checked(place, records, Verdict::new(65, 0))
 }
 
 // Signs beyond the depth are too deep for the writer, and not for the check. Without their operand, or from the middle of a record on, they are no tree.
-fn too_many<R: Host>(trial: &mut Trial<R>, tree: &[u64], times: u64) -> io::Result<()> {
+fn too_many<R: Print>(
+    trial: &mut Trial<R>,
+    tree: &[u64],
+    output: &mut [u64],
+    times: u64,
+) -> io::Result<()> {
     let place = Place::new("signs", times);
-    let writing = Writing::new(place, tree, ROOM);
-    trial.is_not_written(writing, 62)?;
+    trial.is_not_written(Writing::new(place, tree), output, 62)?;
     trial.is_checked(place, tree, FINE)?;
     for (which, from) in [(1, 2), (2, 1)] {
-        no_tree(trial, which, tree.get(from..).unwrap_or(tree))?;
+        no_tree(trial, which, tree.get(from..).unwrap_or(tree), output)?;
     }
     Ok(())
 }
 
 // So many signs before a name, as they are and damaged: nor are they one with another tree behind them, or with a number, at the word in the middle, that is no
 // operator's.
-fn many_signs<R: Host>(trial: &mut Trial<R>, times: u64, middle: usize) -> io::Result<()> {
-    let mut tree = SIGNS_TREE.words(trial.alloc(), times as usize)?;
-    too_many(trial, &tree, times)?;
+fn many_signs<R: Print>(
+    trial: &mut Trial<R>,
+    tree: &mut Words,
+    output: &mut [u64],
+    times: u64,
+    middle: usize,
+) -> io::Result<()> {
+    tree.clear();
+    SIGNS_TREE.words(tree, times as usize)?;
+    too_many(trial, tree, output, times)?;
     let length = tree.len();
-    tree.extend_from_slice(&[word::IDENTIFIER, 7])?;
-    no_tree(trial, 3, &tree)?;
+    put(tree, &[word::IDENTIFIER, 7])?;
+    no_tree(trial, 3, tree, output)?;
     tree.truncate(length);
     if let Some(number) = tree.get_mut(middle) {
         *number = NO_OPERATOR;
     }
-    no_tree(trial, 4, &tree)
+    no_tree(trial, 4, tree, output)
 }
 
 // The signs' records and a tree behind them take 400,006 words.
-pub fn records<R: Host>(trial: &mut Trial<R>) -> io::Result<()> {
-    long_sum(trial)?;
+pub fn records<R: Print>(trial: &mut Trial<R>, words: &mut Words) -> io::Result<()> {
+    let mut output = [0; ROOM];
+    long_sum(trial, words, &mut output)?;
     for (times, middle) in [(37, 39), (200000, 200003)] {
-        many_signs(trial, times, middle)?;
+        many_signs(trial, words, &mut output, times, middle)?;
     }
-    nests(trial)
+    nests(trial, words)
 }

@@ -1,12 +1,13 @@
-// The records of loops one in the other, and of a break or continue, a jump, in or beside them. Each contract holds where memory sufficed; where
-// it runs out, some of the records may be missing. That it doesn't is shown by the program's own run.
+// The records of loops one in the other, and of a break or continue, a jump, in or beside them. Each contract holds where there was room; where
+// there isn't, some of the records may be missing. That there is shows in the program's own run.
 ghost use Rattle.std.specs.Prelude.{◌≡◌, ◌+◌, ◌*◌, ◌-◌, ◌≤◌, [], ◌∷◌, ◌++◌, OnOk};
 ghost use Rattle.tree.specs.Tree.{records};
 ghost use Rattle.tree.specs.Node.{expression};
 ghost use Rattle.limits.specs.declared.jumps.Form.TheVariants.{Among, Condition};
 ghost use Rattle.limits.specs.Nests.{record_number, parts, if_continue, jump_in, innermost, loop_ends, nest, function, before, behind};
 
-use std::alloc::{AllocError, Global};
+use crate::made::{Words, put};
+use std::io;
 use std::marker::Model;
 use tree::word;
 
@@ -60,43 +61,42 @@ pub struct Jump {
     pub label: u64,
 }
 
-// Records, laid down one behind the other.
+// Records, laid down one behind the other in words that are lent.
 #[derive(Drop)]
-pub struct Records {
-    words: Vec<u64>,
+pub struct Records<'a> {
+    words: &'a mut Words,
 }
 
-impl Model for Records {
+impl<'a> Model for Records<'a> {
     ghost use Rattle.std.specs.Prelude.{List, ℕ};
 
     ghost Value = { List ℕ };
 
-    ghost view = { λ r. r.words.items };
+    ghost view = { λ r. r.words.now.items };
 }
 
-impl Records {
-    pub(crate) fn new(alloc: Global) -> Records
+impl<'a> Records<'a> {
+    pub(crate) fn new(words: &'a mut Words) -> Records<'a>
         ensures { result ≡ [] }
     {
-        Records {
-            words: Vec::new(alloc),
-        }
+        words.clear();
+        Records { words }
     }
 
     pub(crate) fn words(&self) -> &[u64]
         ensures { result.now ≡ self.now }
     {
-        &self.words
+        self.words
     }
 
-    fn put(&mut self, words: &[u64]) -> Result<(), AllocError>
+    fn put(&mut self, words: &[u64]) -> io::Result<()>
         ensures { OnOk result (self.new ≡ self.old ++ words.now) }
     {
-        self.words.extend_from_slice(words)
+        put(self.words, words)
     }
 
     // A list of so many statements, and no control.
-    fn put_list(&mut self, statements: u64) -> Result<(), AllocError>
+    fn put_list(&mut self, statements: u64) -> io::Result<()>
         requires { statements ≤ 3 }
         ensures { OnOk result (self.new ≡ self.old ++ (1 + 256 * statements) ∷ 0 ∷ 0 ∷ 0 ∷ []) }
     {
@@ -104,7 +104,7 @@ impl Records {
     }
 
     // The expression `if a then continue LABEL end`.
-    fn put_if(&mut self, label: u64) -> Result<(), AllocError>
+    fn put_if(&mut self, label: u64) -> io::Result<()>
         ensures { OnOk result (self.new ≡ self.old ++ records (if_continue label)) }
     {
         self.put(&[word::IDENTIFIER, 7, word::LIST, 0, word::CONTINUE, label])?;
@@ -112,7 +112,7 @@ impl Records {
     }
 
     // The same as a statement.
-    fn put_statement(&mut self, label: u64) -> Result<(), AllocError>
+    fn put_statement(&mut self, label: u64) -> io::Result<()>
         ensures { OnOk result (self.new ≡ self.old ++ records (expression (if_continue label))) }
     {
         self.put_if(label)?;
@@ -120,7 +120,7 @@ impl Records {
     }
 
     // A list of `a`, such a statement and `a`, and no control.
-    fn put_among(&mut self, label: u64) -> Result<(), AllocError>
+    fn put_among(&mut self, label: u64) -> io::Result<()>
         ensures { OnOk result (self.new ≡ self.old ++ parts (jump_in Among label)) }
     {
         let name = [word::IDENTIFIER, 7, word::EXPRESSION, 0];
@@ -131,7 +131,7 @@ impl Records {
     }
 
     // A list of a while with the other label and such an if as its condition, and no control.
-    fn put_condition(&mut self, label: u64) -> Result<(), AllocError>
+    fn put_condition(&mut self, label: u64) -> io::Result<()>
         ensures { OnOk result (self.new ≡ self.old ++ parts (jump_in Condition label)) }
     {
         self.put_if(label)?;
@@ -141,7 +141,7 @@ impl Records {
     }
 
     // A list of statements and its control, with this jump.
-    fn put_jump(&mut self, jump: Jump) -> Result<(), AllocError>
+    fn put_jump(&mut self, jump: Jump) -> io::Result<()>
         ensures { OnOk result (self.new ≡ self.old ++ parts (jump_in jump.form jump.label)) }
     {
         let label = jump.label;
@@ -154,14 +154,14 @@ impl Records {
     }
 
     // The end of a loop behind its list and control.
-    pub(crate) fn put_loop(&mut self, label: u64) -> Result<(), AllocError>
+    pub(crate) fn put_loop(&mut self, label: u64) -> io::Result<()>
         ensures { OnOk result (self.new ≡ self.old ++ 519 ∷ 0 ∷ 259 ∷ label ∷ []) }
     {
         self.put(&[word::STMT_LIST, 0, word::LOOP, label])
     }
 
     // The ends of so many loops but the outermost, and behind each the list and control that it stands in.
-    pub(crate) fn put_loops(&mut self, times: u64) -> Result<(), AllocError>
+    pub(crate) fn put_loops(&mut self, times: u64) -> io::Result<()>
         ensures { OnOk result (self.new ≡ self.old ++ loop_ends (times - 1)) }
     {
         for label in 1..times {
@@ -172,7 +172,7 @@ impl Records {
     }
 
     // The list and control in the innermost loop, with a jump or none.
-    fn put_innermost(&mut self, jump: Option<Jump>) -> Result<(), AllocError>
+    fn put_innermost(&mut self, jump: Option<Jump>) -> io::Result<()>
         ensures { OnOk result (self.new ≡ self.old ++ parts (innermost jump)) }
     {
         match jump {
@@ -182,7 +182,7 @@ impl Records {
     }
 
     // So many loops, with a jump in them or none.
-    pub(crate) fn put_nest(&mut self, jump: Option<Jump>, times: u64) -> Result<(), AllocError>
+    pub(crate) fn put_nest(&mut self, jump: Option<Jump>, times: u64) -> io::Result<()>
         ensures { OnOk result (self.new ≡ self.old ++ records (nest times (innermost jump))) }
     {
         self.put_innermost(jump)?;
@@ -191,7 +191,7 @@ impl Records {
     }
 
     // A jump in a function, with so many loops but the outermost between them, and the list and control that the function stands in.
-    pub(crate) fn put_function(&mut self, jump: Jump, inside: u64) -> Result<(), AllocError>
+    pub(crate) fn put_function(&mut self, jump: Jump, inside: u64) -> io::Result<()>
         ensures { OnOk result (self.new ≡ self.old ++ parts (function jump.form jump.label inside)) }
     {
         self.put(&SIGNATURE)?;
@@ -201,7 +201,7 @@ impl Records {
     }
 
     // A loop without a label, in which an if with a continue stands before so many loops.
-    pub(crate) fn put_before(&mut self, label: u64, times: u64) -> Result<(), AllocError>
+    pub(crate) fn put_before(&mut self, label: u64, times: u64) -> io::Result<()>
         ensures { OnOk result (self.new ≡ self.old ++ records (before label times)) }
     {
         self.put_statement(label)?;
@@ -211,7 +211,7 @@ impl Records {
     }
 
     // A loop without a label, in which a continue stands in so many loops, and one to the same label behind them.
-    pub(crate) fn put_behind(&mut self, label: u64, times: u64) -> Result<(), AllocError>
+    pub(crate) fn put_behind(&mut self, label: u64, times: u64) -> io::Result<()>
         ensures { OnOk result (self.new ≡ self.old ++ records (behind label times)) }
     {
         let jump = Jump {

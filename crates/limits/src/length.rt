@@ -1,9 +1,9 @@
 // The token length: 65,536 tokens are read, 65,537 and an odd length are not. A store for the whole of such a sheet would be 8 MiB,
 // so a reader near the sheet's end reads it; of a reader at its start a store that is too short shows that the length was passed.
-use crate::made::{stopped_at, waiting_at};
+use crate::made::{Words, lay, put, stopped_at, waiting_at};
 use compared::answer::{Case, Want, fresh_at};
 use compared::call::Call;
-use compared::trial::{Host, Place, Trial};
+use compared::trial::{Place, Trial};
 use std::io;
 use token::kind;
 
@@ -11,7 +11,7 @@ use token::kind;
 const MOST: usize = 65536;
 
 // A sheet of semicolons, from its start: a short store is refused.
-fn from_start<R: Host>(trial: &mut Trial<R>, tokens: &[u64]) -> io::Result<()> {
+fn from_start<R: Print>(trial: &mut Trial<R>, tokens: &[u64]) -> io::Result<()> {
     let reader = fresh_at(0);
     let call = Call::new(
         Place::new("from the start, words", tokens.len() as u64),
@@ -24,7 +24,7 @@ fn from_start<R: Host>(trial: &mut Trial<R>, tokens: &[u64]) -> io::Result<()> {
 }
 
 // The same sheet from its last tokens on: the semicolons are passed, and the end stands at the sheet's end.
-fn from_near_end<R: Host>(trial: &mut Trial<R>, left: usize, tokens: &[u64]) -> io::Result<()> {
+fn from_near_end<R: Print>(trial: &mut Trial<R>, left: usize, tokens: &[u64]) -> io::Result<()> {
     let call = Call::new(
         Place::new("tokens left", left as u64),
         fresh_at(MOST.saturating_sub(left)),
@@ -35,7 +35,7 @@ fn from_near_end<R: Host>(trial: &mut Trial<R>, left: usize, tokens: &[u64]) -> 
 }
 
 // A sheet of a length that can't be read: it stops, at the reader's old position and with an empty queue, whatever the reader is.
-fn not_read<R: Host>(trial: &mut Trial<R>, position: usize, tokens: &[u64]) -> io::Result<()> {
+fn not_read<R: Print>(trial: &mut Trial<R>, position: usize, tokens: &[u64]) -> io::Result<()> {
     let place = Place::new("not read, words", tokens.len() as u64);
     let want = Want::answer(Case::Stopped, 60, stopped_at(position, 60));
     let full = waiting_at(position, 47, 96);
@@ -48,7 +48,7 @@ fn not_read<R: Host>(trial: &mut Trial<R>, position: usize, tokens: &[u64]) -> i
 }
 
 // A sheet of 65,536 semicolons.
-fn longest<R: Host>(trial: &mut Trial<R>, whole: &[u64]) -> io::Result<()> {
+fn longest<R: Print>(trial: &mut Trial<R>, whole: &[u64]) -> io::Result<()> {
     trial.begin_sheet();
     from_start(trial, whole)?;
     for left in [0, 1, 500] {
@@ -58,7 +58,7 @@ fn longest<R: Host>(trial: &mut Trial<R>, whole: &[u64]) -> io::Result<()> {
 }
 
 // Sheets that are a token too long, and of odd lengths.
-fn too_long<R: Host>(trial: &mut Trial<R>, sheet: &[u64]) -> io::Result<()> {
+fn too_long<R: Print>(trial: &mut Trial<R>, sheet: &[u64]) -> io::Result<()> {
     trial.begin_sheet();
     not_read(trial, 0, sheet)?;
     not_read(trial, 65530, sheet)?;
@@ -69,8 +69,11 @@ fn too_long<R: Host>(trial: &mut Trial<R>, sheet: &[u64]) -> io::Result<()> {
     Ok(())
 }
 
-pub fn lengths<R: Host>(trial: &mut Trial<R>) -> io::Result<()> {
+pub fn lengths<R: Print>(trial: &mut Trial<R>, words: &mut Words) -> io::Result<()> {
     let semicolon = [kind::SEMICOLON, 0];
-    longest(trial, &semicolon.repeat(trial.alloc(), 65536)?)?;
-    too_long(trial, &semicolon.repeat(trial.alloc(), 65537)?)
+    words.clear();
+    lay(words, &semicolon, 65536)?;
+    longest(trial, words)?;
+    put(words, &semicolon)?;
+    too_long(trial, words)
 }

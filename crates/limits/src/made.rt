@@ -3,12 +3,12 @@ ghost use Rattle.std.specs.Prelude.{◌≡◌, ◌++◌, IfOk, OnOk};
 ghost use Rattle.std.specs.List.{repeat};
 ghost use Rattle.limits.specs.Laid.{laid};
 
+use arrayvec::ArrayVec;
 use compared::answer::{Case, Want, fresh_at};
 use compared::call::Call;
-use compared::trial::{Host, Place, Trial};
+use compared::trial::{Place, Trial};
 use grammar::Reader;
 use grammar::limit::QUEUE;
-use std::alloc::{AllocError, Global};
 use std::io;
 use tree::word;
 
@@ -21,28 +21,55 @@ pub struct Layers {
     pub end: &'static [u64],
 }
 
-// Words are laid down so many times behind others. One at a time, since all of them beside the others would lie in memory twice.
-fn lay(words: &mut Vec<u64>, layer: &[u64], times: usize) -> Result<(), AllocError>
+// Words, as many as the longest records have: those of 200,000 signs and of a tree behind them.
+pub type Words = ArrayVec<u64, 400006>;
+
+// Words are laid down behind others. That there is room for them is shown by the program's own run.
+pub(crate) fn put(words: &mut Words, more: &[u64]) -> io::Result<()>
+    ensures { OnOk result (words.new.items ≡ words.old.items ++ more.now) }
+{
+    match words.try_extend_from_slice(more) {
+        Ok(()) => Ok(()),
+        Err(_) => Err(io::Error::from(io::ErrorKind::StorageFull)),
+    }
+}
+
+// And so many times.
+pub(crate) fn lay(words: &mut Words, layer: &[u64], times: usize) -> io::Result<()>
     ensures { OnOk result (words.new.items ≡ words.old.items ++ repeat times layer.now) }
 {
     for _ in 0..times {
-        words.extend_from_slice(layer)?;
+        put(words, layer)?;
     }
     Ok(())
 }
 
 impl Layers {
-    // That there is memory for them is shown by the program's own run.
-    pub fn words(self, alloc: Global, times: usize) -> Result<Vec<u64>, AllocError>
-        ensures { IfOk result (λ v. v.items ≡ laid self times) }
+    // Laid down behind others.
+    pub fn words(self, words: &mut Words, times: usize) -> io::Result<()>
+        ensures { OnOk result (words.new.items ≡ words.old.items ++ laid self times) }
     {
-        let mut words = Vec::new(alloc);
-        lay(&mut words, self.before, times)?;
-        words.extend_from_slice(self.middle)?;
-        lay(&mut words, self.behind, times)?;
-        words.extend_from_slice(self.end)?;
-        Ok(words)
+        lay(words, self.before, times)?;
+        put(words, self.middle)?;
+        lay(words, self.behind, times)?;
+        put(words, self.end)
     }
+}
+
+// The words of two layers, one behind the other, and nothing before them.
+pub(crate) fn both(
+    words: &mut Words,
+    first: Layers,
+    second: Layers,
+    times: usize,
+) -> io::Result<(&[u64], &[u64])>
+    ensures { IfOk result (λ both. (both.0.now ≡ laid first times) × (both.1.now ≡ laid second times)) }
+{
+    words.clear();
+    first.words(words, times)?;
+    let length = words.len();
+    second.words(words, times)?;
+    Ok(words.split_at(length))
 }
 
 // The records of signs before a name.
@@ -73,7 +100,7 @@ pub fn stopped_at(position: usize, stopped: u64) -> Reader {
 }
 
 // A sheet that stops the reader, by this number, and once more the stopped reader.
-pub(crate) fn stops<R: Host>(
+pub(crate) fn stops<R: Print>(
     trial: &mut Trial<R>,
     place: Place,
     tokens: &[u64],

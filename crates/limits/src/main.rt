@@ -11,21 +11,23 @@ mod nested;
 mod queue;
 mod reader;
 
-use compared::trial::{Host, Trial};
+use crate::made::Words;
+use compared::trial::Trial;
 use std::io;
 
 // All groups, one after the other.
-fn groups<R: Host>(rt: &R) -> io::Result<()> {
+fn groups<R: Print>(rt: &R) -> io::Result<()> {
     let mut trial = Trial::new(rt);
-    length::lengths(&mut trial)?;
+    let mut words = Words::new();
+    length::lengths(&mut trial, &mut words)?;
     trial.end_group("limits, token length")?;
-    depth::depths(&mut trial)?;
+    depth::depths(&mut trial, &mut words)?;
     trial.end_group("limits, depth")?;
-    queue::queues(&mut trial)?;
+    queue::queues(&mut trial, &mut words)?;
     trial.end_group("limits, waiting errors")?;
     reader::readers(&mut trial)?;
     trial.end_group("limits, readers and stores")?;
-    hostile::records(&mut trial)?;
+    hostile::records(&mut trial, &mut words)?;
     trial.end_group("limits, hostile records")?;
     trial.end()
 }

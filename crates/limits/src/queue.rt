@@ -1,10 +1,10 @@
 // The waiting errors: 96 wait, a 97th stops, a failed statement's own included.
 ghost use Rattle.std.specs.Prelude.{◌<◌};
 
-use crate::made::{Layers, stops, waiting_at};
+use crate::made::{Layers, Words, stops, waiting_at};
 use compared::answer::{Case, Want, fresh_at};
 use compared::call::Call;
-use compared::trial::{Host, Place, Trial};
+use compared::trial::{Place, Trial};
 use grammar::Reader;
 use std::io;
 use token::kind;
@@ -27,7 +27,7 @@ const BLOCK: Layers = Layers {
 };
 
 // Of so many errors that wait, the front one is answered, and the others wait on.
-fn front<R: Host>(
+fn front<R: Print>(
     trial: &mut Trial<R>,
     position: usize,
     left: usize,
@@ -45,7 +45,7 @@ fn front<R: Host>(
 }
 
 // 96 errors that wait are answered one after the other, and behind them comes the end.
-fn drained<R: Host>(trial: &mut Trial<R>, position: usize, tokens: &[u64]) -> io::Result<()> {
+fn drained<R: Print>(trial: &mut Trial<R>, position: usize, tokens: &[u64]) -> io::Result<()> {
     for left in (1..97).rev() {
         front(trial, position, left, tokens)?;
     }
@@ -56,20 +56,22 @@ fn drained<R: Host>(trial: &mut Trial<R>, position: usize, tokens: &[u64]) -> io
 }
 
 // A block with 96 errors: the tree comes before them.
-fn full<R: Host>(trial: &mut Trial<R>) -> io::Result<()> {
-    let tokens = BLOCK.words(trial.alloc(), 96)?;
+fn full<R: Print>(trial: &mut Trial<R>, words: &mut Words) -> io::Result<()> {
+    words.clear();
+    BLOCK.words(words, 96)?;
     trial.begin_sheet();
-    let call = Call::new(Place::new("errors in a block", 96), fresh_at(0), &tokens);
+    let call = Call::new(Place::new("errors in a block", 96), fresh_at(0), words);
     let want = Want::tree(&EMPTY_BLOCK, waiting_at(194, 47, 96));
     trial.called_full(call, want)?;
-    drained(trial, 194, &tokens)
+    drained(trial, 194, words)
 }
 
 // A block with 97 errors.
-fn over<R: Host>(trial: &mut Trial<R>) -> io::Result<()> {
-    let tokens = BLOCK.words(trial.alloc(), 97)?;
+fn over<R: Print>(trial: &mut Trial<R>, words: &mut Words) -> io::Result<()> {
+    words.clear();
+    BLOCK.words(words, 97)?;
     // Stays 64, the paper's number: what tries a stop takes none of the code's constants.
-    stops(trial, Place::new("errors in a block", 97), &tokens, 64)
+    stops(trial, Place::new("errors in a block", 97), words, 64)
 }
 
 // The reader when 95 errors and the statement's own wait, and the front was answered.
@@ -80,19 +82,21 @@ fn own_last() -> Reader {
 }
 
 // A block that has no end fails with the end of tokens, behind its 95 errors; behind 96 it stops.
-fn own<R: Host>(trial: &mut Trial<R>) -> io::Result<()> {
+fn own<R: Print>(trial: &mut Trial<R>, words: &mut Words) -> io::Result<()> {
     let name = "errors and the statement's own";
-    let tokens = OPEN_BLOCK.words(trial.alloc(), 95)?;
+    words.clear();
+    OPEN_BLOCK.words(words, 95)?;
     trial.begin_sheet();
-    let call = Call::new(Place::new(name, 95), fresh_at(0), &tokens);
+    let call = Call::new(Place::new(name, 95), fresh_at(0), words);
     let want = Want::answer(Case::Error, 47, own_last());
     trial.called_full(call, want)?;
-    let tokens = OPEN_BLOCK.words(trial.alloc(), 96)?;
-    stops(trial, Place::new(name, 96), &tokens, 64)
+    words.clear();
+    OPEN_BLOCK.words(words, 96)?;
+    stops(trial, Place::new(name, 96), words, 64)
 }
 
-pub fn queues<R: Host>(trial: &mut Trial<R>) -> io::Result<()> {
-    full(trial)?;
-    over(trial)?;
-    own(trial)
+pub fn queues<R: Print>(trial: &mut Trial<R>, words: &mut Words) -> io::Result<()> {
+    full(trial, words)?;
+    over(trial, words)?;
+    own(trial, words)
 }

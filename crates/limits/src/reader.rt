@@ -4,13 +4,13 @@ ghost use Rattle.std.specs.Prelude.{◌<◌};
 use crate::made::{stopped_at, waiting_at};
 use compared::answer::{Case, Want, fresh_at};
 use compared::call::Call;
-use compared::trial::{Host, Place, Trial};
+use compared::trial::{Place, Trial};
 use grammar::Reader;
 use std::io;
 use token::kind;
 
 // A reader that is refused, on a store of each of two lengths.
-fn refused<R: Host>(trial: &mut Trial<R>, call: Call) -> io::Result<()> {
+fn refused<R: Print>(trial: &mut Trial<R>, call: Call) -> io::Result<()> {
     // Stays 61, the paper's number, and the stops and errors below: what tries a refusal, a stop or an error takes none of the code's constants.
     let want = Want::answer(Case::Refused, 61, call.reader);
     trial.called(call, 80, want)?;
@@ -80,7 +80,7 @@ fn not_zero() -> [(&'static str, u64, Reader); 5] {
 }
 
 // Each of these readers is refused.
-fn each_refused<R: Host>(
+fn each_refused<R: Print>(
     trial: &mut Trial<R>,
     readers: &[(&'static str, u64, Reader)],
     tokens: &[u64],
@@ -93,7 +93,7 @@ fn each_refused<R: Host>(
 }
 
 // A stopped reader answers its number again, also before an error that waits and before the store's test.
-fn stopped<R: Host>(trial: &mut Trial<R>, stop: u64, tokens: &[u64]) -> io::Result<()> {
+fn stopped<R: Print>(trial: &mut Trial<R>, stop: u64, tokens: &[u64]) -> io::Result<()> {
     let place = Place::new("stopped", stop);
     let reader = stopped_at(2, stop);
     let want = Want::answer(Case::Stopped, stop, reader);
@@ -105,7 +105,7 @@ fn stopped<R: Host>(trial: &mut Trial<R>, stop: u64, tokens: &[u64]) -> io::Resu
 }
 
 // A waiting error is answered before the store's test, in its kind.
-fn answered<R: Host>(trial: &mut Trial<R>, error: u64, tokens: &[u64]) -> io::Result<()> {
+fn answered<R: Print>(trial: &mut Trial<R>, error: u64, tokens: &[u64]) -> io::Result<()> {
     let call = Call::new(
         Place::new("waiting", error),
         waiting_at(1, error, 2),
@@ -117,7 +117,7 @@ fn answered<R: Host>(trial: &mut Trial<R>, error: u64, tokens: &[u64]) -> io::Re
 }
 
 // The statement `b` of the sheet `a ; b EOF`, by a reader in its middle, at the semicolon and behind it.
-fn middle<R: Host>(trial: &mut Trial<R>, position: usize, tokens: &[u64]) -> io::Result<()> {
+fn middle<R: Print>(trial: &mut Trial<R>, position: usize, tokens: &[u64]) -> io::Result<()> {
     let call = Call::new(
         Place::new("reader in the middle, position", position as u64),
         fresh_at(position),
@@ -130,7 +130,7 @@ fn middle<R: Host>(trial: &mut Trial<R>, position: usize, tokens: &[u64]) -> io:
 }
 
 // The end, from `EOF` on and behind it.
-fn at_end<R: Host>(trial: &mut Trial<R>, position: usize, tokens: &[u64]) -> io::Result<()> {
+fn at_end<R: Print>(trial: &mut Trial<R>, position: usize, tokens: &[u64]) -> io::Result<()> {
     let reader = fresh_at(position);
     let call = Call::new(Place::new("end, position", position as u64), reader, tokens);
     let want = Want::answer(Case::End, 0, reader);
@@ -139,7 +139,7 @@ fn at_end<R: Host>(trial: &mut Trial<R>, position: usize, tokens: &[u64]) -> io:
 }
 
 // Readers that are refused.
-fn not_readers<R: Host>(trial: &mut Trial<R>, tokens: &[u64]) -> io::Result<()> {
+fn not_readers<R: Print>(trial: &mut Trial<R>, tokens: &[u64]) -> io::Result<()> {
     each_refused(trial, &too_far(), tokens)?;
     each_refused(trial, &no_errors(), tokens)?;
     each_refused(trial, &no_stops(), tokens)?;
@@ -148,7 +148,7 @@ fn not_readers<R: Host>(trial: &mut Trial<R>, tokens: &[u64]) -> io::Result<()> 
 
 // Readers that have stopped, and readers with errors waiting. The numbers 24, 28 and 32, which no reading gives, are errors' numbers: where a host
 // hands in a reader in which they wait, they are answered.
-fn not_reading<R: Host>(trial: &mut Trial<R>, tokens: &[u64]) -> io::Result<()> {
+fn not_reading<R: Print>(trial: &mut Trial<R>, tokens: &[u64]) -> io::Result<()> {
     for stop in [60, 62, 64] {
         stopped(trial, stop, tokens)?;
     }
@@ -158,7 +158,7 @@ fn not_reading<R: Host>(trial: &mut Trial<R>, tokens: &[u64]) -> io::Result<()> 
     Ok(())
 }
 
-pub fn readers<R: Host>(trial: &mut Trial<R>) -> io::Result<()> {
+pub fn readers<R: Print>(trial: &mut Trial<R>) -> io::Result<()> {
     let tokens = [
         kind::IDENTIFIER,
         7,

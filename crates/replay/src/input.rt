@@ -1,12 +1,12 @@
 // The input's lines, byte by byte: a letter, then numbers, with `=` behind some of them. A line `#` is a comment; what follows `>` is printed.
-ghost use Rattle.std.specs.Prelude.{◌≤◌, vec_len};
+ghost use Rattle.std.specs.Prelude.{◌≤◌};
+ghost use Rattle.arrayvec.specs.ArrayVec.{array_vec_len};
 
+use arrayvec::{ArrayVec, CapacityError};
 use compared::answer::Case;
-use std::alloc::{AllocFailed, Global};
 use std::io;
 
-// Numbers of a line, at most.
-// Stays a limit, though numbers on the heap need none: a line with more is printed as malformed.
+// Numbers of a line, at most: a line with more is printed as malformed.
 const NUMBERS: usize = 8192;
 
 // What goes wrong with a line: it is malformed, or what it asks for fails.
@@ -22,9 +22,9 @@ impl From<io::Error> for LineError {
     }
 }
 
-impl<T: Drop> From<AllocFailed<T>> for LineError {
-    fn from(error: AllocFailed<T>) -> LineError {
-        LineError::Failed(io::Error::from(error))
+impl<T: Drop> From<CapacityError<T>> for LineError {
+    fn from(_: CapacityError<T>) -> LineError {
+        LineError::Malformed
     }
 }
 
@@ -62,19 +62,26 @@ impl TryFrom<u8> for Letter {
 // The numbers of a line, how many of them stand before `=`, and the number that is begun.
 #[derive(Drop)]
 pub(crate) struct Numbers {
-    all: Vec<u64>,
+    all: ArrayVec<u64, NUMBERS>,
     mark: usize,
     begun: Option<u64>,
-    ghost in_range: { mark ≤ vec_len all },
+    ghost in_range: { mark ≤ array_vec_len all },
 }
 
 impl Numbers {
-    fn new(alloc: Global) -> Numbers {
+    fn new() -> Numbers {
         Numbers {
-            all: Vec::new(alloc),
+            all: ArrayVec::new(),
             mark: 0,
             begun: None,
         }
+    }
+
+    // None again, in the same memory: to make that anew for each line would take longer than the line.
+    fn clear(&mut self) {
+        self.mark = 0;
+        self.all.clear();
+        self.begun = None;
     }
 
     // One byte more. A number that `=` stands in is one that stands behind it.
@@ -98,10 +105,7 @@ impl Numbers {
         let Some(number) = self.begun else {
             return Ok(());
         };
-        if NUMBERS <= self.all.len() {
-            return Err(LineError::Malformed);
-        }
-        self.all.push(number)?;
+        self.all.try_push(number)?;
         self.begun = None;
         Ok(())
     }
@@ -116,22 +120,32 @@ impl Numbers {
     }
 }
 
-// A line so far: its number from 1, its first byte, and its numbers, none once they are malformed. No more of it is kept, so that a line of any length is read.
+// A line so far: its number from 1, its first byte, its numbers, and whether those are malformed. No more of it is kept, so that a line of any length is read.
 #[derive(Drop)]
 pub(crate) struct Line {
     pub at: u64,
     pub first: Option<u8>,
-    numbers: Option<Numbers>,
+    numbers: Numbers,
+    malformed: bool,
 }
 
 impl Line {
-    // Before the first byte of a line.
-    pub(crate) fn start(alloc: Global, at: u64) -> Line {
+    // Before the first byte of the input.
+    pub(crate) fn start() -> Line {
         Line {
-            at,
+            at: 1,
             first: None,
-            numbers: Some(Numbers::new(alloc)),
+            numbers: Numbers::new(),
+            malformed: false,
         }
+    }
+
+    // Before the first byte of the next line.
+    pub(crate) fn next(&mut self) {
+        self.at = self.at.wrapping_add(1);
+        self.first = None;
+        self.numbers.clear();
+        self.malformed = false;
     }
 
     // One byte more, which ends no line. Bytes 0 in front of a line are passed over.
@@ -140,31 +154,25 @@ impl Line {
             None => self.first = Some(byte).filter(|first| *first != 0),
             Some(b'#') => {}
             Some(b'>') => rt.write_all(&[byte])?,
-            Some(_) => self.number_byte(byte)?,
+            Some(_) => self.number_byte(byte),
         }
         Ok(())
     }
 
     // A byte of the numbers.
-    fn number_byte(&mut self, byte: u8) -> io::Result<()> {
-        let Some(numbers) = &mut self.numbers else {
-            return Ok(());
-        };
-        match numbers.byte_read(byte) {
-            Ok(()) => Ok(()),
-            Err(LineError::Malformed) => {
-                self.numbers = None;
-                Ok(())
-            }
-            Err(LineError::Failed(error)) => Err(error),
+    fn number_byte(&mut self, byte: u8) {
+        if !self.malformed {
+            self.malformed = self.numbers.byte_read(byte).is_err();
         }
     }
 
     // Its numbers, where the line is whole.
-    pub(crate) fn numbers(self) -> Result<Numbers, LineError> {
-        let mut numbers = self.numbers.ok_or(LineError::Malformed)?;
-        numbers.end()?;
-        Ok(numbers)
+    pub(crate) fn numbers(&mut self) -> Result<&Numbers, LineError> {
+        if self.malformed {
+            return Err(LineError::Malformed);
+        }
+        self.numbers.end()?;
+        Ok(&self.numbers)
     }
 }
 

@@ -2,35 +2,44 @@
 // the input. Prints the counts of each group and of all.
 #![tactic(auto)]
 
+mod held;
 mod input;
 mod run;
 
 use crate::input::Line;
 use crate::run::Run;
-use compared::trial::Host;
 use std::io;
-use std::io::{BufReader, Read};
+use std::io::Read;
+
+// One byte more of the input.
+fn byte_read<R: Print>(rt: &R, run: &mut Run<R>, line: &mut Line, byte: u8) -> io::Result<()> {
+    if byte != b'\n' {
+        return line.byte_read(rt, byte);
+    }
+    run.line_read(line)?;
+    line.next();
+    Ok(())
+}
 
 // The whole input, byte by byte, so that no line is held whole.
-// Stays a buffer of its own: `rt.reader()`, which has one, also rests on what is assumed of `lseek`.
-fn replay<R: Host, I: Read + Drop>(rt: &R, input: I) -> io::Result<()> {
+// Stays a buffer of its own: `BufReader` has one on the heap, and `rt.reader()` also rests on what is assumed of `lseek`.
+fn replay<R: Print, I: Read + Drop>(rt: &R, mut input: I) -> io::Result<()> {
     let mut run = Run::new(rt);
-    let mut line = Line::start(rt.alloc(), 1);
-    let bytes = BufReader::new(rt.alloc(), input)?.bytes();
+    let mut line = Line::start();
+    let mut bytes = [0; 8192];
     // A proved loop has to end: this one has more turns than any input has bytes.
-    for (_, byte) in (0..u64::MAX).zip(bytes) {
-        match byte? {
-            b'\n' => {
-                let next = Line::start(rt.alloc(), line.at.wrapping_add(1));
-                run.line_read(line)?;
-                line = next;
-            }
-            byte => line.byte_read(rt, byte)?,
+    for _ in 0..u64::MAX {
+        let count = input.read(&mut bytes)?;
+        if count == 0 {
+            break;
+        }
+        for byte in &bytes[..count] {
+            byte_read(rt, &mut run, &mut line, *byte)?;
         }
     }
     // The end of the input also ends a line that was begun.
     if line.first.is_some() {
-        run.line_read(line)?;
+        run.line_read(&mut line)?;
     }
     run.end()
 }

@@ -1,10 +1,11 @@
 // The sheets of the input and the answers that the published parser gave: a line `s` begins a sheet, each line after it expects an answer.
 // A line `w` or `n` expects what the writer makes of the tree before it, or of the records of a line `a`, and a line `l` what the check of labels answers of them.
+use crate::held::Held;
 use crate::input::{Letter, Line, LineError, Numbers};
 use compared::answer::{Case, Want, fresh_at};
 use compared::call::Call;
 use compared::checking::Verdict;
-use compared::trial::{Host, Place, Trial};
+use compared::trial::{Place, Trial};
 use compared::writing::Writing;
 use grammar::limit::QUEUE;
 use grammar::{Queue, Reader};
@@ -13,32 +14,26 @@ use std::io;
 // Words of the output for a tree of the input: those of 500 tokens, and some more.
 const ROOM: usize = 1003;
 
-// Words of the sheet and of the records, at most.
-// Stays a limit, though the heap needs none: of longer records the rest is left out, which shows in what is printed of them.
-const HELD: usize = 9192;
-
-// Where the replay stands: the counts, the present sheet, the records for the writer and the check, and the reader that the next call gets.
+// Where the replay stands: the counts, the present sheet and the records, and the reader that the next call gets.
 #[derive(Drop)]
 pub(crate) struct Run<'a, R> {
     trial: Trial<'a, R>,
-    sheet: Vec<u64>,
-    records: Vec<u64>,
+    held: Held,
     reader: Reader,
 }
 
-impl<'a, R: Host> Run<'a, R> {
+impl<'a, R: Print> Run<'a, R> {
     // Before the first line.
     pub(crate) fn new(rt: &'a R) -> Run<'a, R> {
         Run {
             trial: Trial::new(rt),
-            sheet: Vec::new(rt.alloc()),
-            records: Vec::new(rt.alloc()),
+            held: Held::new(),
             reader: fresh_at(0),
         }
     }
 
     // A whole line. One that can't be one counts as a difference.
-    pub(crate) fn line_read(&mut self, line: Line) -> io::Result<()> {
+    pub(crate) fn line_read(&mut self, line: &mut Line) -> io::Result<()> {
         let at = line.at;
         match self.first_read(line) {
             Ok(()) => Ok(()),
@@ -53,7 +48,7 @@ impl<'a, R: Host> Run<'a, R> {
     }
 
     // A line by its first byte. The name of a group that ends is printed already.
-    fn first_read(&mut self, line: Line) -> Result<(), LineError> {
+    fn first_read(&mut self, line: &mut Line) -> Result<(), LineError> {
         match line.first {
             None => Err(LineError::Malformed),
             Some(b'#') => Ok(()),
@@ -62,7 +57,7 @@ impl<'a, R: Host> Run<'a, R> {
                 let at = line.at;
                 let letter = Letter::try_from(first)?;
                 let numbers = line.numbers()?;
-                Ok(self.numbers_read(at, letter, &numbers)?)
+                Ok(self.numbers_read(at, letter, numbers)?)
             }
         }
     }
@@ -71,9 +66,15 @@ impl<'a, R: Host> Run<'a, R> {
     fn numbers_read(&mut self, at: u64, letter: Letter, numbers: &Numbers) -> io::Result<()> {
         let all = numbers.all();
         match letter {
-            Letter::Sheet => self.sheet_read(all),
+            Letter::Sheet => {
+                self.sheet_read(all);
+                Ok(())
+            }
             Letter::Answer(case) => self.answer_read(at, case, numbers),
-            Letter::Records => self.hold(all),
+            Letter::Records => {
+                self.held.put_records(all);
+                Ok(())
+            }
             Letter::Text => self.text_expected(at, all),
             Letter::Reason => self.reason_expected(at, all),
             Letter::Check => self.verdict_expected(at, all),
@@ -81,20 +82,10 @@ impl<'a, R: Host> Run<'a, R> {
     }
 
     // A sheet begins: its words, and a fresh reader.
-    fn sheet_read(&mut self, words: &[u64]) -> io::Result<()> {
-        self.sheet = Vec::from_slice(self.trial.alloc(), words)?;
-        self.records.clear();
+    fn sheet_read(&mut self, words: &[u64]) {
+        self.held.put_sheet(words);
         self.reader = fresh_at(0);
         self.trial.begin_sheet();
-        Ok(())
-    }
-
-    // Records for the writer and the check.
-    fn hold(&mut self, records: &[u64]) -> io::Result<()> {
-        let room = HELD.saturating_sub(self.sheet.len());
-        let kept = &records[..room.min(records.len())];
-        self.records = Vec::from_slice(self.trial.alloc(), kept)?;
-        Ok(())
     }
 
     // A line that expects an answer. The next call gets the reader that this one was to return; the records are held for the writer and the check.
@@ -104,12 +95,13 @@ impl<'a, R: Host> Run<'a, R> {
         self.stepped(at, want)?;
         self.stepped_again(at, want)?;
         self.reader = want.reader;
-        self.hold(want.tree)
+        self.held.put_records(want.tree);
+        Ok(())
     }
 
     // The call whose answer a line expects, on a store that is exactly long enough; before it, where no error waits, the call on a store one word short.
     fn stepped(&mut self, at: u64, want: Want) -> io::Result<()> {
-        let call = Call::new(Place::new("line", at), self.reader, &self.sheet);
+        let call = Call::new(Place::new("line", at), self.reader, self.held.sheet());
         if call.reader.waiting == 0 {
             self.trial.called_short(call)?;
         }
@@ -118,7 +110,11 @@ impl<'a, R: Host> Run<'a, R> {
 
     // After an end or a stop the same call answers the same and leaves the reader as it is.
     fn stepped_again(&mut self, at: u64, want: Want) -> io::Result<()> {
-        let call = Call::new(Place::new("again, line", at), want.reader, &self.sheet);
+        let call = Call::new(
+            Place::new("again, line", at),
+            want.reader,
+            self.held.sheet(),
+        );
         match want.said.case {
             Case::End | Case::Stopped => self.trial.called_full(call, want),
             _ => Ok(()),
@@ -128,22 +124,23 @@ impl<'a, R: Host> Run<'a, R> {
     // The text that a line expects for a tree is written, and read back it gives the tree.
     fn text_expected(&mut self, at: u64, text: &[u64]) -> io::Result<()> {
         let back = Place::new("read back, line", at);
-        let writing = Writing::new(Place::new("line", at), &self.records, ROOM);
-        self.trial.is_written(writing, text)?;
-        self.trial.read_whole(back, text, &self.records)
+        let writing = Writing::new(Place::new("line", at), self.held.records());
+        self.trial.is_written(writing, &mut [0; ROOM], text)?;
+        self.trial.read_whole(back, text, self.held.records())
     }
 
     // The reason that a line expects for records that are not written.
     fn reason_expected(&mut self, at: u64, numbers: &[u64]) -> io::Result<()> {
-        let writing = Writing::new(Place::new("line", at), &self.records, ROOM);
-        self.trial.is_not_written(writing, number_at(numbers, 0))
+        let writing = Writing::new(Place::new("line", at), self.held.records());
+        let number = number_at(numbers, 0);
+        self.trial.is_not_written(writing, &mut [0; ROOM], number)
     }
 
     // What a line expects the check to answer of the records that are held.
     fn verdict_expected(&mut self, at: u64, numbers: &[u64]) -> io::Result<()> {
         let want = Verdict::new(number_at(numbers, 0), number_at(numbers, 1));
         let place = Place::new("line", at);
-        self.trial.is_checked(place, &self.records, want)
+        self.trial.is_checked(place, self.held.records(), want)
     }
 }
 

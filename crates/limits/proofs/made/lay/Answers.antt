@@ -16,7 +16,7 @@ loop-preserved c =
     let layer = c.args.layer.now in
     record {
       far = omega (arith, c.loop-test.true);
-      put = rw (once_more c.loop.counter layer) (c.in_ok-extend_from_slice.ensures.items ∙ ap (λ l. l ++ layer) c.loop.invariant.put ∙ append_assoc _ (repeat c.loop.counter layer) layer);
+      put = rw (once_more c.loop.counter layer) (c.in_ok-put.ensures ∙ ap (λ l. l ++ layer) c.loop.invariant.put ∙ append_assoc _ (repeat c.loop.counter layer) layer);
     }
 
 pub returns : goal.returns
