@@ -58,6 +58,7 @@ impl<R: Print> Trial<'_, R> {
         if ROOM < room {
             return self.no_room(call.place);
         }
+        // Stays an array: on the heap the programs would rest on three assumptions more about C's functions, and could end for want of memory.
         let mut longest = [RUBBISH; ROOM];
         let store = &mut longest[..room];
         let step = next_stmt(call.reader, call.tokens, store);

@@ -27,6 +27,7 @@ impl<'a> Writing<'a> {
 
 impl<R: Print> Trial<'_, R> {
     // A call on so many of the lent words, compared. An output longer than those counts as a difference.
+    // Stays lent: the longest has 120,003 words in limits, and 1,003 in replay.
     fn on_output(
         &mut self,
         writing: Writing,

@@ -34,7 +34,7 @@ pub(crate) fn put(words: &mut Words, more: &[u64]) -> io::Result<()>
     }
 }
 
-// And so many times.
+// A layer is laid down so many times behind others.
 pub(crate) fn lay(words: &mut Words, layer: &[u64], times: usize) -> io::Result<()>
     ensures { OnOk result (words.new.items ≡ words.old.items ++ repeat times layer.now) }
 {

@@ -22,8 +22,8 @@ impl From<io::Error> for LineError {
     }
 }
 
-impl<T: Drop> From<CapacityError<T>> for LineError {
-    fn from(_: CapacityError<T>) -> LineError {
+impl From<CapacityError<u64>> for LineError {
+    fn from(_: CapacityError<u64>) -> LineError {
         LineError::Malformed
     }
 }
@@ -77,7 +77,7 @@ impl Numbers {
         }
     }
 
-    // None again, in the same memory: to make that anew for each line would take longer than the line.
+    // None again, in the same memory, so that no line pays for the longest.
     fn clear(&mut self) {
         self.mark = 0;
         self.all.clear();
