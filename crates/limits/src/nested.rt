@@ -64,6 +64,7 @@ fn loops<R: Print>(trial: &mut Trial<R>, words: &mut Words, times: u64) -> io::R
 }
 
 // A jump in a function, with so many loops but the outermost between them, in so many loops.
+// Stays six: the words are lent beside the trial in each of these functions.
 fn in_function<R: Print>(
     trial: &mut Trial<R>,
     words: &mut Words,
