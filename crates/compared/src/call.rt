@@ -15,7 +15,7 @@ use std::io;
 const SHARE: usize = 16;
 
 // Words of the longest store that is lent: that of 500 tokens.
-const ROOM: usize = 8000;
+pub(crate) const ROOM: usize = 8000;
 
 // Tokens of a sheet, at most.
 const TOKENS: usize = 65536;
@@ -58,17 +58,17 @@ impl<R: Print> Trial<'_, R> {
         if ROOM < room {
             return self.no_room(call.place);
         }
-        // Stays an array: on the heap the programs would rest on three assumptions more about C's functions, and could end for want of memory.
-        let mut longest = [RUBBISH; ROOM];
-        let store = &mut longest[..room];
+        let store = &mut self.store[..room];
+        store.fill(RUBBISH);
         let step = next_stmt(call.reader, call.tokens, store);
+        let same = holds(store, want.tree);
         let outcome = Outcome {
             place: call.place,
             said: Said::from(step.answer),
             want: want.said,
         };
         let reader = step.reader == want.reader;
-        self.parts(outcome, reader, holds(store, want.tree))
+        self.parts(outcome, reader, same)
     }
 
     // One call more is compared, by its parts: its answer, its reader, its store.

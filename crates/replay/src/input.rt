@@ -2,7 +2,7 @@
 ghost use Rattle.std.specs.Prelude.{◌≤◌};
 ghost use Rattle.arrayvec.specs.ArrayVec.{array_vec_len};
 
-use arrayvec::{ArrayVec, CapacityError};
+use arrayvec::ArrayVec;
 use compared::answer::Case;
 use std::io;
 
@@ -19,12 +19,6 @@ pub(crate) enum LineError {
 impl From<io::Error> for LineError {
     fn from(error: io::Error) -> LineError {
         LineError::Failed(error)
-    }
-}
-
-impl From<CapacityError<u64>> for LineError {
-    fn from(_: CapacityError<u64>) -> LineError {
-        LineError::Malformed
     }
 }
 
@@ -84,30 +78,23 @@ impl Numbers {
         self.begun = None;
     }
 
-    // One byte more. A number that `=` stands in is one that stands behind it.
-    fn byte_read(&mut self, byte: u8) -> Result<(), LineError> {
+    // One byte more, unless it makes them malformed. A number that `=` stands in is one that stands behind it.
+    fn byte_read(&mut self, byte: u8) -> Option<()> {
         match byte {
-            b' ' => self.end(),
-            b'=' => {
-                self.mark = self.all.len();
-                Ok(())
-            }
-            digit => {
-                let number = with_digit(self.begun.unwrap_or(0), digit);
-                self.begun = Some(number.ok_or(LineError::Malformed)?);
-                Ok(())
-            }
+            b' ' => self.end()?,
+            b'=' => self.mark = self.all.len(),
+            digit => self.begun = Some(with_digit(self.begun.unwrap_or(0), digit)?),
         }
+        Some(())
     }
 
-    // A number that was begun is whole.
-    fn end(&mut self) -> Result<(), LineError> {
-        let Some(number) = self.begun else {
-            return Ok(());
-        };
-        self.all.try_push(number)?;
-        self.begun = None;
-        Ok(())
+    // A number that was begun is whole, unless there are too many.
+    fn end(&mut self) -> Option<()> {
+        if let Some(number) = self.begun {
+            self.all.try_push(number).ok()?;
+            self.begun = None;
+        }
+        Some(())
     }
 
     pub(crate) fn all(&self) -> &[u64] {
@@ -162,7 +149,7 @@ impl Line {
     // A byte of the numbers.
     fn number_byte(&mut self, byte: u8) {
         if !self.malformed {
-            self.malformed = self.numbers.byte_read(byte).is_err();
+            self.malformed = self.numbers.byte_read(byte).is_none();
         }
     }
 
@@ -171,7 +158,7 @@ impl Line {
         if self.malformed {
             return Err(LineError::Malformed);
         }
-        self.numbers.end()?;
+        self.numbers.end().ok_or(LineError::Malformed)?;
         Ok(&self.numbers)
     }
 }
