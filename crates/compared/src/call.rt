@@ -1,6 +1,7 @@
 // A call of the reader held to what is expected of it: the answer, the whole reader, every word of the store.
-ghost use Rattle.std.specs.Prelude.{◌≡◌, OnOk};
-ghost use Rattle.compared.specs.Calls.{needed as needed_def, same_said, with_parts, with_call, with_full, with_short, with_whole};
+ghost use Rattle.std.specs.Prelude.{◌≡◌, ◌≤◌, ◌<◌, ◌*◌, ◌^◌, OnOk};
+ghost use Rattle.grammar.specs.Reading.Next.{next_stmt as next_stmt_def};
+ghost use Rattle.compared.specs.Calls.{needed as needed_def, same_said, with_parts, with_called, with_call, with_full, with_short, with_whole};
 ghost use Rattle.compared.specs.Said.{expects};
 ghost use Rattle.compared.specs.Trials.{Counts};
 
@@ -14,8 +15,10 @@ use std::io;
 // Words of the store that 01 asks for each unread token.
 const SHARE: usize = 16;
 
-// Words of the longest store that is lent: that of 500 tokens.
-pub(crate) const ROOM: usize = 8000;
+// Words of the longest store that is lent: that of 500 tokens; and of one that most calls find long enough, which is made faster.
+const ROOM: usize = 8000;
+
+const FEW: usize = 1000;
 
 // Tokens of a sheet, at most.
 const TOKENS: usize = 65536;
@@ -58,17 +61,31 @@ impl<R: Print> Trial<'_, R> {
         if ROOM < room {
             return self.no_room(call.place);
         }
-        let store = &mut self.store[..room];
+        if room <= FEW {
+            self.called_in::<FEW>(call, room, want)
+        } else {
+            self.called_in::<ROOM>(call, room, want)
+        }
+    }
+
+    // A call on so many words of an array, compared.
+    // Stays an array: on the heap the programs would rest on three assumptions more about C's functions, and could end for want of memory.
+    fn called_in<const N: usize>(&mut self, call: Call, room: usize, want: Want) -> io::Result<()>
+        requires room { room ≤ N }
+        requires size { N * 8 < 2 ^ 63 }
+        ensures { OnOk result (Counts (with_called (next_stmt_def call.entry.reader call.entry.tokens.now room) (expects want.entry)) self.old self.new) }
+    {
+        let mut array = [0; N];
+        let store = &mut array[..room];
         store.fill(RUBBISH);
         let step = next_stmt(call.reader, call.tokens, store);
-        let same = holds(store, want.tree);
         let outcome = Outcome {
             place: call.place,
             said: Said::from(step.answer),
             want: want.said,
         };
         let reader = step.reader == want.reader;
-        self.parts(outcome, reader, same)
+        self.parts(outcome, reader, holds(store, want.tree))
     }
 
     // One call more is compared, by its parts: its answer, its reader, its store.

@@ -5,7 +5,6 @@ ghost use Rattle.compared.specs.Tally.{nothing, sum_of, with_sheet, with_differe
 ghost use Rattle.compared.specs.Trials.{place_text, Counts, Ends};
 
 use crate::answer::Said;
-use crate::call::ROOM;
 use crate::tally::{Tally, count_one};
 use std::convert::AsSlice;
 use std::{fmt, io};
@@ -53,14 +52,12 @@ impl Outcome<'_> {
     }
 }
 
-// The runtime, the counts of the present group, those of the groups before it, and the longest store, which is lent to each call as far as it asks.
-// Stays an array: on the heap the programs would rest on three assumptions more about C's functions, and could end for want of memory.
+// The runtime, the counts of the present group, and those of the groups before it.
 #[derive(Drop)]
 pub struct Trial<'a, R> {
     rt: &'a R,
     pub(crate) group: Tally,
     total: Tally,
-    pub(crate) store: [u64; ROOM],
 }
 
 impl<'a, R: Print> Trial<'a, R> {
@@ -72,7 +69,6 @@ impl<'a, R: Print> Trial<'a, R> {
             rt,
             group: Tally::default(),
             total: Tally::default(),
-            store: [0; ROOM],
         }
     }
 

@@ -26,7 +26,7 @@ fn byte_read<R: Print>(rt: &R, run: &mut Run<R>, line: &mut Line, byte: u8) -> i
 fn replay<R: Print, I: Read + Drop>(rt: &R, mut input: I) -> io::Result<()> {
     let mut run = Run::new(rt);
     let mut line = Line::start();
-    let mut bytes = [0; 8192];
+    let mut bytes = [0; 65536];
     // A proved loop has to end: this one has more turns than any input has bytes.
     for _ in 0..u64::MAX {
         let count = input.read(&mut bytes)?;
