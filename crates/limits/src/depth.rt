@@ -1,6 +1,7 @@
 // The depth: 37 begun and unfinished are read and written, a 38th stops reader and writer, by operands, by right sides and by statement
 // lists. The numbers are document 02's, and not made of the limit in the code.
-use crate::made::{Layers, SIGNS_TREE, Words, both, stops};
+use crate::made::{Layers, SIGNS_TREE, both, stops};
+use crate::words::Words;
 use compared::trial::{Place, Trial};
 use compared::writing::Writing;
 use std::io;
@@ -113,9 +114,10 @@ fn tried<R: Print>(trial: &mut Trial<R>, words: &mut Words, nest: Nest) -> io::R
     neither_way(trial, Place::new(nest.name, 38), sheet, tree)
 }
 
-pub fn depths<R: Print>(trial: &mut Trial<R>, words: &mut Words) -> io::Result<()> {
+pub fn depths<R: Print>(trial: &mut Trial<R>, memory: &mut [u64]) -> io::Result<()> {
+    let mut words = Words::new(memory);
     for nest in [OPERANDS, RIGHT_SIDES, LISTS] {
-        tried(trial, words, nest)?;
+        tried(trial, &mut words, nest)?;
     }
     Ok(())
 }

@@ -1,6 +1,7 @@
 // Records of a size that no input of this program has: a sum of 30,000 terms, 200,000 signs one in the other, 50,000 loops.
-use crate::made::{Layers, SIGNS_TREE, Words, both, put};
+use crate::made::{Layers, SIGNS_TREE, both};
 use crate::nested::nests;
+use crate::words::Words;
 use compared::checking::{FINE, Verdict};
 use compared::trial::{Place, Trial};
 use compared::writing::Writing;
@@ -36,10 +37,11 @@ const SUM_TEXT: Layers = Layers {
 // A sum is one statement however long it is.
 fn long_sum<R: Print>(
     trial: &mut Trial<R>,
-    words: &mut Words,
+    memory: &mut [u64],
     output: &mut [u64],
 ) -> io::Result<()> {
-    let (tree, text) = both(words, SUM_TREE, SUM_TEXT, 29999)?;
+    let mut words = Words::new(memory);
+    let (tree, text) = both(&mut words, SUM_TREE, SUM_TEXT, 29999)?;
     let place = Place::new("terms of a sum", 30000);
     trial.is_written(Writing::new(place, tree), output, text)?;
     trial.is_checked(place, tree, FINE)
@@ -78,30 +80,29 @@ fn too_many<R: Print>(
 // operator's.
 fn many_signs<R: Print>(
     trial: &mut Trial<R>,
-    tree: &mut Words,
+    memory: &mut [u64],
     output: &mut [u64],
     times: u64,
     middle: usize,
 ) -> io::Result<()> {
-    tree.clear();
-    SIGNS_TREE.words(tree, times as usize)?;
-    too_many(trial, tree, output, times)?;
-    let length = tree.len();
-    put(tree, &[word::IDENTIFIER, 7])?;
-    no_tree(trial, 3, tree, output)?;
-    tree.truncate(length);
-    if let Some(number) = tree.get_mut(middle) {
+    let mut tree = Words::new(memory);
+    SIGNS_TREE.words(&mut tree, times as usize)?;
+    let length = tree.all().len();
+    too_many(trial, tree.all(), output, times)?;
+    tree.put(&[word::IDENTIFIER, 7])?;
+    no_tree(trial, 3, tree.all(), output)?;
+    if let Some(number) = memory.get_mut(middle) {
         *number = NO_OPERATOR;
     }
-    no_tree(trial, 4, tree, output)
+    no_tree(trial, 4, memory.get(..length).unwrap_or(memory), output)
 }
 
 // The signs' records and a tree behind them take 400,006 words.
-pub fn records<R: Print>(trial: &mut Trial<R>, words: &mut Words) -> io::Result<()> {
+pub fn records<R: Print>(trial: &mut Trial<R>, memory: &mut [u64]) -> io::Result<()> {
     let mut output = [0; ROOM];
-    long_sum(trial, words, &mut output)?;
+    long_sum(trial, memory, &mut output)?;
     for (times, middle) in [(37, 39), (200000, 200003)] {
-        many_signs(trial, words, &mut output, times, middle)?;
+        many_signs(trial, memory, &mut output, times, middle)?;
     }
-    nests(trial, words)
+    nests(trial, memory)
 }

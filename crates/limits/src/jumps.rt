@@ -6,7 +6,7 @@ ghost use Rattle.tree.specs.Node.{expression};
 ghost use Rattle.limits.specs.declared.jumps.Form.TheVariants.{Among, Condition};
 ghost use Rattle.limits.specs.Nests.{record_number, parts, if_continue, jump_in, innermost, loop_ends, nest, function, before, behind};
 
-use crate::made::{Words, put};
+use crate::words::Words;
 use std::io;
 use std::marker::Model;
 use tree::word;
@@ -61,10 +61,10 @@ pub struct Jump {
     pub label: u64,
 }
 
-// Records, laid down one behind the other in words that are lent.
+// Records, laid down one behind the other in memory that is lent.
 #[derive(Drop)]
 pub struct Records<'a> {
-    words: &'a mut Words,
+    words: Words<'a>,
 }
 
 impl<'a> Model for Records<'a> {
@@ -72,27 +72,28 @@ impl<'a> Model for Records<'a> {
 
     ghost Value = { List ℕ };
 
-    ghost view = { λ r. r.words.now.items };
+    ghost view = { λ r. r.words };
 }
 
 impl<'a> Records<'a> {
-    pub(crate) fn new(words: &'a mut Words) -> Records<'a>
+    pub(crate) fn new(memory: &'a mut [u64]) -> Records<'a>
         ensures { result ≡ [] }
     {
-        words.clear();
-        Records { words }
+        Records {
+            words: Words::new(memory),
+        }
     }
 
     pub(crate) fn words(&self) -> &[u64]
         ensures { result.now ≡ self.now }
     {
-        self.words
+        self.words.all()
     }
 
     fn put(&mut self, words: &[u64]) -> io::Result<()>
         ensures { OnOk result (self.new ≡ self.old ++ words.now) }
     {
-        put(self.words, words)
+        self.words.put(words)
     }
 
     // A list of so many statements, and no control.

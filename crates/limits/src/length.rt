@@ -1,6 +1,7 @@
 // The token length: 65,536 tokens are read, 65,537 and an odd length are not. A store for the whole of such a sheet would be 8 MiB,
 // so a reader near the sheet's end reads it; of a reader at its start a store that is too short shows that the length was passed.
-use crate::made::{Words, lay, put, stopped_at, waiting_at};
+use crate::made::{stopped_at, waiting_at};
+use crate::words::Words;
 use compared::answer::{Case, Want, fresh_at};
 use compared::call::Call;
 use compared::trial::{Place, Trial};
@@ -69,11 +70,11 @@ fn too_long<R: Print>(trial: &mut Trial<R>, sheet: &[u64]) -> io::Result<()> {
     Ok(())
 }
 
-pub fn lengths<R: Print>(trial: &mut Trial<R>, words: &mut Words) -> io::Result<()> {
+pub fn lengths<R: Print>(trial: &mut Trial<R>, memory: &mut [u64]) -> io::Result<()> {
+    let mut words = Words::new(memory);
     let semicolon = [kind::SEMICOLON, 0];
-    words.clear();
-    lay(words, &semicolon, 65536)?;
-    longest(trial, words)?;
-    put(words, &semicolon)?;
-    too_long(trial, words)
+    words.lay(&semicolon, 65536)?;
+    longest(trial, words.all())?;
+    words.put(&semicolon)?;
+    too_long(trial, words.all())
 }

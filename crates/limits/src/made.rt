@@ -1,9 +1,8 @@
 // What the limits are tried on: words laid down many times, readers with errors waiting and with a stop, and a sheet that stops.
 ghost use Rattle.std.specs.Prelude.{◌≡◌, ◌++◌, IfOk, OnOk};
-ghost use Rattle.std.specs.List.{repeat};
 ghost use Rattle.limits.specs.Laid.{laid};
 
-use arrayvec::ArrayVec;
+use crate::words::Words;
 use compared::answer::{Case, Want, fresh_at};
 use compared::call::Call;
 use compared::trial::{Place, Trial};
@@ -21,55 +20,32 @@ pub struct Layers {
     pub end: &'static [u64],
 }
 
-// Words, as many as the longest records have: those of 200,000 signs and of a tree behind them.
-pub type Words = ArrayVec<u64, 400006>;
-
-// Words are laid down behind others. That there is room for them is shown by the program's own run.
-pub(crate) fn put(words: &mut Words, more: &[u64]) -> io::Result<()>
-    ensures { OnOk result (words.new.items ≡ words.old.items ++ more.now) }
-{
-    match words.try_extend_from_slice(more) {
-        Ok(()) => Ok(()),
-        Err(_) => Err(io::Error::from(io::ErrorKind::StorageFull)),
-    }
-}
-
-// A layer is laid down so many times behind others.
-pub(crate) fn lay(words: &mut Words, layer: &[u64], times: usize) -> io::Result<()>
-    ensures { OnOk result (words.new.items ≡ words.old.items ++ repeat times layer.now) }
-{
-    for _ in 0..times {
-        put(words, layer)?;
-    }
-    Ok(())
-}
-
 impl Layers {
     // Laid down behind others.
     pub fn words(self, words: &mut Words, times: usize) -> io::Result<()>
-        ensures { OnOk result (words.new.items ≡ words.old.items ++ laid self times) }
+        ensures { OnOk result (words.new ≡ words.old ++ laid self times) }
     {
-        lay(words, self.before, times)?;
-        put(words, self.middle)?;
-        lay(words, self.behind, times)?;
-        put(words, self.end)
+        words.lay(self.before, times)?;
+        words.put(self.middle)?;
+        words.lay(self.behind, times)?;
+        words.put(self.end)
     }
 }
 
 // The words of two layers, one behind the other, and nothing before them.
-pub(crate) fn both(
-    words: &mut Words,
+pub(crate) fn both<'w>(
+    words: &'w mut Words,
     first: Layers,
     second: Layers,
     times: usize,
-) -> io::Result<(&[u64], &[u64])>
+) -> io::Result<(&'w [u64], &'w [u64])>
     ensures { IfOk result (λ both. (both.0.now ≡ laid first times) × (both.1.now ≡ laid second times)) }
 {
     words.clear();
     first.words(words, times)?;
-    let length = words.len();
+    let length = words.all().len();
     second.words(words, times)?;
-    Ok(words.split_at(length))
+    Ok(words.all().split_at(length))
 }
 
 // The records of signs before a name.

@@ -10,24 +10,27 @@ mod made;
 mod nested;
 mod queue;
 mod reader;
+mod words;
 
-use crate::made::Words;
 use compared::trial::Trial;
 use std::io;
+
+// Words of the longest records: those of 200,000 signs and of a tree behind them.
+const MEMORY: usize = 400006;
 
 // All groups, one after the other.
 fn groups<R: Print>(rt: &R) -> io::Result<()> {
     let mut trial = Trial::new(rt);
-    let mut words = Words::new();
-    length::lengths(&mut trial, &mut words)?;
+    let mut memory = [0; MEMORY];
+    length::lengths(&mut trial, &mut memory)?;
     trial.end_group("limits, token length")?;
-    depth::depths(&mut trial, &mut words)?;
+    depth::depths(&mut trial, &mut memory)?;
     trial.end_group("limits, depth")?;
-    queue::queues(&mut trial, &mut words)?;
+    queue::queues(&mut trial, &mut memory)?;
     trial.end_group("limits, waiting errors")?;
     reader::readers(&mut trial)?;
     trial.end_group("limits, readers and stores")?;
-    hostile::records(&mut trial, &mut words)?;
+    hostile::records(&mut trial, &mut memory)?;
     trial.end_group("limits, hostile records")?;
     trial.end()
 }

@@ -1,7 +1,6 @@
 // Loops one in the other, and a break or continue, a jump, in the innermost: what the check of labels answers. It keeps up to 2,048 of the nodes round a place, and
 // fewer where there are at most 256 records; beyond them it looks in the records behind.
 use crate::jumps::{Form, Jump, OTHER, OUTERMOST, Records};
-use crate::made::Words;
 use compared::checking::{FINE, Verdict};
 use compared::trial::{Place, Trial};
 use std::io;
@@ -9,14 +8,14 @@ use std::io;
 // What is answered of the records that are put.
 fn answered<R: Print, F: FnOnce(&mut Records) -> io::Result<()>>(
     trial: &mut Trial<R>,
-    words: &mut Words,
+    memory: &mut [u64],
     place: Place,
     want: Verdict,
     put: F,
 ) -> io::Result<()>
     requires { F.IsAlwaysCallable put }
 {
-    let mut records = Records::new(words);
+    let mut records = Records::new(memory);
     put(&mut records)?;
     trial.is_checked(place, records.words(), want)
 }
@@ -24,7 +23,7 @@ fn answered<R: Print, F: FnOnce(&mut Records) -> io::Result<()>>(
 // So many loops, with a jump in them or none.
 fn in_loops<R: Print>(
     trial: &mut Trial<R>,
-    words: &mut Words,
+    memory: &mut [u64],
     jump: Option<Jump>,
     times: u64,
     want: Verdict,
@@ -32,7 +31,7 @@ fn in_loops<R: Print>(
     let place = Place::new("jump in loops", times);
     answered(
         trial,
-        words,
+        memory,
         place,
         want,
         |records| records.put_nest(jump, times),
@@ -42,39 +41,39 @@ fn in_loops<R: Print>(
 // A jump in so many loops: to the outermost one, without a label, and to the other label.
 fn jump_in_loops<R: Print>(
     trial: &mut Trial<R>,
-    words: &mut Words,
+    memory: &mut [u64],
     form: Form,
     times: u64,
 ) -> io::Result<()> {
     // Stays 67, the paper's number, and 68 below: what tries the check takes none of the code's constants.
     let offence = Verdict::new(67, form.record());
     for (label, want) in [(OUTERMOST, FINE), (0, FINE), (OTHER, offence)] {
-        in_loops(trial, words, Some(Jump { form, label }), times, want)?;
+        in_loops(trial, memory, Some(Jump { form, label }), times, want)?;
     }
     Ok(())
 }
 
 // So many loops, with each jump and with none.
-fn loops<R: Print>(trial: &mut Trial<R>, words: &mut Words, times: u64) -> io::Result<()> {
-    in_loops(trial, words, None, times, FINE)?;
+fn loops<R: Print>(trial: &mut Trial<R>, memory: &mut [u64], times: u64) -> io::Result<()> {
+    in_loops(trial, memory, None, times, FINE)?;
     for form in [Form::Break, Form::Continue, Form::Among, Form::Condition] {
-        jump_in_loops(trial, words, form, times)?;
+        jump_in_loops(trial, memory, form, times)?;
     }
     Ok(())
 }
 
 // A jump in a function, with so many loops but the outermost between them, in so many loops.
-// Stays six: the words are lent beside the trial in each of these functions.
+// Stays six: the memory is lent beside the trial in each of these functions.
 fn in_function<R: Print>(
     trial: &mut Trial<R>,
-    words: &mut Words,
+    memory: &mut [u64],
     jump: Jump,
     inside: u64,
     times: u64,
     want: Verdict,
 ) -> io::Result<()> {
     let place = Place::new("jump in a function", times);
-    answered(trial, words, place, want, |records| {
+    answered(trial, memory, place, want, |records| {
         records.put_function(jump, inside)?;
         records.put_loops(times)?;
         records.put_loop(OUTERMOST)
@@ -82,13 +81,13 @@ fn in_function<R: Print>(
 }
 
 // Each jump in a function without loops in so many: it does not lead out of the function.
-fn jumps_out<R: Print>(trial: &mut Trial<R>, words: &mut Words, times: u64) -> io::Result<()> {
+fn jumps_out<R: Print>(trial: &mut Trial<R>, memory: &mut [u64], times: u64) -> io::Result<()> {
     for form in [Form::Break, Form::Continue, Form::Condition] {
         let record = form.record_in_function();
         for (label, number) in [(0, 68), (OUTERMOST, 67)] {
             in_function(
                 trial,
-                words,
+                memory,
                 Jump { form, label },
                 1,
                 times,
@@ -103,7 +102,7 @@ fn jumps_out<R: Print>(trial: &mut Trial<R>, words: &mut Words, times: u64) -> i
 // of a loop outside.
 fn jumps_inside<R: Print>(
     trial: &mut Trial<R>,
-    words: &mut Words,
+    memory: &mut [u64],
     label: u64,
     inside: u64,
     times: u64,
@@ -111,7 +110,7 @@ fn jumps_inside<R: Print>(
     for form in [Form::Break, Form::Continue, Form::Among] {
         let offence = Verdict::new(67, form.record_in_function());
         for (label, want) in [(label, FINE), (0, FINE), (inside, offence)] {
-            in_function(trial, words, Jump { form, label }, inside, times, want)?;
+            in_function(trial, memory, Jump { form, label }, inside, times, want)?;
         }
     }
     Ok(())
@@ -120,7 +119,7 @@ fn jumps_inside<R: Print>(
 // A loop without a label, in which an if with a continue stands before so many loops.
 fn before<R: Print>(
     trial: &mut Trial<R>,
-    words: &mut Words,
+    memory: &mut [u64],
     label: u64,
     times: u64,
     want: Verdict,
@@ -128,7 +127,7 @@ fn before<R: Print>(
     let place = Place::new("jump before loops", times);
     answered(
         trial,
-        words,
+        memory,
         place,
         want,
         |records| records.put_before(label, times),
@@ -138,7 +137,7 @@ fn before<R: Print>(
 // One in which a continue stands in so many loops, and one to the same label behind them.
 fn behind<R: Print>(
     trial: &mut Trial<R>,
-    words: &mut Words,
+    memory: &mut [u64],
     label: u64,
     times: u64,
     want: Verdict,
@@ -146,7 +145,7 @@ fn behind<R: Print>(
     let place = Place::new("jump behind loops", times);
     answered(
         trial,
-        words,
+        memory,
         place,
         want,
         |records| records.put_behind(label, times),
@@ -157,25 +156,25 @@ fn behind<R: Print>(
 // answered.
 fn jumps_beside<R: Print>(
     trial: &mut Trial<R>,
-    words: &mut Words,
+    memory: &mut [u64],
     times: u64,
     record: u64,
 ) -> io::Result<()> {
-    before(trial, words, 0, times, FINE)?;
-    before(trial, words, OUTERMOST, times, Verdict::new(67, 2))?;
-    behind(trial, words, 0, times, FINE)?;
-    behind(trial, words, OUTERMOST, times, Verdict::new(67, record))?;
-    behind(trial, words, OTHER, times, Verdict::new(67, 1))
+    before(trial, memory, 0, times, FINE)?;
+    before(trial, memory, OUTERMOST, times, Verdict::new(67, 2))?;
+    behind(trial, memory, 0, times, FINE)?;
+    behind(trial, memory, OUTERMOST, times, Verdict::new(67, record))?;
+    behind(trial, memory, OTHER, times, Verdict::new(67, 1))
 }
 
 // Loops by what is kept of them: at most 256 records, but for 64 loops with more than a continue in them; one fewer than there is room for; as many, and one
 // more; many more. A function in loops is kept with them.
-fn each_size<R: Print>(trial: &mut Trial<R>, words: &mut Words) -> io::Result<()> {
+fn each_size<R: Print>(trial: &mut Trial<R>, memory: &mut [u64]) -> io::Result<()> {
     for times in [33, 64, 2047, 2048, 2049, 3000] {
-        loops(trial, words, times)?;
+        loops(trial, memory, times)?;
     }
     for times in [33, 2046, 2047, 2048, 3000] {
-        jumps_out(trial, words, times)?;
+        jumps_out(trial, memory, times)?;
     }
     for (label, inside, times) in [
         (20, 21, 30),
@@ -183,18 +182,18 @@ fn each_size<R: Print>(trial: &mut Trial<R>, words: &mut Words) -> io::Result<()
         (1500, 1501, 2000),
         (900, 901, 2100),
     ] {
-        jumps_inside(trial, words, label, inside, times)?;
+        jumps_inside(trial, memory, label, inside, times)?;
     }
     Ok(())
 }
 
 // The last 50,000 loops and a break in them take 400,002 words.
-pub fn nests<R: Print>(trial: &mut Trial<R>, words: &mut Words) -> io::Result<()> {
-    each_size(trial, words)?;
+pub fn nests<R: Print>(trial: &mut Trial<R>, memory: &mut [u64]) -> io::Result<()> {
+    each_size(trial, memory)?;
     // Beside few loops, as many as there is room for, and many more.
     for (times, record) in [(40, 161), (2048, 8193), (3000, 12001)] {
-        jumps_beside(trial, words, times, record)?;
+        jumps_beside(trial, memory, times, record)?;
     }
-    in_loops(trial, words, None, 50000, FINE)?;
-    jump_in_loops(trial, words, Form::Break, 50000)
+    in_loops(trial, memory, None, 50000, FINE)?;
+    jump_in_loops(trial, memory, Form::Break, 50000)
 }

@@ -1,7 +1,8 @@
 // The waiting errors: 96 wait, a 97th stops, a failed statement's own included.
 ghost use Rattle.std.specs.Prelude.{◌<◌};
 
-use crate::made::{Layers, Words, stops, waiting_at};
+use crate::made::{Layers, stops, waiting_at};
+use crate::words::Words;
 use compared::answer::{Case, Want, fresh_at};
 use compared::call::Call;
 use compared::trial::{Place, Trial};
@@ -60,10 +61,14 @@ fn full<R: Print>(trial: &mut Trial<R>, words: &mut Words) -> io::Result<()> {
     words.clear();
     BLOCK.words(words, 96)?;
     trial.begin_sheet();
-    let call = Call::new(Place::new("errors in a block", 96), fresh_at(0), words);
+    let call = Call::new(
+        Place::new("errors in a block", 96),
+        fresh_at(0),
+        words.all(),
+    );
     let want = Want::tree(&EMPTY_BLOCK, waiting_at(194, 47, 96));
     trial.called_full(call, want)?;
-    drained(trial, 194, words)
+    drained(trial, 194, words.all())
 }
 
 // A block with 97 errors.
@@ -71,7 +76,7 @@ fn over<R: Print>(trial: &mut Trial<R>, words: &mut Words) -> io::Result<()> {
     words.clear();
     BLOCK.words(words, 97)?;
     // Stays 64, the paper's number: what tries a stop takes none of the code's constants.
-    stops(trial, Place::new("errors in a block", 97), words, 64)
+    stops(trial, Place::new("errors in a block", 97), words.all(), 64)
 }
 
 // The reader when 95 errors and the statement's own wait, and the front was answered.
@@ -87,16 +92,17 @@ fn own<R: Print>(trial: &mut Trial<R>, words: &mut Words) -> io::Result<()> {
     words.clear();
     OPEN_BLOCK.words(words, 95)?;
     trial.begin_sheet();
-    let call = Call::new(Place::new(name, 95), fresh_at(0), words);
+    let call = Call::new(Place::new(name, 95), fresh_at(0), words.all());
     let want = Want::answer(Case::Error, 47, own_last());
     trial.called_full(call, want)?;
     words.clear();
     OPEN_BLOCK.words(words, 96)?;
-    stops(trial, Place::new(name, 96), words, 64)
+    stops(trial, Place::new(name, 96), words.all(), 64)
 }
 
-pub fn queues<R: Print>(trial: &mut Trial<R>, words: &mut Words) -> io::Result<()> {
-    full(trial, words)?;
-    over(trial, words)?;
-    own(trial, words)
+pub fn queues<R: Print>(trial: &mut Trial<R>, memory: &mut [u64]) -> io::Result<()> {
+    let mut words = Words::new(memory);
+    full(trial, &mut words)?;
+    over(trial, &mut words)?;
+    own(trial, &mut words)
 }

@@ -1,7 +1,7 @@
--- `lay`: a layer more behind the others. Assumes nothing.
+-- `Words::lay`: a layer more behind the others. Assumes nothing.
 use Rattle.std.proofs.Common.{◌≡◌, sym, ap, ◌∙◌, List, ◌++◌, ℕ, zero, suc, ◌+◌, append_assoc, append-nil, arith}
 use Rattle.std.specs.List.{repeat}
-use Rattle.limits.proofs.made.lay.Goals as goal
+use Rattle.limits.proofs.words.Words.lay.Goals as goal
 
 -- once more behind so many times is so many times and once more
 once_more : (n : ℕ) (xs : List ℕ) → repeat (n + 1) xs ≡ repeat n xs ++ xs
