@@ -22,13 +22,21 @@ pub struct Layers {
 
 impl Layers {
     // Laid down behind others.
-    pub fn words(self, words: &mut Words, times: usize) -> io::Result<()>
+    fn put(self, words: &mut Words, times: usize) -> io::Result<()>
         ensures { OnOk result (words.new ≡ words.old ++ laid self times) }
     {
         words.lay(self.before, times)?;
         words.put(self.middle)?;
         words.lay(self.behind, times)?;
         words.put(self.end)
+    }
+
+    // And with none before them.
+    pub fn words(self, words: &mut Words, times: usize) -> io::Result<()>
+        ensures { OnOk result (words.new ≡ laid self times) }
+    {
+        words.clear();
+        self.put(words, times)
     }
 }
 
@@ -41,10 +49,9 @@ pub(crate) fn both<'w>(
 ) -> io::Result<(&'w [u64], &'w [u64])>
     ensures { IfOk result (λ both. (both.0.now ≡ laid first times) × (both.1.now ≡ laid second times)) }
 {
-    words.clear();
     first.words(words, times)?;
     let length = words.all().len();
-    second.words(words, times)?;
+    second.put(words, times)?;
     Ok(words.all().split_at(length))
 }
 

@@ -58,7 +58,6 @@ fn drained<R: Print>(trial: &mut Trial<R>, position: usize, tokens: &[u64]) -> i
 
 // A block with 96 errors: the tree comes before them.
 fn full<R: Print>(trial: &mut Trial<R>, words: &mut Words) -> io::Result<()> {
-    words.clear();
     BLOCK.words(words, 96)?;
     trial.begin_sheet();
     let call = Call::new(
@@ -73,7 +72,6 @@ fn full<R: Print>(trial: &mut Trial<R>, words: &mut Words) -> io::Result<()> {
 
 // A block with 97 errors.
 fn over<R: Print>(trial: &mut Trial<R>, words: &mut Words) -> io::Result<()> {
-    words.clear();
     BLOCK.words(words, 97)?;
     // Stays 64, the paper's number: what tries a stop takes none of the code's constants.
     stops(trial, Place::new("errors in a block", 97), words.all(), 64)
@@ -89,13 +87,11 @@ fn own_last() -> Reader {
 // A block that has no end fails with the end of tokens, behind its 95 errors; behind 96 it stops.
 fn own<R: Print>(trial: &mut Trial<R>, words: &mut Words) -> io::Result<()> {
     let name = "errors and the statement's own";
-    words.clear();
     OPEN_BLOCK.words(words, 95)?;
     trial.begin_sheet();
     let call = Call::new(Place::new(name, 95), fresh_at(0), words.all());
     let want = Want::answer(Case::Error, 47, own_last());
     trial.called_full(call, want)?;
-    words.clear();
     OPEN_BLOCK.words(words, 96)?;
     stops(trial, Place::new(name, 96), words.all(), 64)
 }
