@@ -6,11 +6,17 @@ ghost use Rattle.compared.specs.Trials.{place_text, Counts, Ends};
 
 use crate::answer::Said;
 use crate::tally::{Tally, count_one};
+use std::alloc::Global;
 use std::convert::AsSlice;
 use std::{fmt, io};
 
 // What a store or an output holds before a call: rubbish, so that a word that the call leaves as it was is seen.
 pub(crate) const RUBBISH: u64 = 11400714819323198485;
+
+// A runtime that prints, and gives memory too.
+pub trait Host: Print + AllocGlobal {}
+
+impl<R: Print + AllocGlobal> Host for R {}
 
 // Where a call stands: the name of what is tried, and a number.
 #[derive(Clone, Copy)]
@@ -139,6 +145,13 @@ impl<'a, R: Print> Trial<'a, R> {
     }
 }
 
+impl<R: Host> Trial<'_, R> {
+    // Memory of the runtime, for an output of any length that a caller lends. No call that is compared asks for it.
+    pub fn alloc(&self) -> Global {
+        self.rt.alloc()
+    }
+}
+
 // Whether each word is 0.
 // Stays beside scan's `all_zeros`: that one is private to its crate, and both are a line.
 fn is_zero(words: &[u64]) -> bool
@@ -154,5 +167,25 @@ pub(crate) fn holds(store: &[u64], words: &[u64]) -> bool
     match store.strip_prefix(words) {
         Some(rest) => is_zero(rest),
         None => false,
+    }
+}
+
+#[cfg(test)]
+mod tests {
+    use super::*;
+    use crate::writing::Writing;
+    use std::test::Fail;
+
+    // A name's records and its canonical tokens, on an output that is longer by a word and lies in memory of the runtime.
+    #[test]
+    fn writes_in_memory_of_the_runtime(rt: HostRuntime) -> Result<(), Fail> {
+        let mut trial = Trial::new(&rt);
+        let mut longest = vec![in trial.alloc(); 0; 5]?;
+        let writing = Writing::new(Place::new("a name", 1), &[31, 1, 258, 0]);
+        trial.is_written(writing, &mut longest, &[69, 1, 8, 0])?;
+        let tally = trial.tally();
+        assert_eq!(rt; tally.writes, 3);
+        assert_eq!(rt; tally.differences, 0);
+        Ok(())
     }
 }
